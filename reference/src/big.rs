@@ -43,10 +43,7 @@ impl Big {
 impl Ord for Big {
     fn cmp(&self, other: &Big) -> Ordering {
         let highest_first = |big: &Big| big.0.iter().rev().copied().collect::<Vec<_>>();
-        self.0
-            .len()
-            .cmp(&other.0.len())
-            .then_with(|| highest_first(self).cmp(&highest_first(other)))
+        self.0.len().cmp(&other.0.len()).then_with(|| highest_first(self).cmp(&highest_first(other)))
     }
 }
 

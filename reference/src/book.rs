@@ -36,13 +36,7 @@ impl Columns<Vec<u32>> {
     /// An empty book.
     pub fn new(rows: usize, points: u32) -> Self {
         let zeros = || vec![0; rows];
-        Columns {
-            identities: zeros(),
-            groups: zeros(),
-            marks: zeros(),
-            levels: vec![0; rows * points as usize],
-            points,
-        }
+        Columns { identities: zeros(), groups: zeros(), marks: zeros(), levels: vec![0; rows * points as usize], points }
     }
 }
 
@@ -52,35 +46,20 @@ impl<C: AsRef<[u32]>> Columns<C> {
         let (identities, levels) = (self.identities.as_ref(), self.levels.as_ref());
         let (groups, marks) = (self.groups.as_ref(), self.marks.as_ref());
         let (rows, points) = (identities.len(), self.points as usize);
-        ensure(
-            (1..=MAX_POINTS).contains(&self.points) && (1..=MAX_ROWS).contains(&rows),
-            Refusal::Book,
-        )?;
-        ensure(
-            groups.len() == rows && marks.len() == rows && levels.len() == rows * points,
-            Refusal::Book,
-        )?;
+        ensure((1..=MAX_POINTS).contains(&self.points) && (1..=MAX_ROWS).contains(&rows), Refusal::Book)?;
+        ensure(groups.len() == rows && marks.len() == rows && levels.len() == rows * points, Refusal::Book)?;
         let standing = identities.iter().position(|&identity| identity == 0).unwrap_or(rows);
-        let unused_is_zero = [
-            &identities[standing..],
-            &groups[standing..],
-            &marks[standing..],
-            &levels[standing * points..],
-        ]
-        .concat()
-        .iter()
-        .all(|&value| value == 0);
+        let unused_is_zero = [&identities[standing..], &groups[standing..], &marks[standing..], &levels[standing * points..]]
+            .concat()
+            .iter()
+            .all(|&value| value == 0);
         let rising = identities[..standing].windows(2).all(|pair| pair[0] < pair[1]);
         ensure(unused_is_zero && rising, Refusal::Book)?;
         let movements = (0..standing).map(|row| {
             let held = sound_row(identities[row], groups[row], marks[row], &levels[row * points..][..points])?;
             Ok((identities[row], held))
         });
-        Ok(Book {
-            points,
-            rows,
-            movements: movements.collect::<Answer<_>>()?,
-        })
+        Ok(Book { points, rows, movements: movements.collect::<Answer<_>>()? })
     }
 }
 
@@ -92,10 +71,7 @@ fn sound_row(identity: u32, group: u32, mark: u32, levels: &[u32]) -> Answer<Sta
         _ => return Err(Refusal::Book),
     };
     ensure(levels.iter().all(|&level| level <= highest), Refusal::Book)?;
-    Ok(Standing {
-        group,
-        levels: (mark == 1).then(|| levels.to_vec()),
-    })
+    Ok(Standing { group, levels: (mark == 1).then(|| levels.to_vec()) })
 }
 
 impl<C: AsMut<[u32]>> Columns<C> {
@@ -124,22 +100,13 @@ impl Book {
         check_identity(identity)?;
         ensure(!self.movements.contains_key(&identity), Refusal::Stands)?;
         ensure(self.movements.len() < self.rows, Refusal::NoRow)?;
-        self.movements.insert(
-            identity,
-            Standing {
-                group: movement.group(),
-                levels: None,
-            },
-        );
+        self.movements.insert(identity, Standing { group: movement.group(), levels: None });
         Ok(())
     }
 
     pub fn supply(&mut self, identity: u32, levels: &[u32]) -> Answer<()> {
         check_identity(identity)?;
-        ensure(
-            levels.len() == self.points && levels.iter().all(|&level| level <= MAX_LEVEL),
-            Refusal::Levels,
-        )?;
+        ensure(levels.len() == self.points && levels.iter().all(|&level| level <= MAX_LEVEL), Refusal::Levels)?;
         self.standing(identity)?.levels = Some(levels.to_vec());
         Ok(())
     }
@@ -184,18 +151,9 @@ pub fn read_journal(mut journal: &[u32]) -> Answer<Vec<Call<'_>>> {
     let mut calls = Vec::new();
     while !journal.is_empty() {
         let (call, rest) = match *journal {
-            [1, identity, aircraft, kind, time, mass, ref rest @ ..] => (
-                Call::Enter(
-                    identity,
-                    Movement {
-                        aircraft,
-                        kind,
-                        time,
-                        mass,
-                    },
-                ),
-                rest,
-            ),
+            [1, identity, aircraft, kind, time, mass, ref rest @ ..] => {
+                (Call::Enter(identity, Movement { aircraft, kind, time, mass }), rest)
+            }
             [2, identity, count, ref rest @ ..] if count as usize <= rest.len() => {
                 let (levels, rest) = rest.split_at(count as usize);
                 (Call::Supply(identity, levels), rest)
@@ -214,12 +172,7 @@ pub fn read_journal(mut journal: &[u32]) -> Answer<Vec<Call<'_>>> {
 mod tests {
     use super::*;
 
-    const LARGE: Movement = Movement {
-        aircraft: 0,
-        kind: 0,
-        time: 25_200,
-        mass: 70_000,
-    };
+    const LARGE: Movement = Movement { aircraft: 0, kind: 0, time: 25_200, mass: 70_000 };
 
     fn book(rows: usize, points: u32) -> Book {
         Columns::new(rows, points).read().unwrap()
@@ -243,11 +196,7 @@ mod tests {
     #[test]
     fn each_refusal_of_the_calls() {
         let mut book = book(1, 1);
-        let small = Movement {
-            aircraft: 1,
-            mass: 6_000,
-            ..LARGE
-        };
+        let small = Movement { aircraft: 1, mass: 6_000, ..LARGE };
         assert_eq!(book.enter(0, small), Err(Refusal::Movement));
         assert_eq!(book.enter(0, Movement { mass: 150, ..LARGE }), Err(Refusal::TooLight));
         assert_eq!(book.enter(0, LARGE), Err(Refusal::Identity));
@@ -269,13 +218,7 @@ mod tests {
 
     #[test]
     fn unsound_books_are_refused() {
-        let sound = Columns {
-            identities: vec![3, 5, 0],
-            groups: vec![17, 0, 0],
-            marks: vec![1, 0, 0],
-            levels: vec![9, 0, 0],
-            points: 1,
-        };
+        let sound = Columns { identities: vec![3, 5, 0], groups: vec![17, 0, 0], marks: vec![1, 0, 0], levels: vec![9, 0, 0], points: 1 };
         assert!(sound.read().is_ok());
         let spoil: [fn(&mut Columns<Vec<u32>>); 12] = [
             |c| c.points = 0,
@@ -306,15 +249,7 @@ mod tests {
         assert_eq!(read_journal(&[]), Ok(vec![]));
         assert_eq!(read_journal(&[3, 9, 4, 9]), Ok(vec![Call::TakeBack(9), Call::Withdraw(9)]));
         assert_eq!(read_journal(&[2, 9, 2, 5, 6]), Ok(vec![Call::Supply(9, &[5, 6])]));
-        for wrong in [
-            &[0, 1][..],
-            &[5, 1],
-            &[1, 9, 0, 0, 0],
-            &[2, 9, 2, 5],
-            &[2, 9, u32::MAX],
-            &[3],
-            &[4, 9, 4],
-        ] {
+        for wrong in [&[0, 1][..], &[5, 1], &[1, 9, 0, 0, 0], &[2, 9, 2, 5], &[2, 9, u32::MAX], &[3], &[4, 9, 4]] {
             assert_eq!(read_journal(wrong), Err(Refusal::Register), "{wrong:?}");
         }
     }

@@ -46,17 +46,7 @@ fn on_book(mut columns: LentBook, call: impl FnOnce(&mut Book) -> Answer<()>) ->
 }
 
 pub fn enter(columns: LentBook, identity: u32, aircraft: u32, kind: u32, time: u32, mass: u32) -> u32 {
-    on_book(columns, |book| {
-        book.enter(
-            identity,
-            Movement {
-                aircraft,
-                kind,
-                time,
-                mass,
-            },
-        )
-    })
+    on_book(columns, |book| book.enter(identity, Movement { aircraft, kind, time, mass }))
 }
 
 pub fn supply(columns: LentBook, identity: u32, given: &[u32]) -> u32 {
@@ -119,21 +109,14 @@ pub fn contours(network: Network, level: u32, lent: ContourRoom) -> u32 {
         room(lent.closed.len() >= lines && lent.sizes.len() >= 2)?;
         put(lent.edges, &found.edges);
         put(lent.counts, &found.counts);
-        put(
-            lent.closed,
-            &found.closed.iter().map(|&closed| u32::from(closed)).collect::<Vec<_>>(),
-        );
+        put(lent.closed, &found.closed.iter().map(|&closed| u32::from(closed)).collect::<Vec<_>>());
         put(lent.sizes, &[found.edges.len() as u32, lines as u32]);
         Ok(())
     }))
 }
 
 pub fn print_contours(network: Network, level: u32, text: &mut [u8], size: &mut [u32]) -> u32 {
-    number(
-        network
-            .check_contour(level)
-            .and_then(|()| put_text(text, size, &wkt::print(&network, level))),
-    )
+    number(network.check_contour(level).and_then(|()| put_text(text, size, &wkt::print(&network, level))))
 }
 
 fn put_text(text: &mut [u8], size: &mut [u32], written: &str) -> Answer<()> {
@@ -172,12 +155,7 @@ pub fn map_points(network: Network, level: u32, edges: &[u32], which: &mut [u32]
 pub fn read_row(line: &[u8], points: u32, fields: &mut [u32], levels: &mut [u32]) -> u32 {
     number(register::read_row(line, points).and_then(|row| {
         room(fields.len() >= ROW_FIELDS && levels.len() >= points as usize)?;
-        let Movement {
-            aircraft,
-            kind,
-            time,
-            mass,
-        } = row.movement;
+        let Movement { aircraft, kind, time, mass } = row.movement;
         put(fields, &[row.identity, aircraft, mass, kind, time, u32::from(row.levels.is_some())]);
         put(levels, &row.levels.unwrap_or(vec![0; points as usize]));
         Ok(())
@@ -188,31 +166,14 @@ pub fn write_row(fields: &[u32], levels: &[u32], points: u32, text: &mut [u8], s
     let &[identity, aircraft, mass, kind, time, mark] = fields else {
         return Refusal::Book as u32;
     };
-    let written = register::write_row(
-        identity,
-        Movement {
-            aircraft,
-            kind,
-            time,
-            mass,
-        },
-        mark,
-        levels,
-        points,
-    );
+    let written = register::write_row(identity, Movement { aircraft, kind, time, mass }, mark, levels, points);
     number(written.and_then(|line| put_text(text, size, &line)))
 }
 
 pub fn read_network(text: &[u8], header: &mut [u32], levels: &mut [u32]) -> u32 {
     number(grid::read(text).and_then(|(frame, read)| {
         room(header.len() >= HEADER_NUMBERS && levels.len() >= read.len())?;
-        let Frame {
-            columns,
-            rows,
-            spacing,
-            west,
-            south,
-        } = frame;
+        let Frame { columns, rows, spacing, west, south } = frame;
         put(header, &[columns, rows, spacing, west, south]);
         put(levels, &read);
         Ok(())

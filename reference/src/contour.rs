@@ -47,11 +47,7 @@ impl Entry {
             WEST => (Along::Vertical, 0, 0),
             _ => (Along::Vertical, 0, 1),
         };
-        frame.number(Edge {
-            along,
-            row: self.row + up,
-            column: self.column + right,
-        })
+        frame.number(Edge { along, row: self.row + up, column: self.column + right })
     }
 }
 
@@ -67,13 +63,7 @@ struct Tracer<'a> {
 pub fn contours(network: &Network, level: u32) -> Contours {
     let inside = network.levels.iter().map(|&own| own >= level).collect();
     let listed = vec![false; network.frame.edges() as usize];
-    let mut tracer = Tracer {
-        network,
-        level,
-        inside,
-        listed,
-        found: Contours::default(),
-    };
+    let mut tracer = Tracer { network, level, inside, listed, found: Contours::default() };
     tracer.trace_open();
     tracer.trace_closed();
     tracer.found
@@ -89,16 +79,8 @@ impl Tracer<'_> {
             }
         }
         for row in 0..rows - 1 {
-            self.trace_if_entered(Entry {
-                row,
-                column: 0,
-                side: WEST,
-            });
-            self.trace_if_entered(Entry {
-                row,
-                column: columns - 2,
-                side: EAST,
-            });
+            self.trace_if_entered(Entry { row, column: 0, side: WEST });
+            self.trace_if_entered(Entry { row, column: columns - 2, side: EAST });
         }
     }
 
@@ -108,21 +90,13 @@ impl Tracer<'_> {
         for row in 1..rows - 1 {
             for column in 0..columns - 1 {
                 self.trace_if_entered(Entry { row, column, side: SOUTH });
-                self.trace_if_entered(Entry {
-                    row: row - 1,
-                    column,
-                    side: NORTH,
-                });
+                self.trace_if_entered(Entry { row: row - 1, column, side: NORTH });
             }
         }
         for row in 0..rows - 1 {
             for column in 1..columns - 1 {
                 self.trace_if_entered(Entry { row, column, side: WEST });
-                self.trace_if_entered(Entry {
-                    row,
-                    column: column - 1,
-                    side: EAST,
-                });
+                self.trace_if_entered(Entry { row, column: column - 1, side: EAST });
             }
         }
     }
@@ -181,12 +155,7 @@ impl Tracer<'_> {
     fn corners(&self, Entry { row, column, .. }: Entry) -> [bool; 4] {
         let south_west = (row * self.network.frame.columns + column) as usize;
         let north_west = south_west + self.network.frame.columns as usize;
-        [
-            self.inside[south_west],
-            self.inside[south_west + 1],
-            self.inside[north_west + 1],
-            self.inside[north_west],
-        ]
+        [self.inside[south_west], self.inside[south_west + 1], self.inside[north_west + 1], self.inside[north_west]]
     }
 
     fn corner_sum(&self, Entry { row, column, .. }: Entry) -> u32 {
@@ -203,11 +172,7 @@ fn beyond(frame: &Frame, Entry { row, column, side }: Entry) -> Option<Entry> {
         WEST => (row, column.checked_sub(1)?),
         _ => (row, column + 1),
     };
-    (row < frame.rows - 1 && column < frame.columns - 1).then_some(Entry {
-        row,
-        column,
-        side: (side + 2) % 4,
-    })
+    (row < frame.rows - 1 && column < frame.columns - 1).then_some(Entry { row, column, side: (side + 2) % 4 })
 }
 
 #[cfg(test)]
@@ -223,35 +188,16 @@ mod tests {
     #[test]
     fn the_documents_hill() {
         let found = traced(3, 3, &HILL, 4500);
-        assert_eq!(
-            found,
-            Contours {
-                edges: vec![2, 7, 3, 10],
-                counts: vec![4],
-                closed: vec![true]
-            }
-        );
+        assert_eq!(found, Contours { edges: vec![2, 7, 3, 10], counts: vec![4], closed: vec![true] });
         assert_eq!(traced(3, 3, &HILL, 4000), Contours::default());
     }
 
     #[test]
     fn a_saddle_is_joined_by_its_sum() {
         // In at the south-west and north-east corners. Edges: south 0, north 1, west 2, east 3.
-        let open = |edges: [u32; 4]| Contours {
-            edges: edges.into(),
-            counts: vec![2, 2],
-            closed: vec![false, false],
-        };
-        assert_eq!(
-            traced(2, 2, &[10, 0, 0, 10], 5),
-            open([0, 3, 1, 2]),
-            "sum 20 = 4v: around the out corners"
-        );
-        assert_eq!(
-            traced(2, 2, &[10, 0, 0, 9], 5),
-            open([0, 2, 1, 3]),
-            "sum 19 < 4v: around the in corners"
-        );
+        let open = |edges: [u32; 4]| Contours { edges: edges.into(), counts: vec![2, 2], closed: vec![false, false] };
+        assert_eq!(traced(2, 2, &[10, 0, 0, 10], 5), open([0, 3, 1, 2]), "sum 20 = 4v: around the out corners");
+        assert_eq!(traced(2, 2, &[10, 0, 0, 9], 5), open([0, 2, 1, 3]), "sum 19 < 4v: around the in corners");
     }
 
     #[test]
@@ -266,25 +212,16 @@ mod tests {
     #[test]
     fn open_contours_come_first_and_every_crossing_is_listed_once() {
         let levels: Vec<u32> = (0..64).map(|point| (point * 37 + point / 8 * 11) % 23).collect();
-        let frame = Frame {
-            columns: 8,
-            rows: 8,
-            ..FRAME
-        };
+        let frame = Frame { columns: 8, rows: 8, ..FRAME };
         let network = Network { frame, levels: &levels };
         let found = contours(&network, 11);
         let mut listed = found.edges.clone();
         listed.sort_unstable();
-        let crossed: Vec<u32> = (0..frame.edges())
-            .filter(|&edge| network.crossed(frame.edge(edge).unwrap(), 11).is_some())
-            .collect();
+        let crossed: Vec<u32> = (0..frame.edges()).filter(|&edge| network.crossed(frame.edge(edge).unwrap(), 11).is_some()).collect();
         assert_eq!(listed, crossed);
         assert!(found.closed.windows(2).all(|pair| pair[0] <= pair[1]));
         let starts: Vec<u32> = found.lines().filter(|line| line.1).map(|(edges, _)| edges[0]).collect();
         assert!(starts.windows(2).all(|pair| pair[0] < pair[1]));
-        assert!(found
-            .lines()
-            .filter(|line| line.1)
-            .all(|(edges, _)| edges.iter().min() == edges.first()));
+        assert!(found.lines().filter(|line| line.1).all(|(edges, _)| edges.iter().min() == edges.first()));
     }
 }

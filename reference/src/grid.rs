@@ -15,30 +15,15 @@ pub fn read(text: &[u8]) -> Answer<(Frame, Vec<u32>)> {
     let frame = || {
         let (columns, rows) = (header(0, "ncols")?, header(1, "nrows")?);
         let (west, south) = (header(2, "xllcenter")?, header(3, "yllcenter")?);
-        Some(Frame {
-            columns,
-            rows,
-            spacing: header(4, "cellsize")?,
-            west,
-            south,
-        })
+        Some(Frame { columns, rows, spacing: header(4, "cellsize")?, west, south })
     };
     let frame = frame().ok_or(Refusal::Grid)?;
     let (no_data, values) = cut_no_data(&lines[5..]).ok_or(Refusal::Grid)?;
-    let values = values
-        .iter()
-        .map(|line| row(line, no_data))
-        .collect::<Option<Vec<_>>>()
-        .ok_or(Refusal::Grid)?;
+    let values = values.iter().map(|line| row(line, no_data)).collect::<Option<Vec<_>>>().ok_or(Refusal::Grid)?;
     frame.check()?;
     let counts = values.len() == frame.rows as usize && values.iter().all(|row| row.len() == frame.columns as usize);
     ensure(counts, Refusal::Network)?;
-    let levels = values
-        .into_iter()
-        .rev()
-        .flatten()
-        .collect::<Option<Vec<u32>>>()
-        .ok_or(Refusal::NetworkLevel)?;
+    let levels = values.into_iter().rev().flatten().collect::<Option<Vec<u32>>>().ok_or(Refusal::NetworkLevel)?;
     ensure(levels.iter().all(|&level| level <= MAX_NETWORK_LEVEL), Refusal::NetworkLevel)?;
     Ok((frame, levels))
 }
@@ -69,13 +54,7 @@ fn row(line: &[u8], no_data: &[u8]) -> Option<Vec<Option<u32>>> {
 
 /// The network's text; the network is in range.
 pub fn write(network: &Network) -> String {
-    let Frame {
-        columns,
-        rows,
-        spacing,
-        west,
-        south,
-    } = network.frame;
+    let Frame { columns, rows, spacing, west, south } = network.frame;
     let mut text = format!("ncols {columns}\r\nnrows {rows}\r\nxllcenter {west}\r\nyllcenter {south}\r\ncellsize {spacing}\r\n");
     for row in network.levels.chunks(columns as usize).rev() {
         let values: Vec<String> = row.iter().map(|&level| spell_level(level)).collect();
@@ -89,13 +68,7 @@ mod tests {
     use super::*;
 
     const HEAD: &str = "ncols 2\r\nnrows 2\r\nxllcenter 5\r\nyllcenter 6\r\ncellsize 100\r\n";
-    const FRAME: Frame = Frame {
-        columns: 2,
-        rows: 2,
-        spacing: 100,
-        west: 5,
-        south: 6,
-    };
+    const FRAME: Frame = Frame { columns: 2, rows: 2, spacing: 100, west: 5, south: 6 };
 
     fn read_values(values: &str) -> Answer<Vec<u32>> {
         read(format!("{HEAD}{values}").as_bytes()).map(|(_, levels)| levels)
@@ -106,13 +79,7 @@ mod tests {
         let text = format!("{HEAD}1.00 2.00\r\n3.00 150.00\r\n");
         let levels = vec![300, 15_000, 100, 200];
         assert_eq!(read(text.as_bytes()), Ok((FRAME, levels.clone())));
-        assert_eq!(
-            write(&Network {
-                frame: FRAME,
-                levels: &levels
-            }),
-            text
-        );
+        assert_eq!(write(&Network { frame: FRAME, levels: &levels }), text);
         assert_eq!(read_values("1.00 2.00\r\n3.00 150.00"), Ok(levels), "the last CRLF may be missing");
     }
 
@@ -134,34 +101,17 @@ mod tests {
         ] {
             assert_eq!(read_values(wrong), Err(Refusal::Grid), "{wrong:?}");
         }
-        for wrong in [
-            "",
-            "ncols 2\r\nnrows 2\r\nxllcenter 5\r\nyllcenter 6",
-            "NCOLS 2",
-            "ncols  2",
-            "ncols 02",
-            "ncols -2",
-        ] {
+        for wrong in ["", "ncols 2\r\nnrows 2\r\nxllcenter 5\r\nyllcenter 6", "NCOLS 2", "ncols  2", "ncols 02", "ncols -2"] {
             let text = HEAD.replacen("ncols 2", wrong, 1);
-            assert_eq!(
-                read(if wrong.len() > 20 { wrong.as_bytes() } else { text.as_bytes() }),
-                Err(Refusal::Grid),
-                "{wrong:?}"
-            );
+            assert_eq!(read(if wrong.len() > 20 { wrong.as_bytes() } else { text.as_bytes() }), Err(Refusal::Grid), "{wrong:?}");
         }
         assert_eq!(read(b""), Err(Refusal::Grid));
     }
 
     #[test]
     fn off_the_size() {
-        for wrong in [
-            "",
-            "1.00 2.00",
-            "1.00 2.00\r\n3.00",
-            "1.00 2.00\r\n3.00 4.00 5.00",
-            "1.00 2.00\r\n3.00 4.00\r\n5.00 6.00",
-            "999.99",
-        ] {
+        for wrong in ["", "1.00 2.00", "1.00 2.00\r\n3.00", "1.00 2.00\r\n3.00 4.00 5.00", "1.00 2.00\r\n3.00 4.00\r\n5.00 6.00", "999.99"]
+        {
             assert_eq!(read_values(wrong), Err(Refusal::Network), "{wrong:?}");
         }
         let spaced = format!("{HEAD}1.00 2.00\r\n3.00 4.00").replace("cellsize 100", "cellsize 0");
@@ -180,9 +130,6 @@ mod tests {
         ] {
             assert_eq!(read_values(wrong), Err(Refusal::NetworkLevel), "{wrong:?}");
         }
-        assert_eq!(
-            read_values("NODATA_value 2\r\n1.00 2.00\r\n3.00 4.00"),
-            Ok(vec![300, 400, 100, 200])
-        );
+        assert_eq!(read_values("NODATA_value 2\r\n1.00 2.00\r\n3.00 4.00"), Ok(vec![300, 400, 100, 200]));
     }
 }

@@ -55,14 +55,7 @@ mod tests {
 
     #[test]
     fn worked_energies() {
-        let worked = [
-            (0, 1),
-            (500, 3),
-            (3500, 3_162),
-            (6500, 3_162_277),
-            (7500, 31_622_770),
-            (13_000, 10u64.pow(13)),
-        ];
+        let worked = [(0, 1), (500, 3), (3500, 3_162), (6500, 3_162_277), (7500, 31_622_770), (13_000, 10u64.pow(13))];
         for (c, expected) in worked {
             assert_eq!(energy(c), expected, "energy of {c}");
         }

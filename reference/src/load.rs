@@ -66,12 +66,7 @@ fn work_out(book: &Book, point: usize, days: u32) -> Load {
         }
     }
     let total = total(&computed, &missing, &energies);
-    Load {
-        total,
-        level: level(mean(total, days)),
-        computed,
-        missing,
-    }
+    Load { total, level: level(mean(total, days)), computed, missing }
 }
 
 /// Formulas 10 and 11: each group scaled by (V+U)/V, their sum by (V+U+W)/(V+U), both rounded down.
@@ -122,15 +117,7 @@ mod tests {
 
     #[test]
     fn refusals_in_the_documents_order() {
-        let missing = Columns {
-            identities: vec![1],
-            groups: vec![0],
-            marks: vec![0],
-            levels: vec![0],
-            points: 1,
-        }
-        .read()
-        .unwrap();
+        let missing = Columns { identities: vec![1], groups: vec![0], marks: vec![0], levels: vec![0], points: 1 }.read().unwrap();
         assert_eq!(load(&missing, 1, 0), Err(Refusal::Book));
         assert_eq!(load(&missing, 0, 0), Err(Refusal::Days));
         assert_eq!(load(&missing, 0, 367), Err(Refusal::Days));
@@ -143,29 +130,13 @@ mod tests {
     #[test]
     fn an_empty_book_is_below_zero() {
         let empty = Columns::new(1, 1).read().unwrap();
-        assert_eq!(
-            load(&empty, 0, 1),
-            Ok(Load {
-                total: 0,
-                level: None,
-                computed: [0; 18],
-                missing: [0; 18]
-            })
-        );
+        assert_eq!(load(&empty, 0, 1), Ok(Load { total: 0, level: None, computed: [0; 18], missing: [0; 18] }));
         assert_eq!(verdict(&empty, 0, 1, 0), Ok(false));
     }
 
     #[test]
     fn a_level_of_zero_is_computed() {
-        let zero = Columns {
-            identities: vec![1],
-            groups: vec![0],
-            marks: vec![1],
-            levels: vec![0],
-            points: 1,
-        }
-        .read()
-        .unwrap();
+        let zero = Columns { identities: vec![1], groups: vec![0], marks: vec![1], levels: vec![0], points: 1 }.read().unwrap();
         assert_eq!(load(&zero, 0, 1).unwrap().computed[0], 1);
         assert_eq!(load(&zero, 0, 1).unwrap().total, 1);
     }

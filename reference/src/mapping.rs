@@ -55,14 +55,12 @@ pub fn map_point(network: &Network, level: u32, number: u32) -> (Crossing, MapPo
     let exact = |index: u32, origin: u32| f64::from(index * frame.spacing + origin);
     let moving = |index: u32, fraction: f64, origin: u32| ((f64::from(index) + fraction) * f64::from(frame.spacing)) + f64::from(origin);
     let place = match (found, frame.edge(number)) {
-        (Crossing::Horizontal(fraction), Some(edge)) => MapPoint {
-            x: moving(edge.column, fraction, frame.west),
-            y: exact(edge.row, frame.south),
-        },
-        (Crossing::Vertical(fraction), Some(edge)) => MapPoint {
-            x: exact(edge.column, frame.west),
-            y: moving(edge.row, fraction, frame.south),
-        },
+        (Crossing::Horizontal(fraction), Some(edge)) => {
+            MapPoint { x: moving(edge.column, fraction, frame.west), y: exact(edge.row, frame.south) }
+        }
+        (Crossing::Vertical(fraction), Some(edge)) => {
+            MapPoint { x: exact(edge.column, frame.west), y: moving(edge.row, fraction, frame.south) }
+        }
         _ => MapPoint { x: 0.0, y: 0.0 },
     };
     (found, place)
@@ -76,22 +74,9 @@ mod tests {
 
     #[test]
     fn the_documents_hill() {
-        let network = Network {
-            frame: Frame {
-                west: 1000,
-                south: 2000,
-                ..FRAME
-            },
-            levels: &HILL,
-        };
-        assert_eq!(
-            map_point(&network, 4500, 2),
-            (Crossing::Horizontal(0.5), MapPoint { x: 1050.0, y: 2100.0 })
-        );
-        assert_eq!(
-            map_point(&network, 4500, 10),
-            (Crossing::Vertical(0.5), MapPoint { x: 1100.0, y: 2150.0 })
-        );
+        let network = Network { frame: Frame { west: 1000, south: 2000, ..FRAME }, levels: &HILL };
+        assert_eq!(map_point(&network, 4500, 2), (Crossing::Horizontal(0.5), MapPoint { x: 1050.0, y: 2100.0 }));
+        assert_eq!(map_point(&network, 4500, 10), (Crossing::Vertical(0.5), MapPoint { x: 1100.0, y: 2150.0 }));
         assert_eq!(crossing(&network, 4500, 0), Crossing::None);
         assert_eq!(map_point(&network, 4500, 12), (Crossing::None, MapPoint { x: 0.0, y: 0.0 }));
         assert_eq!(crossing(&network, 4500, u32::MAX), Crossing::None);
@@ -99,10 +84,7 @@ mod tests {
 
     #[test]
     fn fractions_reach_both_ends() {
-        let network = Network {
-            frame: FRAME,
-            levels: &HILL,
-        };
+        let network = Network { frame: FRAME, levels: &HILL };
         assert_eq!(crossing(&network, 5000, 2), Crossing::Horizontal(1.0));
         assert_eq!(crossing(&network, 5000, 3), Crossing::Horizontal(0.0));
         assert_eq!(crossing(&network, 4001, 2), Crossing::Horizontal(0.001));

@@ -87,25 +87,13 @@ mod tests {
     use super::*;
 
     fn movement(aircraft: u32, kind: u32, time: u32, mass: u32) -> Movement {
-        Movement {
-            aircraft,
-            kind,
-            time,
-            mass,
-        }
+        Movement { aircraft, kind, time, mass }
     }
 
     #[test]
     fn worked_periods() {
         use Period::*;
-        let worked = [
-            (25_199, Night),
-            (25_200, Day),
-            (68_399, Day),
-            (68_400, Evening),
-            (82_799, Evening),
-            (82_800, Night),
-        ];
+        let worked = [(25_199, Night), (25_200, Day), (68_399, Day), (68_400, Evening), (82_799, Evening), (82_800, Night)];
         for (time, expected) in worked {
             assert_eq!(Period::at(time), expected, "second {time}");
         }
@@ -124,12 +112,7 @@ mod tests {
     #[test]
     fn ranges_end_where_the_document_says() {
         assert_eq!(movement(2, 1, 86_399, 1_000_000).check(), Ok(()));
-        for wrong in [
-            movement(3, 0, 0, 0),
-            movement(0, 2, 0, 0),
-            movement(0, 0, 86_400, 0),
-            movement(0, 0, 0, 1_000_001),
-        ] {
+        for wrong in [movement(3, 0, 0, 0), movement(0, 2, 0, 0), movement(0, 0, 86_400, 0), movement(0, 0, 0, 1_000_001)] {
             assert_eq!(wrong.check(), Err(Refusal::Movement), "{wrong:?}");
         }
         assert_eq!(check_identity(0), Err(Refusal::Identity));

@@ -45,18 +45,10 @@ impl Frame {
             None
         } else if number < self.horizontal_edges() {
             let (row, column) = place(number, self.columns - 1);
-            Some(Edge {
-                along: Along::Horizontal,
-                row,
-                column,
-            })
+            Some(Edge { along: Along::Horizontal, row, column })
         } else {
             let (row, column) = place(number - self.horizontal_edges(), self.columns);
-            Some(Edge {
-                along: Along::Vertical,
-                row,
-                column,
-            })
+            Some(Edge { along: Along::Vertical, row, column })
         }
     }
 
@@ -127,34 +119,14 @@ pub(crate) mod tests {
     use super::*;
 
     pub const HILL: [u32; 9] = [4000, 4000, 4000, 4000, 5000, 4000, 4000, 4000, 4000];
-    pub const FRAME: Frame = Frame {
-        columns: 3,
-        rows: 3,
-        spacing: 100,
-        west: 0,
-        south: 0,
-    };
+    pub const FRAME: Frame = Frame { columns: 3, rows: 3, spacing: 100, west: 0, south: 0 };
 
     #[test]
     fn edges_are_numbered_as_the_document_says() {
         let frame = Frame { columns: 4, ..FRAME };
         assert_eq!((frame.horizontal_edges(), frame.edges()), (9, 17));
-        assert_eq!(
-            frame.edge(4),
-            Some(Edge {
-                along: Along::Horizontal,
-                row: 1,
-                column: 1
-            })
-        );
-        assert_eq!(
-            frame.edge(14),
-            Some(Edge {
-                along: Along::Vertical,
-                row: 1,
-                column: 1
-            })
-        );
+        assert_eq!(frame.edge(4), Some(Edge { along: Along::Horizontal, row: 1, column: 1 }));
+        assert_eq!(frame.edge(14), Some(Edge { along: Along::Vertical, row: 1, column: 1 }));
         assert_eq!(frame.edge(17), None);
         assert!((0..17).all(|number| frame.number(frame.edge(number).unwrap()) == number));
     }
@@ -163,22 +135,9 @@ pub(crate) mod tests {
     fn wrong_networks_are_refused_in_order() {
         let hill = |frame| Network { frame, levels: &HILL };
         assert_eq!(hill(FRAME).check(), Ok(()));
-        assert_eq!(
-            hill(Frame {
-                spacing: 500,
-                west: 900_000,
-                south: 900_000,
-                ..FRAME
-            })
-            .check(),
-            Ok(())
-        );
+        assert_eq!(hill(Frame { spacing: 500, west: 900_000, south: 900_000, ..FRAME }).check(), Ok(()));
         for frame in [
-            Frame {
-                columns: 1,
-                rows: 9,
-                ..FRAME
-            },
+            Frame { columns: 1, rows: 9, ..FRAME },
             Frame { columns: 2, ..FRAME },
             Frame { columns: 257, ..FRAME },
             Frame { spacing: 0, ..FRAME },
@@ -188,10 +147,7 @@ pub(crate) mod tests {
         ] {
             assert_eq!(hill(frame).check(), Err(Refusal::Network), "{frame:?}");
         }
-        let high = Network {
-            frame: FRAME,
-            levels: &[15_001; 9],
-        };
+        let high = Network { frame: FRAME, levels: &[15_001; 9] };
         assert_eq!(high.check_contour(0), Err(Refusal::NetworkLevel));
         assert_eq!(hill(FRAME).check_contour(0), Err(Refusal::Range));
         assert_eq!(hill(FRAME).check_contour(15_001), Err(Refusal::Range));
@@ -200,10 +156,7 @@ pub(crate) mod tests {
 
     #[test]
     fn a_point_at_exactly_v_is_in() {
-        let network = Network {
-            frame: FRAME,
-            levels: &HILL,
-        };
+        let network = Network { frame: FRAME, levels: &HILL };
         let edge = FRAME.edge(2).unwrap();
         assert_eq!(network.crossed(edge, 5000), Some((1000, 1000)));
         assert_eq!(network.crossed(edge, 4001), Some((1, 1000)));

@@ -37,10 +37,7 @@ pub fn write_row(identity: u32, movement: Movement, mark: u32, levels: &[u32], p
     movement.check()?;
     check_identity(identity)?;
     let highest = if mark == 1 { MAX_LEVEL } else { 0 };
-    ensure(
-        levels.len() == points as usize && levels.iter().all(|&level| level <= highest),
-        Refusal::Levels,
-    )?;
+    ensure(levels.len() == points as usize && levels.iter().all(|&level| level <= highest), Refusal::Levels)?;
     let aircraft = TYPES[movement.aircraft as usize] as char;
     let kind = KINDS[movement.kind as usize] as char;
     let mut line = format!("{identity},{aircraft},{},{kind},{}", movement.mass, spell_time(movement.time));
@@ -60,22 +57,9 @@ fn spelled_row(line: &[u8], points: u32) -> Option<Row> {
         return None;
     }
     let blank = levels.iter().all(|field| field.is_empty());
-    let levels = if blank {
-        None
-    } else {
-        Some(levels.iter().map(|field| level(field)).collect::<Option<_>>()?)
-    };
-    let movement = Movement {
-        aircraft: letter(aircraft, TYPES)?,
-        kind: letter(kind, KINDS)?,
-        time: time(at)?,
-        mass: whole(mass)?,
-    };
-    Some(Row {
-        identity: whole(identity)?,
-        movement,
-        levels,
-    })
+    let levels = if blank { None } else { Some(levels.iter().map(|field| level(field)).collect::<Option<_>>()?) };
+    let movement = Movement { aircraft: letter(aircraft, TYPES)?, kind: letter(kind, KINDS)?, time: time(at)?, mass: whole(mass)? };
+    Some(Row { identity: whole(identity)?, movement, levels })
 }
 
 fn letter(field: &[u8], letters: &[u8]) -> Option<u32> {
@@ -103,9 +87,7 @@ pub struct Limits {
 pub fn read_limits(text: &[u8]) -> Result<Limits, usize> {
     let lines = lines(text);
     let line = |number: usize| lines.get(number - 1).copied().unwrap_or_default();
-    let points = (1..=MAX_POINTS)
-        .find(|&points| line(1) == limits_header(points).as_bytes())
-        .ok_or(1usize)?;
+    let points = (1..=MAX_POINTS).find(|&points| line(1) == limits_header(points).as_bytes()).ok_or(1usize)?;
     let limits = spelled_limits(line(2), points).ok_or(2usize)?;
     if lines.len() > 2 {
         return Err(3);
@@ -124,36 +106,17 @@ fn spelled_limits(line: &[u8], points: u32) -> Option<Limits> {
 mod tests {
     use super::*;
 
-    const LARGE: Movement = Movement {
-        aircraft: 0,
-        kind: 0,
-        time: 25_200,
-        mass: 70_000,
-    };
+    const LARGE: Movement = Movement { aircraft: 0, kind: 0, time: 25_200, mass: 70_000 };
 
     #[test]
     fn the_documents_rows() {
-        let row = |identity, movement, levels| {
-            Ok(Row {
-                identity,
-                movement,
-                levels,
-            })
-        };
+        let row = |identity, movement, levels| Ok(Row { identity, movement, levels });
         assert_eq!(read_row(b"1,G,70000,S,07:00:00,100.00", 1), row(1, LARGE, Some(vec![10_000])));
         let noon = Movement { time: 43_200, ..LARGE };
         assert_eq!(read_row(b"3,G,70000,S,12:00:00,\r\n", 1), row(3, noon, None));
-        let helicopter = Movement {
-            aircraft: 2,
-            kind: 1,
-            time: 82_800,
-            mass: 3_000,
-        };
+        let helicopter = Movement { aircraft: 2, kind: 1, time: 82_800, mass: 3_000 };
         assert_eq!(write_row(4, helicopter, 0, &[0], 1), Ok("4,H,3000,L,23:00:00,\r\n".to_string()));
-        assert_eq!(
-            write_row(2, LARGE, 1, &[5, 12_000], 2),
-            Ok("2,G,70000,S,07:00:00,0.05,120.00\r\n".to_string())
-        );
+        assert_eq!(write_row(2, LARGE, 1, &[5, 12_000], 2), Ok("2,G,70000,S,07:00:00,0.05,120.00\r\n".to_string()));
     }
 
     #[test]
@@ -191,11 +154,7 @@ mod tests {
 
     #[test]
     fn written_rows_are_judged_in_order() {
-        let small = Movement {
-            aircraft: 1,
-            mass: 6_000,
-            ..LARGE
-        };
+        let small = Movement { aircraft: 1, mass: 6_000, ..LARGE };
         assert_eq!(write_row(0, small, 2, &[1], 1), Err(Refusal::Book));
         assert_eq!(write_row(0, small, 1, &[1], 0), Err(Refusal::Book));
         assert_eq!(write_row(0, small, 1, &[1], 9), Err(Refusal::Book));
@@ -204,28 +163,13 @@ mod tests {
         assert_eq!(write_row(1, LARGE, 0, &[1], 1), Err(Refusal::Levels), "a level where the mark is 0");
         assert_eq!(write_row(1, LARGE, 1, &[1, 1], 1), Err(Refusal::Levels));
         assert_eq!(write_row(1, LARGE, 1, &[12_001], 1), Err(Refusal::Levels));
-        assert_eq!(
-            write_row(1, Movement { mass: 100, ..LARGE }, 1, &[0], 1).unwrap(),
-            "1,G,100,S,07:00:00,0.00\r\n"
-        );
+        assert_eq!(write_row(1, Movement { mass: 100, ..LARGE }, 1, &[0], 1).unwrap(), "1,G,100,S,07:00:00,0.00\r\n");
     }
 
     #[test]
     fn limits_files() {
-        assert_eq!(
-            read_limits(b"days,p1\r\n1,56.65\r\n"),
-            Ok(Limits {
-                days: 1,
-                limits: vec![5665]
-            })
-        );
-        assert_eq!(
-            read_limits(b"days,p1,p2\r\n400,0.00,999.99"),
-            Ok(Limits {
-                days: 400,
-                limits: vec![0, 99_999]
-            })
-        );
+        assert_eq!(read_limits(b"days,p1\r\n1,56.65\r\n"), Ok(Limits { days: 1, limits: vec![5665] }));
+        assert_eq!(read_limits(b"days,p1,p2\r\n400,0.00,999.99"), Ok(Limits { days: 400, limits: vec![0, 99_999] }));
         for (text, line) in [
             ("", 1),
             ("days,p2\r\n1,1.00", 1),

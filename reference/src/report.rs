@@ -52,11 +52,7 @@ fn print(limits: &Limits, book: &Book) -> Result<String, Refusal> {
     for (point, &limit) in limits.limits.iter().enumerate() {
         let load = load(book, point as u32, limits.days)?;
         let level = load.level.map_or("below".to_string(), spell_level);
-        let verdict = if load.level.is_some_and(|level| level > limit) {
-            "over"
-        } else {
-            "within"
-        };
+        let verdict = if load.level.is_some_and(|level| level > limit) { "over" } else { "within" };
         let (computed, missing) = (load.computed.iter().sum::<u64>(), load.missing.iter().sum::<u64>());
         text += &format!("{},{level},{},{verdict},{computed},{missing}\r\n", point + 1, spell_level(limit));
     }
@@ -77,23 +73,13 @@ mod tests {
     #[test]
     fn the_documents_file() {
         let rows = "1,G,70000,S,07:00:00,100.00\r\n2,G,70000,S,18:59:59,100.00\r\n3,G,70000,S,12:00:00,\r\n4,H,3000,L,23:00:00,\r\n";
-        assert_eq!(
-            with_rows(rows),
-            "point,level,limit,verdict,computed,missing\r\n1,56.66,56.65,over,2,2\r\n"
-        );
+        assert_eq!(with_rows(rows), "point,level,limit,verdict,computed,missing\r\n1,56.66,56.65,over,2,2\r\n");
     }
 
     #[test]
     fn nothing_to_report() {
-        assert_eq!(
-            with_rows(""),
-            "point,level,limit,verdict,computed,missing\r\n1,below,56.65,within,0,0\r\n"
-        );
-        assert_eq!(
-            with_rows("0,G,150,S,07:00:00,999.99"),
-            with_rows(""),
-            "passed over before anything else is judged"
-        );
+        assert_eq!(with_rows(""), "point,level,limit,verdict,computed,missing\r\n1,below,56.65,within,0,0\r\n");
+        assert_eq!(with_rows("0,G,150,S,07:00:00,999.99"), with_rows(""), "passed over before anything else is judged");
         assert_eq!(with_rows("1,G,151,S,07:00:00,"), "refused,10,0\r\n");
     }
 
@@ -110,12 +96,7 @@ mod tests {
         assert_eq!(with_rows("7,G,70000,S,07:00:00,120.01"), "refused,7,2\r\n");
         assert_eq!(with_rows("0,K,6000,S,07:00:00,"), "refused,1,2\r\n");
         let full: String = (1..=2_001)
-            .map(|identity| {
-                format!(
-                    "{identity},G,70000,S,07:00:00,{}\r\n",
-                    if identity > 2_000 { "999.99" } else { "1.00" }
-                )
-            })
+            .map(|identity| format!("{identity},G,70000,S,07:00:00,{}\r\n", if identity > 2_000 { "999.99" } else { "1.00" }))
             .collect();
         assert_eq!(with_rows(&full), "refused,6,2002\r\n");
     }

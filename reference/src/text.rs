@@ -47,9 +47,7 @@ pub fn time(field: &[u8]) -> Option<u32> {
 }
 
 fn digits(field: &[u8]) -> Option<u32> {
-    field
-        .iter()
-        .try_fold(0, |sum, digit| digit.is_ascii_digit().then(|| sum * 10 + u32::from(digit - b'0')))
+    field.iter().try_fold(0, |sum, digit| digit.is_ascii_digit().then(|| sum * 10 + u32::from(digit - b'0')))
 }
 
 /// Hundredths with a point and two digits.
@@ -77,10 +75,7 @@ mod tests {
 
     #[test]
     fn whole_numbers() {
-        assert_eq!(
-            (whole(b"0"), whole(b"9999999"), whole(b"150")),
-            (Some(0), Some(9_999_999), Some(150))
-        );
+        assert_eq!((whole(b"0"), whole(b"9999999"), whole(b"150")), (Some(0), Some(9_999_999), Some(150)));
         for wrong in [&b""[..], b"00", b"07", b"10000000", b"-1", b"+1", b"1 ", b"1.0", b"\xb2"] {
             assert_eq!(whole(wrong), None, "{wrong:?}");
         }
@@ -88,24 +83,8 @@ mod tests {
 
     #[test]
     fn levels() {
-        assert_eq!(
-            (level(b"0.00"), level(b"0.05"), level(b"120.00"), level(b"999.99")),
-            (Some(0), Some(5), Some(12_000), Some(99_999))
-        );
-        for wrong in [
-            &b""[..],
-            b".00",
-            b"00.00",
-            b"01.00",
-            b"1.0",
-            b"1.000",
-            b"1000.00",
-            b"1,00",
-            b"1",
-            b"-1.00",
-            b"1.-1",
-            b"1. 1",
-        ] {
+        assert_eq!((level(b"0.00"), level(b"0.05"), level(b"120.00"), level(b"999.99")), (Some(0), Some(5), Some(12_000), Some(99_999)));
+        for wrong in [&b""[..], b".00", b"00.00", b"01.00", b"1.0", b"1.000", b"1000.00", b"1,00", b"1", b"-1.00", b"1.-1", b"1. 1"] {
             assert_eq!(level(wrong), None, "{wrong:?}");
         }
         assert_eq!((spell_level(5), spell_level(12_000)), ("0.05".to_string(), "120.00".to_string()));
@@ -113,19 +92,8 @@ mod tests {
 
     #[test]
     fn times() {
-        assert_eq!(
-            (time(b"00:00:00"), time(b"23:59:59"), time(b"07:00:00")),
-            (Some(0), Some(86_399), Some(25_200))
-        );
-        for wrong in [
-            &b"24:00:00"[..],
-            b"00:60:00",
-            b"00:00:60",
-            b"7:00:00",
-            b"07:00",
-            b"07-00-00",
-            b"007:00:00",
-        ] {
+        assert_eq!((time(b"00:00:00"), time(b"23:59:59"), time(b"07:00:00")), (Some(0), Some(86_399), Some(25_200)));
+        for wrong in [&b"24:00:00"[..], b"00:60:00", b"00:00:60", b"7:00:00", b"07:00", b"07-00-00", b"007:00:00"] {
             assert_eq!(time(wrong), None, "{wrong:?}");
         }
         assert_eq!(spell_time(86_399), "23:59:59");

@@ -126,13 +126,7 @@ pub unsafe extern "C" fn okubinrafo_write_row(
     size_len: usize,
 ) -> u32 {
     let (fields, levels) = (from_raw_parts(fields, fields_len), from_raw_parts(levels, levels_len));
-    calls::write_row(
-        fields,
-        levels,
-        points,
-        from_raw_parts_mut(text, text_len),
-        from_raw_parts_mut(size, size_len),
-    )
+    calls::write_row(fields, levels, points, from_raw_parts_mut(text, text_len), from_raw_parts_mut(size, size_len))
 }
 
 #[no_mangle]

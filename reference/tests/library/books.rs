@@ -43,17 +43,8 @@ fn levels(random: &mut Random, points: u32) -> Vec<u32> {
 fn a_change(random: &mut Random, points: u32, among: u32) -> Change {
     let identity = identity(random, among);
     match random.within(0, 9) {
-        0..=3 => Change::Enter {
-            identity,
-            aircraft: random.about(2),
-            kind: random.about(1),
-            time: time(random),
-            mass: mass(random),
-        },
-        4..=6 => Change::Supply {
-            identity,
-            given: levels(random, points),
-        },
+        0..=3 => Change::Enter { identity, aircraft: random.about(2), kind: random.about(1), time: time(random), mass: mass(random) },
+        4..=6 => Change::Supply { identity, given: levels(random, points) },
         7 => Change::TakeBack { identity },
         8 => Change::Withdraw { identity },
         _ => a_replay(random, points, among),
@@ -62,13 +53,7 @@ fn a_change(random: &mut Random, points: u32, among: u32) -> Change {
 
 fn spell(journal: &mut Vec<u32>, change: &Change) {
     match change {
-        &Change::Enter {
-            identity,
-            aircraft,
-            kind,
-            time,
-            mass,
-        } => journal.extend([1, identity, aircraft, kind, time, mass]),
+        &Change::Enter { identity, aircraft, kind, time, mass } => journal.extend([1, identity, aircraft, kind, time, mass]),
         Change::Supply { identity, given } => {
             journal.extend([2, *identity, given.len() as u32]);
             journal.extend(given);
@@ -98,10 +83,7 @@ fn a_replay(random: &mut Random, points: u32, among: u32) -> Change {
         _ => {}
     }
     let room = room_about(random, calls);
-    Change::Replay {
-        journal,
-        answers: vec![7; room],
-    }
+    Change::Replay { journal, answers: vec![7; room] }
 }
 
 /// Mostly enough, now and then too small by one.
@@ -155,11 +137,7 @@ fn spoil(random: &mut Random, book: &mut Book) {
 fn ask(library: &Library, random: &mut Random, book: &Book) {
     let point = random.about(book.points.clamp(1, 8) - 1);
     let days = random.about(366);
-    let room = if random.once_in(4) {
-        random.pick(&[0, LOAD_NUMBERS - 1, LOAD_NUMBERS + 2])
-    } else {
-        LOAD_NUMBERS
-    };
+    let room = if random.once_in(4) { random.pick(&[0, LOAD_NUMBERS - 1, LOAD_NUMBERS + 2]) } else { LOAD_NUMBERS };
     let (answer, numbers) = load(library, book, point, days, &vec![3; room]);
     let level = if answer == 0 { numbers[2] as u32 } else { 5_000 };
     let limit = random.pick(&[level, level, level.saturating_sub(1), level + 1, 0, 12_000, 12_001, u32::MAX]);
@@ -259,17 +237,7 @@ fn large_books() {
         }
         let taken = book.identities[random.within(0, standing as u32 - 1) as usize];
         change(library, &mut book, &Change::Withdraw { identity: taken });
-        change(
-            library,
-            &mut book,
-            &Change::Enter {
-                identity: taken,
-                aircraft: 0,
-                kind: 1,
-                time: 0,
-                mass: 7_000,
-            },
-        );
+        change(library, &mut book, &Change::Enter { identity: taken, aircraft: 0, kind: 1, time: 0, mass: 7_000 });
         ask(library, random, &book);
     });
 }
@@ -293,24 +261,11 @@ fn large_journals() {
                 mass: mass(random),
             };
             spell(&mut journal, &enter);
-            spell(
-                &mut journal,
-                &Change::Supply {
-                    identity,
-                    given: levels(random, points),
-                },
-            );
+            spell(&mut journal, &Change::Supply { identity, given: levels(random, points) });
             calls += 2;
         }
         let mut book = Columns::new(rows, points);
-        change(
-            library,
-            &mut book,
-            &Change::Replay {
-                journal,
-                answers: vec![0; calls],
-            },
-        );
+        change(library, &mut book, &Change::Replay { journal, answers: vec![0; calls] });
         ask(library, random, &book);
     });
 }

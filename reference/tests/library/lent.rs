@@ -37,9 +37,7 @@ pub struct Lent<T> {
 impl<T: Element> Lent<T> {
     pub fn new(content: &[T]) -> Lent<T> {
         let margin = [T::MARK; MARGIN];
-        Lent {
-            all: [&margin, content, &margin].concat(),
-        }
+        Lent { all: [&margin, content, &margin].concat() }
     }
 
     pub fn pointer(&mut self) -> *mut T {
@@ -86,9 +84,7 @@ impl Made<'_> {
         }
         if let Some(place) = library.content().iter().zip(reference).position(|(own, other)| own != other) {
             let (own, other) = (library.content()[place], reference[place]);
-            self.fail(&format!(
-                "{name}[{place}] is {own:?} after the library's call and {other:?} after the reference's"
-            ));
+            self.fail(&format!("{name}[{place}] is {own:?} after the library's call and {other:?} after the reference's"));
         }
         self
     }
@@ -99,12 +95,6 @@ impl Made<'_> {
     }
 
     fn fail(&self, what: &str) -> ! {
-        panic!(
-            "{}: {what} (answer {})\ninputs of {}: {}",
-            self.call,
-            self.library,
-            self.call,
-            (self.inputs)()
-        );
+        panic!("{}: {what} (answer {})\ninputs of {}: {}", self.call, self.library, self.call, (self.inputs)());
     }
 }

@@ -37,10 +37,7 @@ fn a_wrong_frame(random: &mut Random, frame: Frame) -> Frame {
     match random.within(0, 4) {
         0 => Frame { columns: side, ..frame },
         1 => Frame { rows: side, ..frame },
-        2 => Frame {
-            spacing: random.pick(&[0, 1, 500, 501, u32::MAX]),
-            ..frame
-        },
+        2 => Frame { spacing: random.pick(&[0, 1, 500, 501, u32::MAX]), ..frame },
         3 => Frame { west: origin, ..frame },
         _ => Frame { south: origin, ..frame },
     }
@@ -58,14 +55,10 @@ fn on_spiral(row: u32, column: u32, frame: &Frame) -> bool {
 }
 
 /// The patterns that networks are drawn by.
-const PATTERNS: u32 = 9;
+const PATTERNS: u32 = 10;
 
 pub fn a_network(random: &mut Random, frame: &Frame, level: u32) -> Vec<u32> {
-    let (pattern, high, low) = (
-        random.within(0, PATTERNS - 1),
-        random.within(level, 15_000),
-        random.within(0, level - 1),
-    );
+    let (pattern, high, low) = (random.within(0, PATTERNS - 1), random.within(level, 15_000), random.within(0, level - 1));
     let (width, tilt) = (random.within(1, 6), random.within(1, 40));
     let near = |random: &mut Random, spread: u32| random.within(level.saturating_sub(spread), (level + spread).min(15_000));
     let place = |row: u32, column: u32| if row.abs_diff(column) % 2 == 0 { high } else { low };
@@ -78,15 +71,14 @@ pub fn a_network(random: &mut Random, frame: &Frame, level: u32) -> Vec<u32> {
         5 if on_spiral(row, column, frame) => high,
         5 => low,
         6 => random.pick(&[level, level, level - 1, high]),
+        // One hundredth out of 16, 80, 400 or 2,000: the printed place is a half.
+        8 => (level - 1 + 16 * random.pick(&[0, 0, 1, 5, 25, 125])).min(15_000),
         7 => (level + 20 * tilt)
             .saturating_sub((row.abs_diff(frame.rows / 2).pow(2) + column.abs_diff(frame.columns / 2).pow(2)) * tilt)
             .min(15_000),
         _ => random.pick(&[high, low]),
     };
-    (0..frame.rows)
-        .flat_map(|row| (0..frame.columns).map(move |column| (row, column)))
-        .map(|(row, column)| point(row, column))
-        .collect()
+    (0..frame.rows).flat_map(|row| (0..frame.columns).map(move |column| (row, column))).map(|(row, column)| point(row, column)).collect()
 }
 
 /// Contours with all the room there can be need of, with exact room and with each room too small by one.
@@ -123,44 +115,12 @@ fn compare_places(library: &Library, random: &mut Random, frame: Frame, levels: 
     let places = |count: usize| vec![OLD_PLACE; count];
     let short = random.once_in(4);
     let which = vec![5; if short { some.len().saturating_sub(1) } else { some.len() }];
-    ask(
-        library,
-        frame,
-        levels,
-        level,
-        Asked::MapPoints(&some),
-        &which,
-        &places(2 * some.len()),
-    );
-    ask(
-        library,
-        frame,
-        levels,
-        level,
-        Asked::MapPoints(&some),
-        &vec![5; some.len() + 1],
-        &places((2 * some.len()).saturating_sub(1)),
-    );
+    ask(library, frame, levels, level, Asked::MapPoints(&some), &which, &places(2 * some.len()));
+    ask(library, frame, levels, level, Asked::MapPoints(&some), &vec![5; some.len() + 1], &places((2 * some.len()).saturating_sub(1)));
     for &edge in some.iter().take(6) {
         let (which, fraction, place) = random.pick(&[(1, 1, 2), (1, 1, 2), (2, 3, 3), (0, 1, 2), (1, 0, 1)]);
-        ask(
-            library,
-            frame,
-            levels,
-            level,
-            Asked::Crossing(edge),
-            &vec![5; which],
-            &places(fraction),
-        );
-        ask(
-            library,
-            frame,
-            levels,
-            level,
-            Asked::MapPoint(edge),
-            &vec![5; which],
-            &places(place),
-        );
+        ask(library, frame, levels, level, Asked::Crossing(edge), &vec![5; which], &places(fraction));
+        ask(library, frame, levels, level, Asked::MapPoint(edge), &vec![5; which], &places(place));
     }
 }
 
@@ -199,11 +159,7 @@ fn refused_networks() {
         ("write_network", &[0, 12, 13]),
     ];
     rounds("refused_networks", 20_000, TELLING, |library, random| {
-        let small = Frame {
-            columns: random.within(2, 4),
-            rows: random.within(2, 4),
-            ..a_frame(random)
-        };
+        let small = Frame { columns: random.within(2, 4), rows: random.within(2, 4), ..a_frame(random) };
         let mut level = a_level(random);
         let mut levels = a_network(random, &small, level);
         let frame = if random.once_in(2) { a_wrong_frame(random, small) } else { small };
@@ -229,27 +185,12 @@ fn all_small_networks() {
     rounds("all_small_networks", 40, TELLING, |library, random| {
         let spacing = random.within(1, 500);
         for (columns, rows, values) in [(2, 2, 5u32), (3, 3, 3), (4, 2, 3)] {
-            let frame = Frame {
-                columns,
-                rows,
-                spacing,
-                west: 1,
-                south: 2,
-            };
+            let frame = Frame { columns, rows, spacing, west: 1, south: 2 };
             let all = values.pow(columns * rows);
             for number in (random.within(0, 39)..all).step_by(40) {
                 let levels: Vec<u32> = (0..columns * rows).map(|point| 98 + number / values.pow(point) % values).collect();
                 compare_contours(library, random, frame, &levels, 99);
-                compare_text(
-                    library,
-                    random,
-                    Written::Contours {
-                        frame,
-                        levels: &levels,
-                        level: 99,
-                    },
-                    600,
-                );
+                compare_text(library, random, Written::Contours { frame, levels: &levels, level: 99 }, 600);
             }
         }
     });
@@ -260,23 +201,11 @@ fn all_small_networks() {
 fn large_networks() {
     const TELLING: Telling = &[("contours", &[0, 14]), ("print_contours", &[0, 14])];
     rounds("large_networks", 12, TELLING, |library, random| {
-        let frame = Frame {
-            columns: random.pick(&[256, 255]),
-            rows: 256,
-            ..a_frame(random)
-        };
+        let frame = Frame { columns: random.pick(&[256, 255]), rows: 256, ..a_frame(random) };
         let level = a_level(random);
         let levels = a_network(random, &frame, level);
         compare_all(library, random, frame, &levels, level);
         let every: Vec<u32> = (0..frame.edges() + 2).collect();
-        ask(
-            library,
-            frame,
-            &levels,
-            level,
-            Asked::MapPoints(&every),
-            &vec![5; every.len()],
-            &vec![OLD_PLACE; 2 * every.len()],
-        );
+        ask(library, frame, &levels, level, Asked::MapPoints(&every), &vec![5; every.len()], &vec![OLD_PLACE; 2 * every.len()]);
     });
 }

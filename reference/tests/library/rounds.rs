@@ -27,11 +27,7 @@ pub fn rounds(test: &'static str, usual: u64, telling: Telling, body: fn(&Librar
         }
         tell(count == usual && first == 0, telling);
     };
-    let thread = std::thread::Builder::new()
-        .name(test.to_string())
-        .stack_size(STACK)
-        .spawn(run)
-        .expect("a thread starts");
+    let thread = std::thread::Builder::new().name(test.to_string()).stack_size(STACK).spawn(run).expect("a thread starts");
     if let Err(failure) = thread.join() {
         std::panic::resume_unwind(failure);
     }
@@ -44,10 +40,7 @@ fn tell(usual: bool, telling: Telling) {
             println!("{call} answered {answer}: {times} times");
         }
         for (call, answers) in telling {
-            let missing: Vec<_> = answers
-                .iter()
-                .filter(|&&answer| !seen.contains_key(&(call.to_string(), answer)))
-                .collect();
+            let missing: Vec<_> = answers.iter().filter(|&&answer| !seen.contains_key(&(call.to_string(), answer))).collect();
             assert!(!usual || missing.is_empty(), "these inputs never made {call} answer {missing:?}");
         }
     });
@@ -55,9 +48,7 @@ fn tell(usual: bool, telling: Telling) {
 
 /// A seed for one round of one test.
 fn seed_of(test: &str, seed: u64, round: u64) -> u64 {
-    let own = test
-        .bytes()
-        .fold(seed, |sum, byte| sum.wrapping_mul(31).wrapping_add(u64::from(byte)));
+    let own = test.bytes().fold(seed, |sum, byte| sum.wrapping_mul(31).wrapping_add(u64::from(byte)));
     Random::new(own).next() ^ Random::new(round).next()
 }
 

@@ -36,20 +36,12 @@ fn a_row(random: &mut Random, points: u32) -> String {
     let identity = random.pick(&[0, 1, 381, 99_999, 100_000, 9_999_999]);
     let (aircraft, kind) = (random.pick(&['G', 'K', 'H']), random.pick(&['S', 'L']));
     let blank = random.once_in(4);
-    let mut line = format!(
-        "{identity},{aircraft},{mass},{kind},{:02}:{:02}:{:02}",
-        random.about(23) % 30,
-        random.within(0, 60),
-        random.within(0, 59)
-    );
+    let mut line =
+        format!("{identity},{aircraft},{mass},{kind},{:02}:{:02}:{:02}", random.about(23) % 30, random.within(0, 60), random.within(0, 59));
     for _ in 0..points {
         let level = random.pick(&[0, 5, 99, 100, 5_665, 12_000, 12_000, 12_001, 99_999]);
         let level = if random.once_in(3) { level } else { random.within(0, 12_000) };
-        line += &if blank {
-            ",".to_string()
-        } else {
-            format!(",{}.{:02}", level / 100, level % 100)
-        };
+        line += &if blank { ",".to_string() } else { format!(",{}.{:02}", level / 100, level % 100) };
     }
     line + random.pick(&["", "\r\n"])
 }
@@ -64,15 +56,8 @@ fn rows_read() {
             damage(random, &mut line);
         }
         let asked = if random.once_in(10) { random.about(8) } else { points };
-        let (fields, levels) = random.pick(&[
-            (6, 8),
-            (6, asked.min(9)),
-            (6, asked.min(9)),
-            (5, 8),
-            (7, 12),
-            (6, asked.clamp(1, 9) - 1),
-            (0, 0),
-        ]);
+        let (fields, levels) =
+            random.pick(&[(6, 8), (6, asked.min(9)), (6, asked.min(9)), (5, 8), (7, 12), (6, asked.clamp(1, 9) - 1), (0, 0)]);
         read_row(library, &line, asked, &vec![77; fields], &vec![77; levels as usize]);
     });
 }
@@ -83,14 +68,7 @@ fn rows_written() {
     rounds("rows_written", 100_000, TELLING, |library, random| {
         let points = random.about(8);
         let mass = random.pick(&[0, 100, 5_999, 6_000, 1_000_000, 1_000_001]);
-        let mut fields = vec![
-            random.about(99_999),
-            random.about(2),
-            mass,
-            random.about(1),
-            random.about(86_399),
-            random.about(1),
-        ];
+        let mut fields = vec![random.about(99_999), random.about(2), mass, random.about(1), random.about(86_399), random.about(1)];
         match random.within(0, 15) {
             0 => drop(fields.pop()),
             1 => fields.push(0),
@@ -99,11 +77,7 @@ fn rows_written() {
         let count = if random.once_in(12) { random.within(0, 9) } else { points.min(9) };
         let zero = random.once_in(2);
         let levels: Vec<u32> = (0..count).map(|_| if zero { 0 } else { random.about(12_000) }).collect();
-        let row = Written::Row {
-            fields: &fields,
-            levels: &levels,
-            points,
-        };
+        let row = Written::Row { fields: &fields, levels: &levels, points };
         let (answer, _, size) = write(library, row, &[b'#'; 100], &[1]);
         if answer == 0 {
             let exact = size[0] as usize;
@@ -116,18 +90,12 @@ fn rows_written() {
 
 /// A small network as text, now and then with a no-data line, values spelled like it, or a wrong count.
 fn a_network_text(random: &mut Random) -> String {
-    let frame = Frame {
-        columns: random.within(2, 5),
-        rows: random.within(2, 5),
-        ..a_frame(random)
-    };
+    let frame = Frame { columns: random.within(2, 5), rows: random.within(2, 5), ..a_frame(random) };
     let level = random.within(1, 15_000);
     let levels = a_network(random, &frame, level);
     let mut text = reference::grid::write(&Network { frame, levels: &levels });
     if random.once_in(2) {
-        let spelling = random.pick(&[
-            "-9999", "0", "-0", "0.00", "-12.50", "9999999", "10000000", "-", "", "1.00", "--1", "01",
-        ]);
+        let spelling = random.pick(&["-9999", "0", "-0", "0.00", "-12.50", "9999999", "10000000", "-", "", "1.00", "--1", "01"]);
         let values = text.match_indices("\r\n").nth(4).expect("five header lines").0 + 2;
         text.insert_str(values, &format!("NODATA_value {spelling}\r\n"));
         if random.once_in(2) {
@@ -174,11 +142,7 @@ fn networks_read() {
 fn large_networks_read() {
     const TELLING: Telling = &[("read_network", &[0])];
     rounds("large_networks_read", 4, TELLING, |library, random| {
-        let frame = Frame {
-            columns: 256,
-            rows: 256,
-            ..a_frame(random)
-        };
+        let frame = Frame { columns: 256, rows: 256, ..a_frame(random) };
         let levels = a_network(random, &frame, 7_500);
         let text = reference::grid::write(&Network { frame, levels: &levels }).into_bytes();
         let room = vec![77; 256 * 256];
