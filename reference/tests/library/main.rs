@@ -5,6 +5,7 @@
 
 mod books;
 mod compared;
+mod damage;
 mod lent;
 mod library;
 mod networks;
