@@ -39,18 +39,6 @@ struct Entry {
     side: usize,
 }
 
-impl Entry {
-    fn edge(self, frame: &Frame) -> u32 {
-        let (along, up, right) = match self.side {
-            SOUTH => (Along::Horizontal, 0, 0),
-            NORTH => (Along::Horizontal, 1, 0),
-            WEST => (Along::Vertical, 0, 0),
-            _ => (Along::Vertical, 0, 1),
-        };
-        frame.number(Edge { along, row: self.row + up, column: self.column + right })
-    }
-}
-
 struct Tracer<'a> {
     network: &'a Network<'a>,
     level: u32,
@@ -61,118 +49,109 @@ struct Tracer<'a> {
 
 /// The contours at a level; the network and the level are in range.
 pub fn contours(network: &Network, level: u32) -> Contours {
+    let frame = network.frame;
     let inside = network.levels.iter().map(|&own| own >= level).collect();
-    let listed = vec![false; network.frame.edges() as usize];
-    let mut tracer = Tracer { network, level, inside, listed, found: Contours::default() };
-    tracer.trace_open();
-    tracer.trace_closed();
+    let mut tracer = Tracer { network, level, inside, listed: vec![false; frame.edges() as usize], found: Contours::default() };
+    // Open contours by the border edge where they enter; what is left is closed, by its lowest edge.
+    border(&frame).for_each(|edge| tracer.trace_if_new(edge));
+    all(&frame).for_each(|edge| tracer.trace_if_new(edge));
     tracer.found
 }
 
+/// The edges in the order of their numbers.
+fn all(frame: &Frame) -> impl Iterator<Item = Edge> {
+    let Frame { columns, rows, .. } = *frame;
+    let horizontal = (0..rows).flat_map(move |row| (0..columns - 1).map(move |column| Edge { along: Along::Horizontal, row, column }));
+    let vertical = (0..rows - 1).flat_map(move |row| (0..columns).map(move |column| Edge { along: Along::Vertical, row, column }));
+    horizontal.chain(vertical)
+}
+
+/// The border edges in the order of their numbers.
+fn border(frame: &Frame) -> impl Iterator<Item = Edge> {
+    let Frame { columns, rows, .. } = *frame;
+    let along_row = move |row| (0..columns - 1).map(move |column| Edge { along: Along::Horizontal, row, column });
+    let both_sides = move |row| [0, columns - 1].map(|column| Edge { along: Along::Vertical, row, column });
+    along_row(0).chain(along_row(rows - 1)).chain((0..rows - 1).flat_map(both_sides))
+}
+
 impl Tracer<'_> {
-    /// Open contours, by the number of the border edge where they enter.
-    fn trace_open(&mut self) {
-        let Frame { columns, rows, .. } = self.network.frame;
-        for (row, side) in [(0, SOUTH), (rows - 2, NORTH)] {
-            for column in 0..columns - 1 {
-                self.trace_if_entered(Entry { row, column, side });
-            }
-        }
-        for row in 0..rows - 1 {
-            self.trace_if_entered(Entry { row, column: 0, side: WEST });
-            self.trace_if_entered(Entry { row, column: columns - 2, side: EAST });
-        }
-    }
-
-    /// Closed contours, by their lowest edge; no border edge is on one.
-    fn trace_closed(&mut self) {
-        let Frame { columns, rows, .. } = self.network.frame;
-        for row in 1..rows - 1 {
-            for column in 0..columns - 1 {
-                self.trace_if_entered(Entry { row, column, side: SOUTH });
-                self.trace_if_entered(Entry { row: row - 1, column, side: NORTH });
-            }
-        }
-        for row in 0..rows - 1 {
-            for column in 1..columns - 1 {
-                self.trace_if_entered(Entry { row, column, side: WEST });
-                self.trace_if_entered(Entry { row, column: column - 1, side: EAST });
+    fn trace_if_new(&mut self, edge: Edge) {
+        if let Some(entry) = self.entered(edge) {
+            if !self.listed[self.network.frame.number(edge) as usize] {
+                self.trace(edge, entry);
             }
         }
     }
 
-    fn trace_if_entered(&mut self, entry: Entry) {
-        let corners = self.corners(entry);
-        let entered = corners[entry.side] && !corners[(entry.side + 1) % 4];
-        if entered && !self.listed[entry.edge(&self.network.frame) as usize] {
-            self.trace(entry);
-        }
-    }
-
-    /// Lists the contour that begins here, up to the border or once around.
-    fn trace(&mut self, first: Entry) {
-        let frame = self.network.frame;
-        let start = first.edge(&frame);
+    /// Lists the contour that begins with this crossing, up to the border or once around.
+    fn trace(&mut self, start: Edge, entry: Entry) {
         let listed_before = self.found.edges.len();
-        let mut edge = start;
-        let mut next = Some(first);
-        while let Some(entry) = next {
+        self.list(start);
+        let mut edge = self.exit(entry);
+        while edge != start {
             self.list(edge);
-            let side = self.exit(entry);
-            edge = Entry { side, ..entry }.edge(&frame);
-            if edge == start {
-                break;
-            }
-            next = beyond(&frame, Entry { side, ..entry });
-        }
-        let closed = edge == start;
-        if !closed {
-            self.list(edge);
+            let Some(entry) = self.entered(edge) else { break };
+            edge = self.exit(entry);
         }
         self.found.counts.push((self.found.edges.len() - listed_before) as u32);
-        self.found.closed.push(closed);
+        self.found.closed.push(edge == start);
     }
 
-    fn list(&mut self, edge: u32) {
-        self.listed[edge as usize] = true;
-        self.found.edges.push(edge);
+    fn list(&mut self, edge: Edge) {
+        let number = self.network.frame.number(edge);
+        self.listed[number as usize] = true;
+        self.found.edges.push(number);
     }
 
-    /// The side by which a line that enters here leaves the square.
-    fn exit(&self, entry: Entry) -> usize {
+    /// The square that an edge's crossing enters; none where the edge isn't crossed or its line leaves the network.
+    fn entered(&self, Edge { along, row, column }: Edge) -> Option<Entry> {
+        let Frame { columns, rows, .. } = self.network.frame;
+        let near = (row * columns + column) as usize;
+        let far = near + if along == Along::Horizontal { 1 } else { columns as usize };
+        if self.inside[near] == self.inside[far] {
+            return None;
+        }
+        let (row, column, side) = match (along, self.inside[near]) {
+            (Along::Horizontal, true) => (row, column, SOUTH),
+            (Along::Horizontal, false) => (row.checked_sub(1)?, column, NORTH),
+            (Along::Vertical, true) => (row, column.checked_sub(1)?, EAST),
+            (Along::Vertical, false) => (row, column, WEST),
+        };
+        (row < rows - 1 && column < columns - 1).then_some(Entry { row, column, side })
+    }
+
+    /// The edge by which a line that enters here leaves the square.
+    fn exit(&self, entry: Entry) -> Edge {
         let corners = self.corners(entry);
         let [next, opposite, last] = [1, 2, 3].map(|turn| (entry.side + turn) % 4);
-        match (corners[opposite], corners[last]) {
+        let side = match (corners[opposite], corners[last]) {
             (true, true) => next,
             (false, true) => opposite,
             (false, false) => last,
             // Four crossed edges: around the out corner on the right, or around the in corner on the left.
             (true, false) if self.corner_sum(entry) >= 4 * self.level => next,
             (true, false) => last,
+        };
+        let Entry { row, column, .. } = entry;
+        match side {
+            SOUTH => Edge { along: Along::Horizontal, row, column },
+            EAST => Edge { along: Along::Vertical, row, column: column + 1 },
+            NORTH => Edge { along: Along::Horizontal, row: row + 1, column },
+            _ => Edge { along: Along::Vertical, row, column },
         }
     }
 
     fn corners(&self, Entry { row, column, .. }: Entry) -> [bool; 4] {
-        let south_west = (row * self.network.frame.columns + column) as usize;
-        let north_west = south_west + self.network.frame.columns as usize;
-        [self.inside[south_west], self.inside[south_west + 1], self.inside[north_west + 1], self.inside[north_west]]
+        let columns = self.network.frame.columns as usize;
+        let south_west = row as usize * columns + column as usize;
+        let (south, north) = (&self.inside[south_west..][..2], &self.inside[south_west + columns..][..2]);
+        [south[0], south[1], north[1], north[0]]
     }
 
     fn corner_sum(&self, Entry { row, column, .. }: Entry) -> u32 {
         let level = |up, right| self.network.level(row + up, column + right);
         level(0, 0) + level(0, 1) + level(1, 1) + level(1, 0)
     }
-}
-
-/// The square on the other side of a left side, unless that is beyond the border.
-fn beyond(frame: &Frame, Entry { row, column, side }: Entry) -> Option<Entry> {
-    let (row, column) = match side {
-        SOUTH => (row.checked_sub(1)?, column),
-        NORTH => (row + 1, column),
-        WEST => (row, column.checked_sub(1)?),
-        _ => (row, column + 1),
-    };
-    (row < frame.rows - 1 && column < frame.columns - 1).then_some(Entry { row, column, side: (side + 2) % 4 })
 }
 
 #[cfg(test)]

@@ -23,7 +23,7 @@ fn limits(random: &mut Random, points: u32) -> Vec<u8> {
     let days = random.pick(&[1, 1, 92, 366, 0, 367, 9_999_999]);
     let mut text = format!("{}\r\n{days}", limits_header(points));
     for _ in 0..points {
-        let limit = random.pick(&[0, 5_665, 5_666, 12_000, 12_000, 12_000, 12_001]);
+        let limit = random.about(12_000).min(12_001);
         text += &format!(",{}.{:02}", limit / 100, limit % 100);
     }
     (text + random.pick(&["", "\r\n", "\r\n", "\r\n\r\n"])).into_bytes()

@@ -242,6 +242,28 @@ fn large_books() {
     });
 }
 
+/// The largest energies and counts that a book can hold: every product on the way must still fit.
+#[test]
+fn fullest_books() {
+    const TELLING: Telling = &[("load", &[0]), ("verdict", &[0])];
+    rounds("fullest_books", 12, TELLING, |library, random| {
+        let rows = 50_000;
+        let computed = random.pick(&[1, 2, 25_000, 49_999, 50_000]);
+        let (own, other) = random.pick(&[(2, 2), (2, 17), (17, 2), (0, 0), (1, 1)]);
+        let mut book = Columns::new(rows, 1);
+        for row in 0..rows {
+            book.identities[row] = row as u32 + 1;
+            book.groups[row] = if row < computed { own } else { other };
+            book.marks[row] = u32::from(row < computed);
+            book.levels[row] = if row < computed { random.pick(&[12_000, 12_000, 12_000, 11_999]) } else { 0 };
+        }
+        for days in [1, random.within(2, 366)] {
+            let (_, numbers) = load(library, &book, 0, days, &[0; LOAD_NUMBERS]);
+            verdict(library, &book, 0, days, (numbers[2] as u32).min(12_000), &[5]);
+        }
+    });
+}
+
 /// A register replayed into an empty book as one journal, in rising and in any order of identities.
 #[test]
 fn large_journals() {
