@@ -24,9 +24,8 @@ def least_times(own, other):
 
 def library_run(levels):
     """A call of the library on room that is lent once, as contourpy's arrays are."""
-    numbers = ctypes.c_uint32 * len(levels)
-    lent, edges = numbers(*levels), (ctypes.c_uint32 * (2 * len(levels)))()
-    counts, closed, sizes = numbers(), numbers(), (ctypes.c_uint32 * 2)()
+    lent, sizes = (ctypes.c_uint32 * len(levels))(*levels), (ctypes.c_uint32 * 2)()
+    edges, counts, closed = ((ctypes.c_uint32 * (2 * len(levels)))() for _ in range(3))
     frame = [ctypes.c_uint32(number) for number in (SIDE, SIDE, 100, 0, 0, LEVEL)]
     slices = [part for room in (edges, counts, closed, sizes) for part in (room, ctypes.c_size_t(len(room)))]
     function = ctypes.CDLL(os.environ["OKUBINRAFO_LIB"]).okubinrafo_contours

@@ -28,8 +28,8 @@ impl Measured {
             side,
             levels,
             edges: room(2 * points),
-            counts: room(points),
-            closed: room(points),
+            counts: room(2 * points),
+            closed: room(2 * points),
             sizes: [0; 2],
             text: vec![0; 80 * points + 64],
         }
