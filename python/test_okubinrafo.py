@@ -82,9 +82,8 @@ class Books(Case):
 
     def test_replay(self):
         book = Book(2, 1)
-        calls = [
-            ("enter", 5, 0, 0, 0, 7000), ("supply", 5, [300]), ("take_back", 6), ("withdraw", 5), ("enter", 5, 0, 0, 0, 1), ("enter", 8, 2, 0, 0, 7000),
-        ]
+        entered, too_light = ("enter", 5, 0, 0, 0, 7000), ("enter", 5, 0, 0, 0, 1)
+        calls = [entered, ("supply", 5, [300]), ("take_back", 6), ("withdraw", 5), too_light, ("enter", 8, 2, 0, 0, 7000)]
         self.assertEqual(book.replay(calls), [0, 0, 5, 0, 2, 0])
         self.assertEqual(list(book.rows()), [(8, 14, None)])
         self.assertEqual(book.replay([]), [])

@@ -23,10 +23,11 @@ macro_rules! exported {
         }
 
         impl Library {
+            #[allow(clippy::missing_transmute_annotations)]
             fn from_handle(handle: *mut c_void) -> Library {
                 Library {
-                    // SAFETY: the symbol has the type that the header gives it.
-                    $($name: unsafe { std::mem::transmute::<*mut c_void, unsafe extern "C" fn($($argument),*) -> u32>(symbol(handle, concat!("okubinrafo_", stringify!($name)))) },)*
+                    // SAFETY: the symbol has the type that the header gives it, which is the field's.
+                    $($name: unsafe { std::mem::transmute(symbol(handle, concat!("okubinrafo_", stringify!($name)))) },)*
                 }
             }
         }
