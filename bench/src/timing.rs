@@ -1,4 +1,5 @@
-//! Times side by side: both are run in turns, and the least time of each counts.
+//! Times side by side: both are run in turns, and the least processor time of each counts, so that other programs on the
+//! machine matter little.
 
 use std::hint::black_box;
 use std::time::{Duration, Instant};
@@ -25,9 +26,31 @@ pub fn alone<A>(own: impl FnMut() -> A) -> f64 {
 }
 
 fn once<A>(run: &mut impl FnMut() -> A) -> f64 {
-    let start = Instant::now();
+    let start = processor_time();
     black_box(run());
-    start.elapsed().as_secs_f64()
+    processor_time() - start
+}
+
+#[repr(C)]
+struct Timespec {
+    seconds: i64,
+    nanoseconds: i64,
+}
+
+extern "C" {
+    fn clock_gettime(clock: i32, time: *mut Timespec) -> i32;
+}
+
+/// Linux's CLOCK_THREAD_CPUTIME_ID.
+const THREAD_CLOCK: i32 = 3;
+
+/// Seconds of processor time that this thread has had.
+fn processor_time() -> f64 {
+    let mut time = Timespec { seconds: 0, nanoseconds: 0 };
+    // SAFETY: the C library writes one timespec.
+    let answer = unsafe { clock_gettime(THREAD_CLOCK, &mut time) };
+    assert_eq!(answer, 0, "the system has a clock for each thread");
+    time.seconds as f64 + time.nanoseconds as f64 * 1e-9
 }
 
 /// A time as a person reads it.
