@@ -173,17 +173,23 @@ pub fn registers(library: &Library) {
     line("a register of 2,000 rows read and replayed into a book", &rate(bytes, own), &scan, own / other, None);
 }
 
-pub fn growth(library: &Library) {
+pub fn load_grows(library: &Library) {
     let load = |rows: usize| {
         let mut book = book(rows, 0, POINTS);
         (rows, alone(|| library_loads(library, &mut book)))
     };
     grows("load at 8 points, a row", load(FEW_ROWS), load(MOST_ROWS));
+}
+
+pub fn shift_grows(library: &Library) {
     let shift = |rows: usize| {
         let mut middle = Middle::new(rows);
         (rows, alone(|| middle.enter_and_withdraw(library)))
     };
     grows("enter and withdraw in the middle, a row", shift(FEW_ROWS), shift(MOST_ROWS));
+}
+
+pub fn register_grows(library: &Library) {
     let register = |rows: usize| (rows, time_register(library, rows).0);
     grows("a register with rising identities read and replayed, a row", register(FEW_ROWS), register(MOST_ROWS));
 }

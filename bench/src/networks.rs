@@ -89,16 +89,20 @@ pub fn texts(library: &Library) {
     }
 }
 
-pub fn growth(library: &Library) {
+pub fn contours_grow(library: &Library) {
     for (name, make) in NETWORKS {
-        let measured = |side: u32| Measured::new(side, make(side));
         let contours = |side: u32| {
-            let mut own = measured(side);
+            let mut own = Measured::new(side, make(side));
             (own.levels.len(), alone(|| own.contours(library)))
         };
         grows(&format!("contours, {name}, a point"), contours(FEW), contours(MOST));
+    }
+}
+
+pub fn text_grows(library: &Library) {
+    for (name, make) in NETWORKS {
         let text = |side: u32| {
-            let mut own = measured(side);
+            let mut own = Measured::new(side, make(side));
             (own.levels.len(), alone(|| own.print(library)))
         };
         grows(&format!("text of contours, {name}, a point"), text(FEW), text(MOST));
