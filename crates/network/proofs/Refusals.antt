@@ -12,7 +12,7 @@ use lib.Seq.{drop-cons}
 use Rattle.network.specs.declared.Frame.{Frame}
 use Rattle.network.specs.Limits.{leastSide, mostSide, leastSpacing, mostSpacing, mostOrigin, mostLevel, leastContour, mostContour}
 use Rattle.network.specs.Edges.{Sides, Sized, Checked}
-use Rattle.network.specs.Refusals.{between, allUpTo, sided, placed, filled, networkRefusal, contourRefusal}
+use Rattle.network.specs.Refusals.{between, allUpTo, sided, placed, filled, checked, networkRefusal, contourChecked, contourRefusal}
 
 pub up-to-here : (most : ℕ) (xs : List ℕ) (i : ℕ) → i < length xs → getD xs i 0 ≤ most → allUpTo most (drop i xs) ≡ allUpTo most (drop (i + 1) xs)
 unfolding allUpTo
@@ -83,19 +83,40 @@ contour-not-refused levels f v h = go (sided f && placed f && filled levels f) (
     go true false c p q r e = absurd (omega arith)
     go false b c p q r e = absurd (omega arith)
 
--- a contour call refuses as the network does, and 15 only where the network is right
-pub contour-after : (levels : List ℕ) (f : Frame) (v : ℕ) → networkRefusal levels f ≡ 0 → contourRefusal levels f v ≡ cond (between leastContour v mostContour) 0 15
-contour-after levels f v h = go (sided f && placed f && filled levels f) (allUpTo mostLevel levels) h
+-- ---- what comes after the check
+
+-- where the network is not refused the rest decides, and else its refusal stands
+pub checked-on : (levels : List ℕ) (f : Frame) (rest : ℕ) → networkRefusal levels f ≡ 0 → checked levels f rest ≡ rest
+checked-on levels f rest h = go (sided f && placed f && filled levels f) (allUpTo mostLevel levels) h
   where
-    go : (a b : Bool) → _≡_ {A = ℕ} (cond a (cond b 0 13) 12) 0 → _≡_ {A = ℕ} (cond a (cond b (cond (between leastContour v mostContour) 0 15) 13) 12) (cond (between leastContour v mostContour) 0 15)
+    go : (a b : Bool) → _≡_ {A = ℕ} (cond a (cond b 0 13) 12) 0 → cond a (cond b rest 13) 12 ≡ rest
     go true true e = refl
     go true false e = absurd (omega arith)
     go false b e = absurd (omega arith)
 
-pub contour-same : (levels : List ℕ) (f : Frame) (v : ℕ) → (networkRefusal levels f ≡ 0 → ⊥) → contourRefusal levels f v ≡ networkRefusal levels f
-contour-same levels f v h = go (sided f && placed f && filled levels f) (allUpTo mostLevel levels) h
+pub checked-off : (levels : List ℕ) (f : Frame) (rest : ℕ) → (networkRefusal levels f ≡ 0 → ⊥) → checked levels f rest ≡ networkRefusal levels f
+checked-off levels f rest h = go (sided f && placed f && filled levels f) (allUpTo mostLevel levels) h
   where
-    go : (a b : Bool) → (_≡_ {A = ℕ} (cond a (cond b 0 13) 12) 0 → ⊥) → _≡_ {A = ℕ} (cond a (cond b (cond (between leastContour v mostContour) 0 15) 13) 12) (cond a (cond b 0 13) 12)
+    go : (a b : Bool) → (_≡_ {A = ℕ} (cond a (cond b 0 13) 12) 0 → ⊥) → _≡_ {A = ℕ} (cond a (cond b rest 13) 12) (cond a (cond b 0 13) 12)
     go true true e = absurd (e refl)
     go true false e = refl
     go false b e = refl
+
+-- the same with a contour level
+pub contour-on : (levels : List ℕ) (f : Frame) (v rest : ℕ) → contourRefusal levels f v ≡ 0 → contourChecked levels f v rest ≡ rest
+contour-on levels f v rest h = go (sided f && placed f && filled levels f) (allUpTo mostLevel levels) (between leastContour v mostContour) h
+  where
+    go : (a b c : Bool) → _≡_ {A = ℕ} (cond a (cond b (cond c 0 15) 13) 12) 0 → cond a (cond b (cond c rest 15) 13) 12 ≡ rest
+    go true true true e = refl
+    go true true false e = absurd (omega arith)
+    go true false c e = absurd (omega arith)
+    go false b c e = absurd (omega arith)
+
+pub contour-off : (levels : List ℕ) (f : Frame) (v rest : ℕ) → (contourRefusal levels f v ≡ 0 → ⊥) → contourChecked levels f v rest ≡ contourRefusal levels f v
+contour-off levels f v rest h = go (sided f && placed f && filled levels f) (allUpTo mostLevel levels) (between leastContour v mostContour) h
+  where
+    go : (a b c : Bool) → (_≡_ {A = ℕ} (cond a (cond b (cond c 0 15) 13) 12) 0 → ⊥) → _≡_ {A = ℕ} (cond a (cond b (cond c rest 15) 13) 12) (cond a (cond b (cond c 0 15) 13) 12)
+    go true true true e = absurd (e refl)
+    go true true false e = refl
+    go true false c e = refl
+    go false b c e = refl

@@ -36,6 +36,9 @@ checked levels f rest = refuse 12 (sided f && placed f && filled levels f) (refu
 abbrev pub networkRefusal : List ℕ → Frame → ℕ
 networkRefusal levels f = checked levels f 0
 
--- the same where it takes a contour level too
+-- the same where it takes a contour level too: 15 after these, then what the call looks at next
+abbrev pub contourChecked : List ℕ → Frame → ℕ → ℕ → ℕ
+contourChecked levels f v rest = checked levels f (refuse 15 (between leastContour v mostContour) rest)
+
 abbrev pub contourRefusal : List ℕ → Frame → ℕ → ℕ
-contourRefusal levels f v = checked levels f (refuse 15 (between leastContour v mostContour) 0)
+contourRefusal levels f v = contourChecked levels f v 0
