@@ -1,9 +1,10 @@
 -- Which networks and contour levels are refused, and by which number: document 01, "Refusal numbers", 12, 13 and 15. Assumes nothing.
-use mathlib.Core.Bool.{Bool, true, _&&_}
-use mathlib.Core.List.{List, [], _∷_}
+use mathlib.Core.Bool.{Bool, _&&_}
+use mathlib.Core.List.{List}
 use Prim.Native.Nat.{ℕ, _*_}
 use lib.Dec.{leb, eqb}
 use lib.ListN.{length}
+use Rattle.refusal.specs.Range.{allWithin}
 use Rattle.refusal.specs.Refuse.{refuse}
 use Rattle.network.specs.declared.Frame.{Frame}
 use Rattle.network.specs.Limits.{leastSide, mostSide, leastSpacing, mostSpacing, mostOrigin, mostLevel, leastContour, mostContour}
@@ -11,10 +12,6 @@ use Rattle.network.specs.Limits.{leastSide, mostSide, leastSpacing, most
 -- from `low` to `high`
 abbrev pub between : ℕ → ℕ → ℕ → Bool
 between low x high = leb low x && leb x high
-
-unfoldable pub allUpTo : ℕ → List ℕ → Bool
-allUpTo most [] = true
-allUpTo most (x ∷ xs) = leb x most && allUpTo most xs
 
 -- 2 to 256 points a side
 abbrev pub sided : Frame → Bool
@@ -30,7 +27,7 @@ filled levels f = eqb (length levels) (f .rows * f .columns)
 
 -- 12 for size, spacing, origin or count of values, then 13 for a level, then what the call looks at next
 abbrev pub checked : List ℕ → Frame → ℕ → ℕ
-checked levels f rest = refuse 12 (sided f && placed f && filled levels f) (refuse 13 (allUpTo mostLevel levels) rest)
+checked levels f rest = refuse 12 (sided f && placed f && filled levels f) (refuse 13 (allWithin mostLevel levels) rest)
 
 -- the refusal of a call that takes a network, or 0
 abbrev pub networkRefusal : List ℕ → Frame → ℕ

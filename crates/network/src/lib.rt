@@ -1,7 +1,7 @@
 // A network of levels: its frame and check, its edges by number, and which of them a contour crosses. Document 01, "Network and contours".
 ghost use mathlib.Core.Path.{_≡_};
 ghost use mathlib.Core.Bool.{_&&_};
-ghost use Rattle.network.specs.Refusals.{between, allUpTo, sided, placed, filled, networkRefusal, contourRefusal};
+ghost use Rattle.network.specs.Refusals.{between, sided, placed, filled, networkRefusal, contourRefusal};
 use crate::limits::LEAST_CONTOUR;
 use crate::limits::LEAST_SIDE;
 use crate::limits::LEAST_SPACING;
@@ -37,20 +37,6 @@ fn lies_between(low: u32, x: u32, high: u32) -> bool
         return x <= high;
     }
     false
-}
-
-// Whether every level is at most `most`.
-pub(crate) fn all_up_to(most: u32, levels: &[u32]) -> bool
-    ensures { λ r. ⌜ r ≡ allUpTo most (now (levels .entry)) ⌝ }
-{
-    let mut i = 0;
-    while i < levels.len() {
-        if most < levels[i] {
-            return false;
-        }
-        i += 1;
-    }
-    true
 }
 
 // Whether each side has 2 to 256 points.
@@ -99,7 +85,7 @@ pub fn refusal(levels: &[u32], frame: Frame) -> u32
     ensures { λ r. ⌜ r ≡ networkRefusal (now (levels .entry)) frame ⌝ }
 {
     if is_whole(levels, frame) {
-        if all_up_to(MOST_LEVEL, levels) {
+        if refusal::all_within(levels, MOST_LEVEL) {
             return 0;
         }
         return 13;
