@@ -10,6 +10,7 @@ use borrow.Author.Tests.{le-leb, lt-leb, leb-true}
 use lib.ListN.{length, getD, take, drop, length-drop}
 use lib.Seq.{drop-cons, take-all}
 use lib.Dec.{leb, ltb, eqb}
+use Rattle.refusal.proofs.Laws.{and-left, and-right}
 use Rattle.text.specs.Number.{isDigit, digitsOf, wholeOf}
 use Rattle.text.specs.declared.number.Number.{Number}
 use Rattle.text.specs.declared.number.Number.the-variants.{Got, Off}
@@ -46,14 +47,6 @@ million v i h e =
 pub either : {P : Type 0} (b : Bool) → (b ≡ true → P) → (b ≡ false → P) → P
 either true p q = p refl
 either false p q = q refl
-
-pub and-left : (a b : Bool) → (a && b) ≡ true → a ≡ true
-and-left true b e = refl
-and-left false b e = e
-
-pub and-right : (a b : Bool) → (a && b) ≡ true → b ≡ true
-and-right true b e = e
-and-right false b e = let z : true ≡ false = sym e in cc
 
 pub digit-most : (c : ℕ) → isDigit c ≡ true → c ≤ 57
 digit-most c e = leb-true c 57 (and-right (leb 48 c) (leb c 57) e)
