@@ -8,8 +8,8 @@ use native.Mathlib.Numerals.{add-one}
 use native.Mathlib.Omega.{arith}
 use borrow.Author.Tests.{le-leb}
 use lib.ListN.{length, getD, take, drop, length-append, drop-of-length-le}
-use lib.Seq.{drop-cons, getD-drop, take-append-seam, getD-append-seam, getD-append-add}
-use lib.Dec.{eqb}
+use lib.Seq.{take-length, length-take-le, drop-cons, getD-drop, take-append-seam, getD-append-seam, getD-append-add}
+use lib.Dec.{leb, eqb}
 use Rattle.text.specs.Line.{endAt, firstLine, onto, linesOf, bareLine}
 use Rattle.text.proofs.Digits.{either}
 
@@ -66,3 +66,29 @@ bare-back t =
     let l : length (t ++ (13 ∷ 10 ∷ [])) ≡ length t + 2 = length-append t (13 ∷ 10 ∷ []) in
     let a : length t + 2 - 2 ≡ length t = omega arith in
     rw (l, a, le-leb 2 (length t + 2) (omega arith), getD-append-seam t 13 (10 ∷ []) 0, getD-append-add t (13 ∷ 10 ∷ []) 1 0, take-append-seam t (13 ∷ 10 ∷ []))
+
+pub bare-take : (s : List ℕ) → take (length (bareLine s)) s ≡ bareLine s
+unfolding bareLine
+bare-take s =
+    either (leb 2 (length s) && endAt s (length s - 2))
+    (λ yes. rw (yes, length-take-le (length s - 2) s (omega arith)))
+    (λ no. rw no (take-length s))
+
+pub bare-most : (s : List ℕ) → length (bareLine s) ≤ length s
+unfolding bareLine
+bare-most s =
+    either (leb 2 (length s) && endAt s (length s - 2))
+    (λ yes. rw (yes, length-take-le (length s - 2) s (omega arith)) (omega arith))
+    (λ no. rw no (omega arith))
+
+-- the first line of a text, also where there is none, and the lines past it
+pub lines-first : (s : List ℕ) → getD (linesOf s) 0 [] ≡ firstLine s
+unfolding linesOf firstLine
+lines-first [] = refl
+lines-first (c ∷ s) = ap (λ ls. getD ls 0 []) (lines-step (c ∷ s) (omega arith))
+
+pub lines-rest : (s : List ℕ) → 1 ≤ length s → length (linesOf s) ≡ 1 + length (linesOf (drop (length (firstLine s) + 2) s))
+lines-rest s h = ap length (lines-step s h) ∙ omega arith
+
+pub lines-next : (s : List ℕ) (i : ℕ) → 1 ≤ length s → getD (linesOf s) (suc i) [] ≡ getD (linesOf (drop (length (firstLine s) + 2) s)) i []
+lines-next s i h = ap (λ ls. getD ls (suc i) []) (lines-step s h)
