@@ -77,10 +77,10 @@ module _ (pt : ℕ) (ms : List Movement) (days : ℕ) (grouped : AllGrouped (sha
         missing = λ g h. ap (λ (c : Counts). c .missing) (counts-at (tally ss) days g h) ∙ list-missing pt g ms;
         standing = standing;
         weighed = λ e.
-          let same = known-same (countsAt a) (counts ss) (counts-at (tally ss) days) in
-          let some = some-known ss grouped (shares-computed pt ms ∙ e) in
-          let n : knownSum (countsAt a) + unknownSum (countsAt a) ≡ length ms = omega (arith, same .0, same .1, all-standing ss grouped, shares-count pt ms) in
-          rw (← n) (weights-all (countsAt a) (omega (arith, same .0)));
+            let same = known-same (countsAt a) (counts ss) (counts-at (tally ss) days) in
+            let some = some-known ss grouped (shares-computed pt ms ∙ e) in
+            let n : knownSum (countsAt a) + unknownSum (countsAt a) ≡ length ms = omega (arith, same .0, same .1, all-standing ss grouped, shares-count pt ms) in
+            rw (← n) (weights-all (countsAt a) (omega (arith, same .0)));
         energy = energy;
       }
 
