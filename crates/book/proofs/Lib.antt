@@ -1,0 +1,16 @@
+-- Laws. `Lists` and `Parts` serve the loops that move a column's values, `Scans` and `Search` those that read one; `Shapes` and `RowFacts` say what
+-- soundness gives; `Accepted` is about one call; `Blocks`, `Standing`, `Reading` and `Steps` tie rows to the list of movements; `Kept`: calls keep a book
+-- sound; `Rooms`: what a call's rows may rely on.
+pub mod Lists
+pub mod Parts
+pub mod Scans
+pub mod Search
+pub mod Shapes
+pub mod RowFacts
+pub mod Accepted
+pub mod Blocks
+pub mod Standing
+pub mod Reading
+pub mod Steps
+pub mod Kept
+pub mod Rooms

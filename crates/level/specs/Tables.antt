@@ -1,0 +1,21 @@
+-- The two tables of document 01, "Energy and load", by their rules.
+-- Assumes nothing.
+use Prim.Native.Nat.{ℕ, zero, suc, _+_, _*_, _^_}
+use mathlib.Core.Bool.{cond}
+use lib.Dec.{leb}
+
+-- the largest x up to n with x ^ p at most v
+unfoldable pub largestUpTo : ℕ → ℕ → ℕ → ℕ
+largestUpTo p v zero = zero
+largestUpTo p v (suc n) = cond (leb (suc n ^ p) v) (suc n) (largestUpTo p v n)
+
+-- the largest whole number whose p-th power is at most v, for p and v of at least 1
+unfoldable pub largestRoot : ℕ → ℕ → ℕ
+largestRoot p v = largestUpTo p v v
+
+-- A(k) and B(k)
+unfoldable pub tableA : ℕ → ℕ
+tableA k = largestRoot 1000 (10 ^ (6000 + k))
+
+unfoldable pub tableB : ℕ → ℕ
+tableB k = largestRoot 2000 (10 ^ (12000 + 2 * k + 1))

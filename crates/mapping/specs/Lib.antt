@@ -1,0 +1,4 @@
+pub mod Fractions
+pub mod Places
+pub mod Many
+pub mod Ranges
