@@ -1,6 +1,6 @@
 pub mod Quotients
 pub mod Range
-pub mod Astride
+pub mod Ends
 pub mod Zero
 pub mod Fill
 pub mod Rooms
