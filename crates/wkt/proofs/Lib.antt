@@ -1,0 +1,4 @@
+pub mod Nearest
+pub mod Lengths
+pub mod Steps
+pub mod Rooms
