@@ -1,0 +1,5 @@
+pub mod Exits
+pub mod Tracing
+pub mod Listings
+pub mod Buffers
+pub mod Handing
