@@ -14,7 +14,7 @@ use Rattle.network.specs.declared.Frame.{Frame}
 use Rattle.network.proofs.Numbers.{by-cond}
 use Rattle.wkt.specs.declared.Cursor.{Cursor}
 use Rattle.wkt.specs.Text.{placeText, bracket, comma, pointsText, linesText, multilinestring, empty, textOf, pointsOf}
-use Rattle.wkt.specs.Parts.{linesFrom, total, Listed, lineAt, linesAfter, pointsAt, Reached, fromLine, leftOf, endText, beforeText, pieceOf, nextOf}
+use Rattle.wkt.specs.Parts.{linesFrom, total, Printable, lineAt, linesAfter, pointsAt, Reached, fromLine, leftOf, endText, beforeText, pieceOf, nextOf}
 
 -- ---- counts
 
@@ -68,7 +68,7 @@ module _ (levels : List ℕ) (f : Frame) (v : ℕ) (listed counts closed : List 
   pub reached-first : total counts ≡ length listed → (c : Cursor) → (c .line ≡ 0) × ((c .start ≡ 0) × (c .point ≡ 0)) → Reached listed counts closed c
   reached-first s c h = record { line = omega (arith, h .0); start = rw (h .0, h .1 .0) (omega arith); point = omega (arith, h .1 .1) }
 
-  module _ (k : Listed levels f v listed counts closed) (c : Cursor) (r : Reached listed counts closed c) where
+  module _ (k : Printable levels f v listed counts closed) (c : Cursor) (r : Reached listed counts closed c) where
     -- ---- past the last line
 
     module _ (e : c .line ≡ length counts) where

@@ -23,7 +23,7 @@ total [] = 0
 total (m ∷ ms) = m + total ms
 
 -- crossed edges of a checked network, listed in lines of one edge or more
-pub record Listed (levels : List ℕ) (f : Frame) (v : ℕ) (listed counts closed : List ℕ) : Type 0 where
+pub record Printable (levels : List ℕ) (f : Frame) (v : ℕ) (listed counts closed : List ℕ) : Type 0 where
   pub checked : Checked levels f
   pub crossing : (i : ℕ) → i < length listed → (getD listed i 0 < edges (f .columns) (f .rows)) × (crossedAt levels (f .columns) (f .rows) v (getD listed i 0) ≡ true)
   pub some : (k : ℕ) → k < length counts → 0 < getD counts k 0

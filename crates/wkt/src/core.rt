@@ -5,7 +5,7 @@ ghost use mathlib.Core.List.{[]};
 ghost use Prim.Native.Nat.{_+_, _≤_, _<_};
 ghost use lib.ListN.{length};
 ghost use Rattle.wkt.specs.Text.{textOf};
-ghost use Rattle.wkt.specs.Parts.{Listed, Reached, Printed, linesFrom};
+ghost use Rattle.wkt.specs.Parts.{Printable, Reached, Printed, linesFrom};
 use crate::Cursor;
 use crate::Part;
 use crate::put::put_step;
@@ -33,7 +33,7 @@ pub fn print_part(
     from: Cursor,
     room: &mut [u8],
 ) -> Part
-    requires { ⌜ Listed (now levels) frame v (now edges) (now counts) (now closed) × Reached (now edges) (now counts) (now closed) from ⌝ }
+    requires { ⌜ Printable (now levels) frame v (now edges) (now counts) (now closed) × Reached (now edges) (now counts) (now closed) from ⌝ }
     ensures { λ r. ⌜ Printed (now (levels .entry)) frame v (now (edges .entry)) (now (counts .entry)) (now (closed .entry)) from (now (room .entry)) r (now (room .exit)) ⌝ }
 {
     let mut piece = [0u8; 64];
@@ -66,7 +66,7 @@ pub fn text_size(
     counts: &[u32],
     closed: &[u32],
 ) -> usize
-    requires { ⌜ Listed (now levels) frame v (now edges) (now counts) (now closed) ⌝ }
+    requires { ⌜ Printable (now levels) frame v (now edges) (now counts) (now closed) ⌝ }
     ensures { λ r. ⌜ r ≡ length (textOf (now (levels .entry)) frame v (linesFrom (now (edges .entry)) (now (counts .entry)) (now (closed .entry)))) ⌝ }
 {
     let mut piece = [0u8; 64];

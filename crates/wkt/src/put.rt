@@ -8,7 +8,7 @@ ghost use Rattle.text.specs.Put.{Wrote};
 ghost use Rattle.network.specs.Edges.{edges, Checked};
 ghost use Rattle.network.specs.Crossed.{crossedAt};
 ghost use Rattle.wkt.specs.Text.{showThree, showMetres, showSpot, placeText};
-ghost use Rattle.wkt.specs.Parts.{Listed, Reached, endText, beforeText, pieceOf, nextOf};
+ghost use Rattle.wkt.specs.Parts.{Printable, Reached, endText, beforeText, pieceOf, nextOf};
 use crate::Cursor;
 use crate::Part;
 use crate::Spot;
@@ -103,7 +103,7 @@ pub(crate) fn put_step(
     at: Cursor,
     piece: &mut [u8],
 ) -> Part
-    requires { ⌜ (Listed (now levels) frame v (now listed) (now counts) (now closed) × Reached (now listed) (now counts) (now closed) at) × ((at .line ≤ length (now counts)) × (64 ≤ length (now piece))) ⌝ }
+    requires { ⌜ (Printable (now levels) frame v (now listed) (now counts) (now closed) × Reached (now listed) (now counts) (now closed) at) × ((at .line ≤ length (now counts)) × (64 ≤ length (now piece))) ⌝ }
     ensures { λ r. ⌜ (r .next ≡ nextOf (now (counts .entry)) (now (closed .entry)) at) × Wrote (now (piece .entry)) 0 (pieceOf (now (levels .entry)) frame v (now (listed .entry)) (now (counts .entry)) (now (closed .entry)) at) (now (piece .exit)) (r .size) ⌝ }
 {
     let line = at.line;
