@@ -3,3 +3,4 @@ pub mod Tracing
 pub mod Listings
 pub mod Buffers
 pub mod Handing
+pub mod Worked
