@@ -4,4 +4,5 @@ pub mod Ends
 pub mod Zero
 pub mod Fill
 pub mod Rooms
+pub mod Lends
 pub mod Ranges
