@@ -6,3 +6,4 @@ pub mod RowLaws
 pub mod FileLaws
 pub mod StoreLaws
 pub mod ReadLaws
+pub mod WriteLaws

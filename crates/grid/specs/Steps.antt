@@ -5,15 +5,16 @@ use mathlib.Core.List.{List, [], _∷_, _++_, map}
 use mathlib.Core.Bool.{Bool, true, false, cond, _&&_, _||_, not}
 use lib.ListN.{length, getD, take, drop}
 use lib.Dec.{eqb, leb}
-use Rattle.text.specs.Number.{wholeOf, levelOf, isGot}
+use Rattle.text.specs.Number.{wholeOf, levelOf, isGot, showLevel}
 use Rattle.text.specs.Line.{linesOf}
 use Rattle.text.specs.declared.number.Number.the-variants as number
 use Rattle.refusal.specs.Refuse.{refuse}
-use Rattle.network.specs.Limits.{mostLevel}
+use Rattle.network.specs.Limits.{mostLevel, mostOrigin}
 use Rattle.network.specs.Refusals.{sided, placed}
 use Rattle.network.specs.declared.Frame.{Frame}
 use Rattle.grid.specs.Row.{all, valuesOf, given, isValue, isRow, hasValues, levelIn}
-use Rattle.grid.specs.File.{unnamed, numberAfter, names, namesWell, spelledIn, headOn, frameOf, sixth, noDataOf, namedOn, rowsOf, firstOff, faultLine, rowsFit}
+use Rattle.grid.specs.File.{ncols, nrows, xllcenter, yllcenter, cellsize, unnamed, numberAfter, names, namesWell, spelledIn, headOn, frameOf, sixth, noDataOf, namedOn, rowsOf, firstOff, faultLine, rowsFit}
+use Rattle.grid.specs.Write.{keyLine}
 use Rattle.grid.specs.declared.head.Line.{Line}
 use Rattle.grid.specs.declared.head.Keyed.{Keyed}
 use Rattle.grid.specs.declared.head.Keyed.the-variants as keyed
@@ -128,3 +129,32 @@ pub record Rows (s : List ℕ) (from columns rows : ℕ) : Type 0 where
 -- the refusal of a text on its layout: 12 where its rows don't fit or its frame is out of range, then 13 for a value that isn't sound
 abbrev pub shapeRefusal : Frame → Bool → Bool → ℕ
 shapeRefusal f fits sound = refuse 12 (fits && sided f && placed f) (refuse 13 sound 0)
+
+-- ---- writing
+
+-- the bytes of levels, each with the byte that follows it
+unfoldable pub sizesOf : List ℕ → ℕ
+sizesOf [] = 0
+sizesOf (v ∷ vs) = length (showLevel v) + 1 + sizesOf vs
+
+-- no level is too high, and no header number has more than seven digits
+abbrev pub Quiet : List ℕ → Type 0
+Quiet levels = (i : ℕ) → getD levels i 0 ≤ mostLevel
+
+pub record Near (f : Frame) : Type 0 where
+  pub columns-most : f .columns ≤ mostOrigin
+  pub rows-most : f .rows ≤ mostOrigin
+  pub spacing-most : f .spacing ≤ mostOrigin
+  pub west-most : f .west ≤ mostOrigin
+  pub south-most : f .south ≤ mostOrigin
+
+-- a line with its end
+abbrev pub ended : List ℕ → List ℕ
+ended line = line ++ (13 ∷ 10 ∷ [])
+
+-- the header lines in two parts
+abbrev pub sideLines : Frame → List (List ℕ)
+sideLines f = keyLine ncols (f .columns) ∷ keyLine nrows (f .rows) ∷ []
+
+abbrev pub placeLines : Frame → List (List ℕ)
+placeLines f = keyLine xllcenter (f .west) ∷ keyLine yllcenter (f .south) ∷ keyLine cellsize (f .spacing) ∷ []
