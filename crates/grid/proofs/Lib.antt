@@ -7,3 +7,5 @@ pub mod FileLaws
 pub mod StoreLaws
 pub mod ReadLaws
 pub mod WriteLaws
+pub mod Values
+pub mod Back
