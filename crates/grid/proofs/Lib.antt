@@ -9,3 +9,4 @@ pub mod ReadLaws
 pub mod WriteLaws
 pub mod Values
 pub mod Back
+pub mod Again

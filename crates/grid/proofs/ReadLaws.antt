@@ -82,7 +82,7 @@ fine true false e = absurd (omega arith)
 fine false b e = absurd (omega arith)
 
 -- as many levels as points, where the rows fit
-fit-both : (f : Frame) (rows : List (List ℕ)) → rowsFit f rows ≡ true → (length rows ≡ f .rows) × (all (hasValues (f .columns)) rows ≡ true)
+pub fit-both : (f : Frame) (rows : List (List ℕ)) → rowsFit f rows ≡ true → (length rows ≡ f .rows) × (all (hasValues (f .columns)) rows ≡ true)
 unfolding rowsFit
 fit-both f rows e =
     (eqb-true (length rows) (f .rows) (and-left (eqb (length rows) (f .rows)) (all (hasValues (f .columns)) rows) e), and-right (eqb (length rows) (f .rows)) (all (hasValues (f .columns)) rows) e)
