@@ -48,12 +48,12 @@ pub(crate) fn store_rows(s: &[u8], from: usize, columns: usize, rows: usize, out
     ensures { λ _. ⌜ now (out .exit) ≡ over (levelsOf (linesAt (now (s .entry)) from)) (now (out .entry)) ⌝ }
 {
     let mut at = from;
-    let mut left = rows;
+    let mut row = 0;
     while at < s.len() {
         let line = line_at(s, at);
         let end = line.end;
-        left -= 1;
-        store_row(&s[at..end], out, left * columns);
+        row += 1;
+        store_row(&s[at..end], out, (rows - row) * columns);
         at = line.next;
     }
 }
