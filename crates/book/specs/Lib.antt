@@ -1,0 +1,4 @@
+pub mod Columns
+pub mod Calls
+pub mod History
+pub mod Rows

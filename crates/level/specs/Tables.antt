@@ -1,0 +1,28 @@
+-- The two tables of document 01, "Energy and load", by their rules.
+-- Assumes nothing.
+use Prim.Native.Nat.{ℕ, zero, suc, _+_, _*_, _^_, _<_}
+use mathlib.Core.Path.{_≡_}
+use mathlib.Core.List.{List}
+use mathlib.Core.Bool.{cond}
+use lib.Dec.{leb}
+use lib.ListN.{getD}
+
+-- the largest x up to n with x ^ p at most v
+unfoldable pub largestUpTo : ℕ → ℕ → ℕ → ℕ
+largestUpTo p v zero = zero
+largestUpTo p v (suc n) = cond (leb (suc n ^ p) v) (suc n) (largestUpTo p v n)
+
+-- the largest whole number whose p-th power is at most v, for p and v of at least 1
+unfoldable pub largestRoot : ℕ → ℕ → ℕ
+largestRoot p v = largestUpTo p v v
+
+-- A(k) and B(k)
+unfoldable pub tableA : ℕ → ℕ
+tableA k = largestRoot 1000 (10 ^ (6000 + k))
+
+unfoldable pub tableB : ℕ → ℕ
+tableB k = largestRoot 2000 (10 ^ (12000 + 2 * k + 1))
+
+-- xs holds the first n numbers of f
+abbrev pub Holds : (f : ℕ → ℕ) (n : ℕ) → List ℕ → Type 0
+Holds f n xs = (k : ℕ) → k < n → getD xs k 0 ≡ f k

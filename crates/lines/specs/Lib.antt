@@ -1,0 +1,5 @@
+pub mod Picture
+pub mod Squares
+pub mod Crossings
+pub mod Contours
+pub mod Once

@@ -1,0 +1,73 @@
+-- `mapping::edge::crossing_of` meets its contract. Assumes nothing.
+use mathlib.Core.Path.{_≡_, sym, subst, _∙_}
+use mathlib.Core.Bool.{true}
+use Prim.Native.Nat.{_<_}
+use native.Mathlib.Omega.{arith}
+use borrow.Author.Tests.{lt-ltb, le-ltb}
+use denote.Ref.{now}
+use Rattle.network.specs.declared.Edge.{Edge}
+use Rattle.network.specs.Edges.{edges, WithinEdge}
+use Rattle.network.specs.Crossed.{crossedEdge}
+use Rattle.network.proofs.Numbers.{edge-within}
+use borrow.Author.Needs.{needs}
+use Rattle.mapping.proofs.edge.crossing_of.Statement.{statement}
+use Rattle.mapping.proofs.edge.crossing_of.Tie as tie
+
+abbrev start : tie.After-edge-count → tie.Start
+start c = c .before .before .before .before
+
+inside : (c : tie.Then1) → let a = start (c .before) .args in a .n < edges (a .frame .columns) (a .frame .rows)
+inside c = omega (arith, c .if1 .taken, c .before .edge-count .ensures)
+
+cast-nx : tie.Need-cast-nx
+cast-nx c = search needs
+
+cast-ny : tie.Need-cast-ny
+cast-ny c = search needs
+
+edge-count-requires : tie.Need-edge-count-requires
+edge-count-requires c κs = search needs
+
+crossed-at-requires : tie.Need-crossed-at-requires
+crossed-at-requires c κs = search needs
+
+edge-at-requires : tie.Need-edge-at-requires
+edge-at-requires c κs = search needs
+
+along-edge-requires : tie.Need-along-edge-requires
+along-edge-requires c κs =
+    let s = start (c .before .before .before .before) in
+    let a = s .args in
+    let e = sym (c .edge-at .ensures) in (
+      s .pre .sized,
+      (
+        subst (WithinEdge (a .frame .columns) (a .frame .rows)) e (edge-within (a .frame .columns) (a .frame .rows) (s .pre .sized .sides .wide) (a .n) (inside (c .before .before .before))),
+        subst (λ (e : Edge). crossedEdge (now (a .levels)) (a .frame .columns) (a .v) e ≡ true) e (sym (c .before .before .crossed-at .ensures) ∙ c .before .if2 .taken),
+      ),
+    )
+
+returns : tie.Need-returns
+returns c =
+    rw (lt-ltb _ _ (inside (c .before .before .before .before)), sym (c .before .before .before .crossed-at .ensures) ∙ c .before .before .if2 .taken) (c .along-edge .ensures ∙ rw (c .before .edge-at .ensures))
+
+returns-2 : tie.Need-returns-2
+returns-2 c = rw (lt-ltb _ _ (inside (c .before .before)), sym (c .before .crossed-at .ensures) ∙ c .if2 .left)
+
+returns-3 : tie.Need-returns-3
+returns-3 c =
+    let a = start (c .before) .args in
+    rw (le-ltb (a .n) (edges (a .frame .columns) (a .frame .rows)) (omega (arith, c .if1 .left, c .before .edge-count .ensures)))
+
+pub crossing-of-spec : {M : Type 1} → statement M
+crossing-of-spec =
+    tie.close
+    (tie.spec
+    cast-nx
+    cast-ny
+    edge-count-requires
+    crossed-at-requires
+    edge-at-requires
+    along-edge-requires
+    returns
+    returns-2
+    returns-3)

@@ -1,0 +1,82 @@
+-- `mapping::place::locate_at` meets its contract. Assumes nothing.
+use mathlib.Core.Path.{sym, subst, _∙_}
+use Prim.Native.Nat.{_<_}
+use native.Mathlib.Omega.{arith}
+use borrow.Author.Tests.{le-ltb}
+use Rattle.network.specs.Limits.{mostSide}
+use Rattle.network.specs.Edges.{edges, WithinEdge}
+use Rattle.network.proofs.Numbers.{edge-within}
+use Rattle.mapping.specs.Places.{rowOf, colOf}
+use Rattle.mapping.proofs.Ends.{ends-small}
+use borrow.Author.Needs.{needs}
+use Rattle.mapping.proofs.place.locate_at.Statement.{statement}
+use Rattle.mapping.proofs.place.locate_at.Tie as tie
+
+abbrev start : tie.After-edge-count → tie.Start
+start c = c .before .before .before .before
+
+small : (c : tie.After-edge-at) → (rowOf (c .edge-at .result) < mostSide) × (colOf (c .edge-at .result) < mostSide)
+small c =
+    let s = start (c .before .before .before) in
+    let f = s .args .frame in
+    ends-small (c .edge-at .result) (s .pre .sized .sides)
+    (subst (WithinEdge (f .columns) (f .rows)) (sym (c .edge-at .ensures))
+    (edge-within (f .columns) (f .rows) (s .pre .sized .sides .wide) (s .args .n) (omega (arith, c .before .before .if1 .taken, c .before .before .before .edge-count .ensures))))
+
+cast-nx : tie.Need-cast-nx
+cast-nx c = search needs
+
+cast-ny : tie.Need-cast-ny
+cast-ny c = search needs
+
+edge-count-requires : tie.Need-edge-count-requires
+edge-count-requires c κs = search needs
+
+crossing-of-requires : tie.Need-crossing-of-requires
+crossing-of-requires c κs = search needs
+
+edge-at-requires : tie.Need-edge-at-requires
+edge-at-requires c κs = search needs
+
+row-of-requires : tie.Need-row-of-requires
+row-of-requires c κs = search needs
+
+cast-row : tie.Need-cast-row
+cast-row c = omega (arith, c .row-of .ensures, small (c .before) .0)
+
+col-of-requires : tie.Need-col-of-requires
+col-of-requires c κs = search needs
+
+cast-col : tie.Need-cast-col
+cast-col c = omega (arith, c .col-of .ensures, small (c .before .before) .1)
+
+locate-crossing-requires : tie.Need-locate-crossing-requires
+locate-crossing-requires c κs =
+    let s = start (c .before .before .before .before .before) in
+    ((omega (arith, c .before .row-of .ensures, small (c .before .before) .0), omega (arith, c .col-of .ensures, small (c .before .before) .1)), (s .pre .near, (s .pre .west, s .pre .south)))
+
+returns : tie.Need-returns
+returns c =
+    c .locate-crossing .ensures ∙ rw (c .before .before .before .before .crossing-of .ensures, c .before .before .row-of .ensures, c .before .col-of .ensures, c .before .before .before .edge-at .ensures)
+
+returns-2 : tie.Need-returns-2
+returns-2 c =
+    let a = start (c .before) .args in
+    rw (le-ltb (a .n) (edges (a .frame .columns) (a .frame .rows)) (omega (arith, c .if1 .left, c .before .edge-count .ensures)))
+
+pub locate-at-spec : {M : Type 1} → statement M
+locate-at-spec =
+    tie.close
+    (tie.spec
+    cast-nx
+    cast-ny
+    edge-count-requires
+    crossing-of-requires
+    edge-at-requires
+    row-of-requires
+    cast-row
+    col-of-requires
+    cast-col
+    locate-crossing-requires
+    returns
+    returns-2)

@@ -1,0 +1,6 @@
+pub mod Aircraft
+pub mod Group
+pub mod Kind
+pub mod Limits
+pub mod Period
+pub mod Rules

@@ -1,0 +1,36 @@
+// What the crates above ask of a movement whose numbers they have already found in range.
+use crate::aircraft::Aircraft;
+use crate::kind::Kind;
+use crate::period::Period;
+ghost use mathlib.Core.Path.{_≡_};
+ghost use Prim.Native.Nat.{_<_};
+ghost use Rattle.movement.specs.Limits.{groupCount, typeCount, kindCount, secondsADay};
+ghost use Rattle.movement.specs.Group.{groupNumber, groupOf, groupPeriod};
+ghost use Rattle.movement.specs.Period.{weightOf};
+
+// The number of a group.
+fn number_of(aircraft: Aircraft, kind: Kind, period: Period) -> u32
+    ensures { λ r. ⌜ r ≡ groupNumber aircraft kind period ⌝ }
+{
+    6 * aircraft.number() + 3 * kind.number() + period.number()
+}
+
+// The group of a movement.
+pub fn group_of(aircraft: u32, kind: u32, second: u32) -> u32
+    requires { ⌜ (aircraft < typeCount) × (kind < kindCount) × (second < secondsADay) ⌝ }
+    ensures { λ r. ⌜ r ≡ groupOf aircraft kind second ⌝ }
+{
+    number_of(
+        Aircraft::numbered(aircraft),
+        Kind::numbered(kind),
+        Period::at(second),
+    )
+}
+
+// What is added to the levels of a group's movements, by its period.
+pub fn group_weight(group: u32) -> u32
+    requires { ⌜ group < groupCount ⌝ }
+    ensures { λ r. ⌜ r ≡ weightOf (groupPeriod group) ⌝ }
+{
+    Period::numbered(group % 3).weight()
+}

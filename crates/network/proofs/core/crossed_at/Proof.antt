@@ -1,0 +1,23 @@
+-- `network::core::crossed_at` meets its contract. Assumes nothing.
+use mathlib.Core.Path.{_≡_, refl, sym, ap, subst, _∙_}
+use native.Mathlib.Omega.{arith}
+use Rattle.network.specs.Edges.{WithinEdge}
+use Rattle.network.proofs.Numbers.{edge-within}
+use borrow.Author.Needs.{needs}
+use Rattle.network.proofs.core.crossed_at.Statement.{statement}
+use Rattle.network.proofs.core.crossed_at.Tie as tie
+
+edge-at-requires : tie.Need-edge-at-requires
+edge-at-requires c κs = search needs
+
+crossed-edge-requires : tie.Need-crossed-edge-requires
+crossed-edge-requires c κs =
+    let s = c .before .before in
+    let w = subst (WithinEdge (s .args .nx) (s .args .ny)) (sym (c .edge-at .ensures)) (edge-within (s .args .nx) (s .args .ny) (s .pre .0 .sides .wide) (s .args .n) (s .pre .1)) in
+    (s .pre .0, w)
+
+returns : tie.Need-returns
+returns c = c .crossed-edge .ensures ∙ rw (c .before .edge-at .ensures)
+
+pub crossed-at-spec : {M : Type 1} → statement M
+crossed-at-spec = tie.close (tie.spec edge-at-requires crossed-edge-requires returns)

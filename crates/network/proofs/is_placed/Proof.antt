@@ -1,0 +1,21 @@
+-- `network::is_placed` meets its contract. Assumes nothing.
+use mathlib.Core.Path.{sym, _∙_}
+use borrow.Author.Tests.{le-leb, lt-leb}
+use borrow.Author.Needs.{needs}
+use Rattle.network.proofs.is_placed.Statement.{statement}
+use Rattle.network.proofs.is_placed.Tie as tie
+
+lies-between-requires : tie.Need-lies-between-requires
+lies-between-requires c κs = search needs
+
+returns : tie.Need-returns
+returns c = rw (sym (c .before .before .before .before .lies-between .ensures) ∙ c .before .before .before .if1 .taken, le-leb _ _ (c .before .if2 .taken))
+
+returns-2 : tie.Need-returns-2
+returns-2 c = rw (sym (c .before .before .before .lies-between .ensures) ∙ c .before .before .if1 .taken, lt-leb _ _ (c .if2 .left))
+
+returns-3 : tie.Need-returns-3
+returns-3 c = rw (sym (c .before .lies-between .ensures) ∙ c .if1 .left)
+
+pub is-placed-spec : {M : Type 1} → statement M
+is-placed-spec = tie.close (tie.spec lies-between-requires returns returns-2 returns-3)

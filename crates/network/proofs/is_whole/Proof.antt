@@ -1,0 +1,28 @@
+-- `network::is_whole` meets its contract. Assumes nothing.
+use mathlib.Core.Path.{sym, _∙_}
+use borrow.Author.Needs.{needs}
+use Rattle.network.proofs.is_whole.Statement.{statement}
+use Rattle.network.proofs.is_whole.Tie as tie
+
+is-sided-requires : tie.Need-is-sided-requires
+is-sided-requires c κs = search needs
+
+is-placed-requires : tie.Need-is-placed-requires
+is-placed-requires c κs = search needs
+
+is-filled-requires : tie.Need-is-filled-requires
+is-filled-requires c κs = search needs
+
+returns : tie.Need-returns
+returns c = rw (sym (c .before .before .before .before .is-sided .ensures) ∙ c .before .before .before .if1 .taken, sym (c .before .before .is-placed .ensures) ∙ c .before .if2 .taken) (c .is-filled .ensures)
+
+returns-2 : tie.Need-returns-2
+returns-2 c = rw (sym (c .before .before .before .is-sided .ensures) ∙ c .before .before .if1 .taken, sym (c .before .is-placed .ensures) ∙ c .if2 .left)
+
+returns-3 : tie.Need-returns-3
+returns-3 c = rw (sym (c .before .is-sided .ensures) ∙ c .if1 .left)
+
+pub is-whole-spec : {M : Type 1} → statement M
+is-whole-spec =
+    tie.close
+    (tie.spec is-sided-requires is-placed-requires is-filled-requires returns returns-2 returns-3)

@@ -1,0 +1,4 @@
+pub mod Limits
+pub mod Edges
+pub mod Crossed
+pub mod Refusals

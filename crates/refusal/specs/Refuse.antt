@@ -1,0 +1,8 @@
+-- The order of refusals: document 01, "Refusal numbers".
+-- Assumes nothing.
+use Prim.Native.Nat.{ℕ}
+use mathlib.Core.Bool.{Bool, cond}
+
+-- `refuse n ok rest`: refusal n where `ok` fails, else what the rest says; 0 is no refusal
+abbrev pub refuse : ℕ → Bool → ℕ → ℕ
+refuse n ok rest = cond ok rest n

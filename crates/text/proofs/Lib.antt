@@ -1,0 +1,10 @@
+-- Laws that the proofs of several functions and of other crates cite.
+pub mod Digits
+pub mod Shown
+pub mod Exact
+pub mod Free
+pub mod Fields
+pub mod Lines
+pub mod Sames
+pub mod Indices
+pub mod Puts

@@ -1,0 +1,34 @@
+-- Laws of texts that are compared. Assumes nothing.
+use Prim.Native.Nat.{ℕ, zero, suc, _+_, _≤_, _<_}
+use mathlib.Core.Path.{_≡_, refl, sym, ap, _∙_}
+use mathlib.Core.List.{List, [], _∷_}
+use mathlib.Core.Bool.{Bool, true, false, _&&_, and-false}
+use native.Mathlib.Numerals.{add-one}
+use native.Mathlib.Omega.{arith}
+use borrow.Author.Tests.{eq-eqb, ne-eqb}
+use lib.ListN.{length, getD, drop, drop-of-length-le}
+use lib.Seq.{drop-cons}
+use lib.Dec.{eqb}
+use Rattle.text.specs.Same.{sameText}
+
+-- texts of unlike lengths
+pub same-length : (a b : List ℕ) → (length a ≡ length b → ⊥) → sameText a b ≡ false
+unfolding sameText
+same-length [] [] n = absurd (n refl)
+same-length [] (y ∷ b) n = refl
+same-length (x ∷ a) [] n = refl
+same-length (x ∷ a) (y ∷ b) n = rw (same-length a b (λ e. n (ap suc e))) (and-false (eqb x y))
+
+-- one byte further along both
+module _ (a b : List ℕ) (i : ℕ) (ha : i < length a) (hb : i < length b) where
+  pub same-hit : getD a i 0 ≡ getD b i 0 → sameText (drop i a) (drop i b) ≡ sameText (drop (i + 1) a) (drop (i + 1) b)
+  unfolding sameText
+  same-hit e = rw (add-one i, drop-cons a i 0 ha, drop-cons b i 0 hb, eq-eqb (getD a i 0) (getD b i 0) e)
+
+  pub same-miss : (getD a i 0 ≡ getD b i 0 → ⊥) → sameText (drop i a) (drop i b) ≡ false
+  unfolding sameText
+  same-miss e = rw (drop-cons a i 0 ha, drop-cons b i 0 hb, ne-eqb (getD a i 0) (getD b i 0) e)
+
+pub same-end : (a b : List ℕ) (i : ℕ) → length a ≤ i → length b ≤ i → sameText (drop i a) (drop i b) ≡ true
+unfolding sameText
+same-end a b i ha hb = rw (drop-of-length-le a ha, drop-of-length-le b hb)

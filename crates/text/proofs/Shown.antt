@@ -1,0 +1,146 @@
+-- What is written reads back: of a whole number and of a level. Assumes nothing.
+use Prim.Native.Nat.{ℕ, zero, suc, _+_, _-_, _*_, _/_, _%_, _<_, _≤_, _^_}
+use mathlib.Core.Path.{_≡_, refl, sym, ap, _∙_}
+use mathlib.Core.List.{List, [], _∷_, _++_}
+use mathlib.Core.Bool.{Bool, true, false, cond, _&&_, not, and-false}
+use native.Mathlib.Nat.{pow-suc, pow-zero}
+use native.Mathlib.Omega.{arith}
+use borrow.Author.Tests.{le-leb, lt-ltb, le-ltb, ltb-true, ltb-false, ne-eqb, eq-eqb}
+use lib.ListN.{length, getD, take, drop, length-append, List·getD-append}
+use lib.Seq.{take-append-seam, drop-append-add, getD-append-seam}
+use lib.Dec.{ltb, eqb}
+use Rattle.text.specs.Number.{isDigit, digitsOf, wholeOf, levelOf, joined, shown, showWhole, showTwo, showLevel}
+use Rattle.text.specs.declared.number.Number.the-variants.{Got, Off}
+use Rattle.text.proofs.Digits.{either, digit-yes}
+
+-- the two ways of `shown`
+pub shown-one : (k n : ℕ) → n < 10 → shown (suc k) n ≡ (48 + n) ∷ []
+unfolding shown
+shown-one k n h = simp (lt-ltb n 10 h)
+
+pub shown-more : (k n : ℕ) → 10 ≤ n → shown (suc k) n ≡ shown k (n / 10) ++ ((48 + n % 10) ∷ [])
+unfolding shown
+shown-more k n h = simp (le-ltb n 10 h)
+
+tenth : (k n : ℕ) → n < 10 ^ suc k → n / 10 < 10 ^ k
+tenth k n h = let q = pow-suc 10 k in omega arith
+
+-- more digits allowed than there are change nothing
+pub shown-fuel : (k n : ℕ) → n < 10 ^ suc k → shown (suc (suc k)) n ≡ shown (suc k) n
+shown-fuel zero n h = shown-one 1 n (omega arith) ∙ sym (shown-one 0 n (omega arith))
+shown-fuel (suc k) n h =
+    either (ltb n 10)
+    (λ yes. let y = ltb-true n 10 yes in shown-one (suc (suc k)) n y ∙ sym (shown-one (suc k) n y))
+    (λ no. let m = ltb-false n 10 no in
+    shown-more (suc (suc k)) n m
+    ∙ ap (λ t. t ++ ((48 + n % 10) ∷ [])) (shown-fuel k (n / 10) (tenth (suc k) n h))
+    ∙ sym (shown-more (suc k) n m))
+
+-- a whole number from its tenth and its last digit
+pub whole-one : (n : ℕ) → n < 10 → showWhole n ≡ (48 + n % 10) ∷ []
+whole-one n h = let e : n % 10 ≡ n = omega arith in rw e (shown-one 6 n h)
+
+pub whole-more : (n : ℕ) → 10 ≤ n → n < 10000000 → showWhole n ≡ showWhole (n / 10) ++ ((48 + n % 10) ∷ [])
+whole-more n h l = shown-more 6 n h ∙ ap (λ t. t ++ ((48 + n % 10) ∷ [])) (sym (shown-fuel 5 (n / 10) (omega arith)))
+
+pub whole-longer : (n : ℕ) → 10 ≤ n → n < 10000000 → length (showWhole n) ≡ length (showWhole (n / 10)) + 1
+whole-longer n h l = ap length (whole-more n h l) ∙ length-append (showWhole (n / 10)) ((48 + n % 10) ∷ [])
+
+-- one digit more at the end of a run
+digits-snoc : (s : List ℕ) (v m d : ℕ) → d ≤ 9 → digitsOf v s ≡ Got m → digitsOf v (s ++ ((48 + d) ∷ [])) ≡ Got (m * 10 + d)
+unfolding digitsOf
+digits-snoc [] v m d h e =
+    let q : v ≡ m = cc in
+    let w : v * 10 + (48 + d - 48) ≡ m * 10 + d = omega arith in
+    rw (digit-yes (48 + d) (omega arith) (omega arith), w)
+digits-snoc (c ∷ s) v m d h e =
+    either (isDigit c)
+    (λ yes. rw yes (digits-snoc s (v * 10 + (c - 48)) m d h (rw yes at e)))
+    (λ no. let x : Off ≡ Got m = rw no at e in let z : _≡_ {A = ℕ} 0 1 = cc in absurd (omega arith))
+
+-- the digits spell the number
+pub shown-digits : (k n : ℕ) → n < 10 ^ k → digitsOf 0 (shown k n) ≡ Got n
+unfolding shown digitsOf
+shown-digits zero n h = let q : n ≡ 0 = omega (arith, pow-zero 10) in rw q
+shown-digits (suc k) n h =
+    either (ltb n 10)
+    (λ yes. let lt = ltb-true n 10 yes in
+    let w : 0 * 10 + (48 + n - 48) ≡ n = omega arith in
+    rw (yes, digit-yes (48 + n) (omega arith) (omega arith), w))
+    (λ no. let w : n / 10 * 10 + n % 10 ≡ n = omega arith in
+    rw no (digits-snoc (shown k (n / 10)) 0 (n / 10) (n % 10) (omega arith) (shown-digits k (n / 10) (tenth k n h)) ∙ ap Got w))
+
+-- a number under 10 to the w has at most w digits
+pub shown-width : (k w n : ℕ) → n < 10 ^ suc w → length (shown k n) ≤ suc w
+unfolding shown
+shown-width zero w n h = omega arith
+shown-width (suc k) zero n h = rw (lt-ltb n 10 (omega arith)) (omega arith)
+shown-width (suc k) (suc w) n h =
+    either (ltb n 10)
+    (λ yes. rw yes (omega arith))
+    (λ no. rw no (simp length-append (omega (arith, shown-width k w (n / 10) (tenth (suc w) n h)))))
+
+pub shown-least : (k n : ℕ) → 1 ≤ length (shown (suc k) n)
+unfolding shown
+shown-least k n =
+    either (ltb n 10)
+    (λ yes. rw yes (omega arith))
+    (λ no. rw no (simp length-append (omega arith)))
+
+-- no zero leads, unless the number is zero itself
+shown-head : (k n : ℕ) → 0 < n → n < 10 ^ k → getD (shown k n) 0 0 ≡ 48 → ⊥
+unfolding shown
+shown-head zero n p h e = omega (arith, pow-zero 10)
+shown-head (suc zero) n p h e = let q : 48 + n ≡ 48 = rw (shown-one 0 n (omega arith)) at e in omega arith
+shown-head (suc (suc k)) n p h e =
+    either (ltb n 10)
+    (λ yes. let q : 48 + n ≡ 48 = rw (shown-one (suc k) n (ltb-true n 10 yes)) at e in omega arith)
+    (λ no. let m = ltb-false n 10 no in
+    let q = rw (shown-more (suc k) n m, List·getD-append (shown (suc k) (n / 10)) ((48 + n % 10) ∷ []) 0 0 (shown-least k (n / 10))) at e in
+    shown-head (suc k) (n / 10) (omega arith) (tenth (suc k) n h) q)
+
+zero-spare : (n : ℕ) → n ≡ 0 → ltb 1 (length (showWhole n)) ≡ false
+unfolding shown
+zero-spare n z = rw z
+
+-- a whole number of at most seven digits reads back
+pub whole-back : (n : ℕ) → n < 10000000 → wholeOf (showWhole n) ≡ Got n
+unfolding wholeOf
+whole-back n h =
+    let s = showWhole n in
+    let spare : (ltb 1 (length s) && eqb (getD s 0 0) 48) ≡ false =
+    either (ltb n 1)
+    (λ yes. let z : n ≡ 0 = omega (arith, ltb-true n 1 yes) in rw (zero-spare n z))
+    (λ no. let p = ltb-false n 1 no in rw (ne-eqb (getD s 0 0) 48 (shown-head 7 n (omega arith) h)) (and-false (ltb 1 (length s)))) in
+    rw (le-leb 1 (length s) (shown-least 6 n), le-leb (length s) 7 (shown-width 7 6 n h), spare) (shown-digits 7 n h)
+
+-- two digits of a number under a hundred
+pub two-back : (n : ℕ) → n < 100 → digitsOf 0 (showTwo n) ≡ Got n
+unfolding digitsOf
+two-back n h =
+    let w : (0 * 10 + (48 + n / 10 - 48)) * 10 + (48 + n % 10 - 48) ≡ n = omega arith in
+    rw (digit-yes (48 + n / 10) (omega arith) (omega arith), digit-yes (48 + n % 10) (omega arith) (omega arith), w)
+
+-- a level's text goes apart at its point
+pointed-back : (u t : List ℕ) → 1 ≤ length u → length u ≤ 3 → length t ≡ 2 → levelOf (u ++ 46 ∷ t) ≡ joined (wholeOf u) (digitsOf 0 t)
+unfolding levelOf
+pointed-back u t least most two =
+    let l : length (u ++ 46 ∷ t) ≡ length u + suc (length t) = length-append u (46 ∷ t) in
+    let p : length (u ++ 46 ∷ t) - 3 ≡ length u = omega arith in
+    rw (le-leb 4 (length (u ++ 46 ∷ t)) (omega arith), le-leb (length (u ++ 46 ∷ t)) 6 (omega arith), p, getD-append-seam u 46 t 0, take-append-seam u (46 ∷ t), drop-append-add u (46 ∷ t) 1)
+
+-- a level of at most 999.99 reads back
+pub level-back : (n : ℕ) → n < 100000 → levelOf (showLevel n) ≡ Got n
+level-back n h =
+    let w : n / 100 * 100 + n % 100 ≡ n = omega arith in
+    pointed-back (showWhole (n / 100)) (showTwo (n % 100)) (shown-least 6 (n / 100)) (shown-width 7 2 (n / 100) (omega arith)) refl
+    ∙ rw (whole-back (n / 100) (omega arith), two-back (n % 100) (omega arith), w)
+
+-- a level of at most 999.99 has at most six bytes
+pub level-most : (n : ℕ) → n < 100000 → length (showLevel n) ≤ 6
+level-most n h =
+    omega (arith, length-append (showWhole (n / 100)) (46 ∷ showTwo (n % 100)), shown-width 7 2 (n / 100) (omega arith))
+
+-- and at least four
+pub level-least : (n : ℕ) → 4 ≤ length (showLevel n)
+level-least n = omega (arith, length-append (showWhole (n / 100)) (46 ∷ showTwo (n % 100)), shown-least 6 (n / 100))

@@ -1,0 +1,58 @@
+-- `text::line::bare_length` meets its contract: each test on the way settles one of `bareLine`'s. Assumes nothing.
+use Prim.Native.Nat.{_+_, _-_}
+use mathlib.Core.Path.{_≡_, refl, sym}
+use native.Mathlib.Omega.{arith}
+use borrow.Author.Tests.{le-leb, lt-leb, eq-eqb, ne-eqb}
+use lib.ListN.{length, getD, take}
+use lib.Seq.{length-take-le}
+use Rattle.text.specs.Line.{bareLine}
+use borrow.Author.Needs.{needs}
+use Rattle.text.proofs.line.bare_length.Statement.{statement}
+use Rattle.text.proofs.line.bare_length.Tie as tie
+
+returns : tie.Need-returns
+unfolding bareLine
+returns c =
+    let s = c .before .args .s .now in
+    rw (lt-leb 2 (length s) (omega arith))
+
+shared-slice-read-if2 : tie.Need-shared-slice-read-if2
+shared-slice-read-if2 c = search needs
+
+returns-2 : tie.Need-returns-2
+unfolding bareLine
+returns-2 c =
+    let s = c .before .before .before .args .s .now in
+    rw (le-leb 2 (length s) (omega arith), ne-eqb (getD s (length s - 2) 0) 13 (c .if2 .taken))
+
+sub-if3 : tie.Need-sub-if3
+sub-if3 c = search needs
+
+shared-slice-read-if3 : tie.Need-shared-slice-read-if3
+shared-slice-read-if3 c = search needs
+
+returns-3 : tie.Need-returns-3
+unfolding bareLine
+returns-3 c =
+    let s = c .before .before .before .before .before .args .s .now in
+    let last : length s - 2 + 1 ≡ length s - 1 = omega arith in
+    rw (le-leb 2 (length s) (omega arith), eq-eqb (getD s (length s - 2) 0) 13 (c .before .before .if2 .left), last, ne-eqb (getD s (length s - 1) 0) 10 (c .if3 .taken))
+
+returns-4 : tie.Need-returns-4
+unfolding bareLine
+returns-4 c =
+    let s = c .before .before .before .before .before .args .s .now in
+    let last : length s - 2 + 1 ≡ length s - 1 = omega arith in
+    rw (le-leb 2 (length s) (omega arith), eq-eqb (getD s (length s - 2) 0) 13 (c .before .before .if2 .left), last, eq-eqb (getD s (length s - 1) 0) 10 (c .if3 .left)) (sym (length-take-le (length s - 2) s (omega arith)))
+
+pub bare-length-spec : {M : Type 1} → statement M
+bare-length-spec =
+    tie.close
+    (tie.spec
+    returns
+    shared-slice-read-if2
+    returns-2
+    sub-if3
+    shared-slice-read-if3
+    returns-3
+    returns-4)

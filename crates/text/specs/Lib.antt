@@ -1,0 +1,6 @@
+pub mod Number
+pub mod Field
+pub mod Line
+pub mod Same
+pub mod Index
+pub mod Put

@@ -1,0 +1,130 @@
+// Parts that ask something of their caller: a run of digits, where a field or a line ends, and writers into a buffer that has
+// room. A writer writes from a place on and answers the place past its text.
+use crate::number::Number;
+ghost use mathlib.Core.Path.{_≡_};
+ghost use Prim.Native.Nat.{_+_, _≤_, _<_};
+ghost use mathlib.Core.List.{[], _∷_};
+ghost use lib.ListN.{length, drop};
+ghost use Rattle.text.specs.Number.{digitsOf, showWhole, showTwo, showLevel};
+ghost use Rattle.text.specs.Field.{upTo};
+ghost use Rattle.text.specs.Line.{endAt, firstLine};
+ghost use Rattle.text.specs.Put.{Wrote};
+
+// The value of a run of at most seven digits.
+pub fn digits(s: &[u8]) -> Number
+    requires { ⌜ length (now s) ≤ 7 ⌝ }
+    ensures { λ r. ⌜ r ≡ digitsOf 0 (now (s .entry)) ⌝ }
+{
+    let mut value: u32 = 0;
+    let mut i = 0;
+    while i < s.len() {
+        let c = s[i];
+        if c < 48 {
+            return Number::Off;
+        }
+        if 57 < c {
+            return Number::Off;
+        }
+        value = value * 10 + (c - 48) as u32;
+        i += 1;
+    }
+    Number::Got(value)
+}
+
+// The place of the next parting byte `d` at or after `at`, or the text's length.
+pub fn field_end(s: &[u8], at: usize, d: u8) -> usize
+    requires { ⌜ at ≤ length (now s) ⌝ }
+    ensures { λ r. ⌜ r ≡ at + length (upTo d (drop at (now (s .entry)))) ⌝ }
+{
+    let mut i = at;
+    while i < s.len() {
+        if s[i] == d {
+            return i;
+        }
+        i += 1;
+    }
+    i
+}
+
+// The place of the next CRLF at or after `at`, or the text's length.
+pub fn line_end(s: &[u8], at: usize) -> usize
+    requires { ⌜ at ≤ length (now s) ⌝ }
+    ensures { λ r. ⌜ r ≡ at + length (firstLine (drop at (now (s .entry)))) ⌝ }
+{
+    let mut i = at;
+    while i < s.len() {
+        if ends_line(s, i) {
+            return i;
+        }
+        i += 1;
+    }
+    i
+}
+
+// Whether a CRLF stands at `at`.
+fn ends_line(s: &[u8], at: usize) -> bool
+    requires { ⌜ at < length (now s) ⌝ }
+    ensures { λ r. ⌜ r ≡ endAt (now (s .entry)) at ⌝ }
+{
+    if s[at] != 13 {
+        return false;
+    }
+    if s.len() - at < 2 {
+        return false;
+    }
+    s[at + 1] == 10
+}
+
+// One byte.
+pub fn put_byte(out: &mut [u8], at: usize, b: u8) -> usize
+    requires { ⌜ at < length (now out) ⌝ }
+    ensures { λ r. ⌜ Wrote (now (out .entry)) at (b ∷ []) (now (out .exit)) r ⌝ }
+{
+    out[at] = b;
+    at + 1
+}
+
+// A text as it stands.
+pub fn put_text(out: &mut [u8], at: usize, text: &[u8]) -> usize
+    requires { ⌜ at + length (now text) ≤ length (now out) ⌝ }
+    ensures { λ r. ⌜ Wrote (now (out .entry)) at (now (text .entry)) (now (out .exit)) r ⌝ }
+{
+    let mut i = 0;
+    while i < text.len() {
+        out[at + i] = text[i];
+        i += 1;
+    }
+    at + i
+}
+
+// A whole number: the digits of its tenth, if there are any, then its last digit.
+pub fn put_whole(out: &mut [u8], at: usize, n: u32) -> usize
+    requires { ⌜ (n < 10000000) × (at + length (showWhole n) ≤ length (now out)) ⌝ }
+    ensures { λ r. ⌜ Wrote (now (out .entry)) at (showWhole n) (now (out .exit)) r ⌝ }
+{
+    let digit = 48 + (n % 10) as u8;
+    if n < 10 {
+        return put_byte(out, at, digit);
+    }
+    let next = put_whole(out, at, n / 10);
+    put_byte(out, next, digit)
+}
+
+// Two digits.
+pub fn put_two(out: &mut [u8], at: usize, n: u32) -> usize
+    requires { ⌜ (n < 100) × (at + 2 ≤ length (now out)) ⌝ }
+    ensures { λ r. ⌜ Wrote (now (out .entry)) at (showTwo n) (now (out .exit)) r ⌝ }
+{
+    let next = put_byte(out, at, 48 + (n / 10) as u8);
+    put_byte(out, next, 48 + (n % 10) as u8)
+}
+
+// A level in hundredths: its units, a point and two digits.
+pub fn put_level(out: &mut [u8], at: usize, n: u32) -> usize
+    requires { ⌜ (n < 100000) × (at + length (showLevel n) ≤ length (now out)) ⌝ }
+    ensures { λ r. ⌜ Wrote (now (out .entry)) at (showLevel n) (now (out .exit)) r ⌝ }
+{
+    let point = put_whole(out, at, n / 100);
+    let next = put_byte(out, point, 46);
+    put_two(out, next, n % 100)
+}

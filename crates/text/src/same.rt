@@ -1,0 +1,20 @@
+// Texts compared byte for byte.
+ghost use mathlib.Core.Path.{_≡_};
+ghost use Rattle.text.specs.Same.{sameText};
+
+// Whether two texts are the same.
+pub fn same_text(a: &[u8], b: &[u8]) -> bool
+    ensures { λ r. ⌜ r ≡ sameText (now (a .entry)) (now (b .entry)) ⌝ }
+{
+    if a.len() != b.len() {
+        return false;
+    }
+    let mut i = 0;
+    while i < a.len() {
+        if a[i] != b[i] {
+            return false;
+        }
+        i += 1;
+    }
+    true
+}
