@@ -64,7 +64,7 @@ fn reports() {
     let (seed, first) = (number("SEED", 1), number("FIRST", 0));
     let folder = std::env::temp_dir().join(format!("okubinrafo-report-{}", std::process::id()));
     std::fs::create_dir_all(&folder).expect("a temporary folder");
-    for round in first..first + number("ROUNDS", 300) {
+    for round in first..first + number("ROUNDS", 100) {
         let mut random = Random::new(Random::new(seed).next() ^ Random::new(round).next());
         let points = random.within(1, 8);
         let (mut limits, mut register) = (limits(&mut random, points), register(&mut random, points));
