@@ -1,24 +1,14 @@
 -- `grid::read::read_network` meets its contract: off the layout, refused for its shape, too little room, or read. Assumes nothing.
-use Prim.Native.Nat.{_≤_, _*_}
-use mathlib.Core.Path.{_≡_, refl, subst, sym, ap, _∙_}
+use mathlib.Core.Path.{_≡_, subst, sym, ap, _∙_}
 use native.Mathlib.Omega.{arith}
-use lib.ListN.{length}
-use Rattle.text.specs.Line.{linesOf}
-use Rattle.grid.specs.File.{faultLine, rowsOf}
 use Rattle.grid.specs.Row.{levelsOf}
 use Rattle.grid.specs.Read.{over, numbersOf}
-use Rattle.grid.specs.Steps.{fileRead, Judged, shapeRefusal}
+use Rattle.grid.specs.Steps.{fileRead, shapeRefusal}
 use Rattle.grid.specs.declared.judge.File.the-variants.{On}
 use Rattle.grid.proofs.ReadLaws.{off-layout, shape-refused, rows-ready, product-small, no-header, no-levels, roomy-both, refused-outcome, read-outcome}
 use borrow.Author.Needs.{needs}
 use Rattle.grid.proofs.read.read_network.Statement.{statement}
 use Rattle.grid.proofs.read.read_network.Tie as tie
-use Rattle.grid.proofs.read.read_network.Reads as reads
-use Rattle.grid.proofs.read.read_network.Lts as lts
-use Rattle.grid.proofs.judge.judge.Reads as judge-reads
-use Rattle.grid.proofs.read.shape_refusal.Reads as shape-refusal-reads
-use Rattle.grid.proofs.store.store_frame.Reads as store-frame-reads
-use Rattle.grid.proofs.store.store_rows.Reads as store-rows-reads
 
 -- the text is on its layout, and how it was judged
 file : (c : tie.After-known-told) → let g = c .before .frame .given .0 in

@@ -1,8 +1,7 @@
 -- `grid::store::store_rows` meets its contract. The invariant: what the rest of the rows still changes. Assumes nothing.
-use Prim.Native.Nat.{_+_, _-_, _*_, _<_, _≤_}
+use Prim.Native.Nat.{_+_, _-_, _*_, _≤_}
 use mathlib.Core.Path.{_≡_, refl, sym, ap, _∙_}
 use native.Mathlib.Omega.{arith}
-use borrow.Author.Needs.{needs}
 use lib.ListN.{length}
 use Rattle.text.specs.Put.{put}
 use Rattle.grid.specs.Row.{valuesOf, rowLevels, levelsOf}
@@ -11,10 +10,6 @@ use Rattle.grid.specs.Steps.{linesAt, lineFrom, Rows}
 use Rattle.grid.proofs.StoreLaws.{values-here, left-here, rows-left, place-here, over-here, over-end}
 use Rattle.grid.proofs.store.store_rows.Statement.{statement}
 use Rattle.grid.proofs.store.store_rows.Tie as tie
-use Rattle.grid.proofs.store.store_rows.Reads as reads
-use Rattle.grid.proofs.store.store_rows.Lts as lts
-use Rattle.grid.proofs.head.line_at.Reads as line-at-reads
-use Rattle.grid.proofs.store.store_row.Reads as store-row-reads
 
 abbrev Inv-loop : tie.InvT-loop
 Inv-loop s from columns rows out₀ at₀ row₀ out at row =
