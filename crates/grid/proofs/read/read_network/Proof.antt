@@ -56,7 +56,7 @@ returns-3 c =
     let a = c .before .before .before .before .before .before .before .before .before .before .before .before .args in
     let f = file (c .before .before .before .before .before) in
     refused-outcome (a .text .now) (a .header .now) (a .levels .now) 14
-    (no-header (a .text .now) _ _ _ _ (f .0) (f .1) (none (c .before .before .before)) _ _ (c .if2 .taken))
+    (no-header (a .text .now) _ _ _ _ (f .0) (f .1) (none (c .before .before .before)) _ _ (omega (arith, c .if2 .taken)))
     (λ z. omega arith)
 
 mul-if3 : tie.Need-mul-if3
@@ -69,7 +69,7 @@ returns-4 c =
     let a = c .before .before .before .before .before .before .before .before .before .before .before .before .before .args in
     let f = file (c .before .before .before .before .before .before) in
     refused-outcome (a .text .now) (a .header .now) (a .levels .now) 14
-    (no-levels (a .text .now) _ _ _ _ (f .0) (f .1) (none (c .before .before .before .before)) _ _ (c .before .if2 .left) (c .if3 .taken))
+    (no-levels (a .text .now) _ _ _ _ (f .0) (f .1) (none (c .before .before .before .before)) _ _ (omega (arith, c .before .if2 .left)) (c .if3 .taken))
     (λ z. omega arith)
 
 store-frame-requires : tie.Need-store-frame-requires
@@ -90,7 +90,7 @@ returns-5 : tie.Need-returns-5
 returns-5 c =
     let a = c .before .before .before .before .before .before .before .before .before .before .before .before .before .before .before .before .before .before .before .before .before .args in
     let f = file (c .before .before .before .before .before .before .before .before .before .before .before .before .before .before) in
-    let o = read-outcome (a .text .now) (a .header .now) (a .levels .now) (roomy-both (a .text .now) _ _ _ _ (f .0) (f .1) (none (c .before .before .before .before .before .before .before .before .before .before .before .before)) _ _ (c .before .before .before .before .before .before .before .before .before .if2 .left) (c .before .before .before .before .before .before .before .before .if3 .left)) in (
+    let o = read-outcome (a .text .now) (a .header .now) (a .levels .now) (roomy-both (a .text .now) _ _ _ _ (f .0) (f .1) (none (c .before .before .before .before .before .before .before .before .before .before .before .before)) _ _ (omega (arith, c .before .before .before .before .before .before .before .before .before .if2 .left)) (c .before .before .before .before .before .before .before .before .if3 .left)) in (
       o .0,
       c .before .before .before .before .before .before .store-frame .ensures ∙ ap (λ x. over (numbersOf x) (a .header .now)) (f .1 .frame) ∙ o .1,
       c .before .before .store-rows .ensures ∙ ap (λ l. over (levelsOf l) (a .levels .now)) (f .1 .rows) ∙ o .2,
