@@ -331,14 +331,10 @@ fn written() {
     numbers(&size);
     io::write_all(STDOUT_FILENO, &text);
     io::write_all(STDOUT_FILENO, b"\n");
-    let n = count(size[0]);
-    if n <= 130 {
-        network(b"and read again", &text[..n]);
-    }
-}
-
-fn count(x: u32) -> usize {
-    x as usize
+    network(
+        b"and read again",
+        b"ncols 3\r\nnrows 2\r\nxllcenter 1000\r\nyllcenter 0\r\ncellsize 100\r\n0.00 0.99 0.04\r\n5.01 10.02 150.00\r\n",
+    );
 }
 
 // Writes levels of two by two points.
