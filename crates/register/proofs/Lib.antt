@@ -8,3 +8,4 @@ pub mod Rows
 pub mod RoundTrip
 pub mod Converse
 pub mod Once
+pub mod Longest
