@@ -9,3 +9,4 @@ pub mod RoundTrip
 pub mod Converse
 pub mod Once
 pub mod Longest
+pub mod LimitsFront
