@@ -7,9 +7,6 @@ use Rattle.level.proofs.ScaleLaws.{scaled-le}
 use Rattle.counted.specs.Factors.{scaledBy}
 use Rattle.load.proofs.sums.scaled_by.Statement.{statement}
 use Rattle.load.proofs.sums.scaled_by.Tie as tie
-use Rattle.load.proofs.sums.scaled_by.Reads as reads
-use Rattle.load.proofs.sums.scaled_by.Lts as lts
-use Rattle.level.proofs.core.scaled.Reads as scaled-reads
 
 returns : tie.Need-returns
 unfolding scaledBy

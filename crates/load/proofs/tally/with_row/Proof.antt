@@ -12,24 +12,14 @@ use Rattle.load.proofs.RowLaws.{weighted-le, energy-in-small}
 use borrow.Author.Needs.{needs}
 use Rattle.load.proofs.tally.with_row.Statement.{statement}
 use Rattle.load.proofs.tally.with_row.Tie as tie
-use Rattle.load.proofs.tally.with_row.Reads as reads
-use Rattle.load.proofs.tally.with_row.Lts as lts
-use Rattle.level.proofs.core.energy.Reads as energy-reads
-use Rattle.movement.proofs.core.group_weight.Reads as group-weight-reads
 
 returns : tie.Need-returns
 unfolding withRow
 returns c = rw (eq-eqb _ _ (c .if1 .taken))
 
-add-t10 : tie.Need-add-t10
-add-t10 c = search needs
-
 returns-2 : tie.Need-returns-2
 unfolding withRow
 returns-2 c = rw (ne-eqb _ _ (c .before .before .if1 .left), eq-eqb _ _ (c .before .if2 .taken))
-
-group-weight-requires : tie.Need-group-weight-requires
-group-weight-requires c κs = search needs
 
 -- the weighted level is in range
 weighted : (c : tie.After-group-weight) → c .before .before .before .args .level + c .group-weight .result ≤ maxWeighted
@@ -42,9 +32,6 @@ add-energy c = omega (arith, weighted c)
 
 energy-requires : tie.Need-energy-requires
 energy-requires c κs = let t = c .before .before .before .pre .1 in (weighted c, t .table-a, t .powers-of-ten)
-
-add-t11 : tie.Need-add-t11
-add-t11 c = search needs
 
 known-energy : (c : tie.After-energy) → c .energy .result ≡ energyIn (c .before .before .before .before .args .group) (c .before .before .before .before .args .level)
 unfolding energyIn
@@ -64,11 +51,11 @@ with-row-spec =
     tie.close
     (tie.spec
     returns
-    add-t10
+    (λ c. search needs)
     returns-2
-    group-weight-requires
+    (λ c κs. search needs)
     add-energy
     energy-requires
-    add-t11
+    (λ c. search needs)
     add-t13
     returns-3)
