@@ -25,7 +25,7 @@ returns-2 c =
 weighted : (c : tie.After-group-weight) → c .before .before .before .args .level + c .group-weight .result ≤ maxWeighted
 weighted c =
     let s = c .before .before .before in
-    rw (c .group-weight .ensures) (weighted-le (s .args .group) (s .args .level) (s .pre .0 .2))
+    rw (c .group-weight .ensures) (weighted-le _ (s .args .level) (s .pre .0 .2))
 
 add-energy : tie.Need-add-energy
 add-energy c = omega (arith, weighted c)
