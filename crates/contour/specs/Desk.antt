@@ -44,15 +44,17 @@ pub record Grows (g : Picture) (f : Listing → Listing) (d d' : Desk) : Type 0 
   pub room : Room g d'
   pub holds : (l : Listing) (old : Desk) → Holds l old d → Holds (f l) old d'
 
--- such changes: the contour from n added, an edge tried, all edges below n tried
+-- such changes: the contour from n added, an edge tried
 abbrev pub added : Picture → Bool → ℕ → Listing → Listing
 added g closes n l = add closes l (contourFrom g (l .list) n)
 
 abbrev pub tried : Picture → Bool → ℕ → Listing → Listing
 tried g closes n l = try g closes l n
 
-abbrev pub sweeping : Picture → Bool → ℕ → Listing → Listing
-sweeping g closes n l = swept g closes l n
+-- the edges from one number to before another were tried: what the edges below the first gave became what those below the second give
+pub record Sweeps (g : Picture) (closes : Bool) (from to : ℕ) (d d' : Desk) : Type 0 where
+  pub room : Room g d'
+  pub holds : (l : Listing) (old : Desk) → Holds (swept g closes l from) old d → Holds (swept g closes l to) old d'
 
 -- these contours were listed at the fronts of buffers, which had room for them
 pub record Listed (cs : List Contour) (edges counts closed edges' counts' closed' : List ℕ) (at made : ℕ) : Type 0 where
