@@ -142,6 +142,29 @@ module _ (g : Picture) (closes : Bool) where
   pub sweep-joins : (from n to : ℕ) (d₀ d d' : Desk) → Sweeps g closes from n d₀ d → Sweeps g closes n to d d' → Sweeps g closes from to d₀ d'
   sweep-joins from n to d₀ d d' i j = record { room = j .room; holds = λ l old h. j .holds l old (i .holds l old h) }
 
+-- edges that don't wait may be passed over
+pub none-wait : (g : Picture) (closes : Bool) (l : Listing) (n k : ℕ) → ((m : ℕ) → n ≤ m → m < n + k → waits (swept g closes l n .list) m ≡ false) → swept g closes l (n + k) ≡ swept g closes l n
+unfolding swept
+none-wait g closes l n zero h = ap (swept g closes l) (add-zero n)
+none-wait g closes l n (suc k) h =
+    let i : swept g closes l (n + k) ≡ swept g closes l n = none-wait g closes l n k (λ m p q. h m p (omega arith)) in
+    ap (swept g closes l) (add-suc n k) ∙ ap (λ (x : Listing). try g closes x (n + k)) i
+    ∙ ap (λ (b : Bool). cond b (added g closes (n + k) (swept g closes l n)) (swept g closes l n)) (ap (λ (b : Bool). (closes || entersAt g (n + k)) && b) (h (n + k) (omega arith) (omega arith)) ∙ and-false (closes || entersAt g (n + k)))
+  where
+    and-false : (a : Bool) → (a && false) ≡ false
+    and-false true = refl
+    and-false false = refl
+
+pub sweep-waits : (g : Picture) (closes : Bool) (from n to : ℕ) (d₀ d : Desk) → n ≤ to → ((m : ℕ) → n ≤ m → m < to → waits (d .list) m ≡ false) → Sweeps g closes from n d₀ d → Sweeps g closes from to d₀ d
+sweep-waits g closes from n to d₀ d h f i =
+    let e : n + (to - n) ≡ to = omega arith in
+    record {
+      room = i .room;
+      holds = λ l old k.
+          let j = i .holds l old k in
+          subst (λ (x : Listing). Holds x old d) (sym (none-wait g closes l n (to - n) (λ m p q. ap (λ (x : List ℕ). waits x m) (sym (j .the-list)) ∙ f m p (omega (arith, e)))) ∙ ap (swept g closes l) e) j;
+    }
+
 -- edges where no contour enters may be passed over
 pub none-enter : (g : Picture) (l : Listing) (n k : ℕ) → ((m : ℕ) → n ≤ m → m < n + k → entersAt g m ≡ false) → swept g false l (n + k) ≡ swept g false l n
 unfolding swept

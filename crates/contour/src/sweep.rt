@@ -2,12 +2,13 @@
 ghost use mathlib.Core.Path.{_≡_};
 ghost use mathlib.Core.Bool.{_&&_, _||_, true, false};
 ghost use Prim.Native.Nat.{_+_, _-_, _<_, _≤_};
+ghost use lib.ListN.{length};
 ghost use Rattle.network.specs.Edges.{Sized, WithinEdge, numberOf, edges as edgeCount};
 ghost use Rattle.network.specs.declared.Edge.the-variants.{Vertical};
 ghost use Rattle.lines.specs.Picture.{picture};
 ghost use Rattle.lines.specs.Crossings.{firstIn, acrossOf, aheadOf, edgeOf, isOutside, entersAt};
 ghost use Rattle.lines.specs.Contours.{bit, waits, crossedTo, allListed};
-ghost use Rattle.contour.specs.Desk.{desk, Room, Grows, Sweeps, Holds, added, tried};
+ghost use Rattle.contour.specs.Desk.{desk, Room, Grows, Sweeps, FirstWaiting, Holds, added, tried};
 use crate::core::Progress;
 use crate::walk;
 use crate::walk::Stand;
@@ -170,7 +171,22 @@ fn try_edge(
     so_far
 }
 
-// Tries the edges from one number to before another as starts of contours.
+// The first edge from `from` on that waits, or `last` where none before that does.
+fn first_waiting(list: &[u8], from: usize, last: usize) -> usize
+    requires { ⌜ (from ≤ last) × (last < length (now list)) ⌝ }
+    ensures { λ r. ⌜ FirstWaiting (now (list .entry)) from last r ⌝ }
+{
+    let mut n = from;
+    while n < last {
+        if list[n] == 1 {
+            return n;
+        }
+        n += 1;
+    }
+    n
+}
+
+// Tries the edges from one number to before another as starts of contours, those that don't wait passed over.
 fn sweep_range(
     levels: &[u32],
     nx: usize,
@@ -194,20 +210,21 @@ fn sweep_range(
     let mut so_far = before;
     let mut n = from;
     while n < to {
+        let here = first_waiting(list, n, to - 1);
         so_far = try_edge(
             levels,
             nx,
             ny,
             v,
             closes,
-            n,
+            here,
             list,
             edges,
             counts,
             closed,
             so_far,
         );
-        n += 1;
+        n = here + 1;
     }
     so_far
 }
