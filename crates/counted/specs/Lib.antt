@@ -1,0 +1,6 @@
+pub mod Shares
+pub mod Tally
+pub mod Factors
+pub mod Load
+pub mod Verdict
+pub mod Afresh

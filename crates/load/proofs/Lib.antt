@@ -1,0 +1,4 @@
+pub mod CellLaws
+pub mod RowLaws
+pub mod BoundLaws
+pub mod SumsLaws

@@ -1,0 +1,314 @@
+-- What a sound book says of its rows, one by one, and of the tally of its first rows.
+-- Assumes nothing.
+use mathlib.Core.Path.{_≡_, refl, ap, fun-ext, _∙_}
+use mathlib.Core.Bool.{Bool, true, false, cond, _&&_}
+use mathlib.Core.List.{List, [], _∷_, _++_, append-nil}
+use Prim.Native.Nat.{ℕ, zero, suc, _+_, _*_, _≤_, _<_}
+use native.Mathlib.Nat.{zero-mul, suc-mul, mul-le-mul-right, add-zero, add-mul}
+use native.Mathlib.Numerals.{add-one}
+use native.Mathlib.Omega.{arith}
+use lib.ListN.{length, getD, take, drop, length-append}
+use lib.Seq.{getD-take, getD-drop, drop-drop}
+use lib.Dec.{eqb, leb, ltb, lit≤}
+use borrow.Author.Tests.{leb-true, ltb-true, eqb-true}
+use Rattle.level.specs.Limits.{maxWeighted, maxMovements, maxEnergy}
+use Rattle.level.proofs.EnergyLaws.{energy-le}
+use Rattle.movement.specs.Limits.{maxLevel, maxIdentity, groupCount}
+use Rattle.movement.specs.Period.{weightOf}
+use Rattle.movement.specs.declared.period.Period.{Period}
+use Rattle.movement.specs.declared.period.Period.the-variants.{Day, Evening, Night}
+use Rattle.movement.specs.Group.{groupPeriod}
+use Rattle.refusal.proofs.Laws.{and-left, and-right}
+use Rattle.refusal.specs.Range.{allWithin}
+use Rattle.book.specs.Columns.{Book, sound, headSound, topLevel, rowSound, rowsSound}
+use Rattle.book.proofs.Shapes.{sound-fits, sound-rows}
+use Rattle.counted.specs.declared.Group.{Group}
+use Rattle.counted.specs.Shares.{Share, energyIn, rowShare, sharesTo}
+use Rattle.counted.specs.Shares.Share.{has, lacks}
+use Rattle.counted.specs.Tally.{groupWith, addsComputed, addsMissing, addsEnergy, sumOf, tally, table, groupAt, withGroup}
+use Rattle.counted.proofs.SumLaws.{sum-ext}
+use Rattle.counted.proofs.TallyLaws.{sum-append, AllGrouped, grouped-append, counted-le}
+use Rattle.load.specs.Steps.{Room, Bounded, withRow}
+use Rattle.load.proofs.CellLaws.{at-table, put-table}
+
+-- One share more
+
+last : (w : Share → ℕ) (ss : List Share) (s : Share) → sumOf w (ss ++ (s ∷ [])) ≡ sumOf w ss + w s
+unfolding sumOf
+last w ss s = sum-append w ss (s ∷ []) ∙ omega arith
+
+-- a store at the group of the row
+module _ (ss : List Share) (g h : ℕ) where
+  more-missing : cond (eqb g h) (groupWith (tally ss g .computed) (tally ss g .missing + 1) (tally ss g .energy)) (tally ss h) ≡ tally (ss ++ (lacks g ∷ [])) h
+  unfolding tally addsComputed addsMissing addsEnergy
+  more-missing = rw (last (addsComputed h) ss (lacks g), last (addsMissing h) ss (lacks g), last (addsEnergy h) ss (lacks g)) (go (eqb g h) refl)
+    where
+      go : (t : Bool) → eqb g h ≡ t
+          → cond t (groupWith (tally ss g .computed) (tally ss g .missing + 1) (tally ss g .energy)) (tally ss h)
+          ≡ groupWith (sumOf (addsComputed h) ss + 0) (sumOf (addsMissing h) ss + cond t 1 0) (sumOf (addsEnergy h) ss + 0)
+      go true q = rw (eqb-true g h q) (simp add-zero)
+      go false q = simp add-zero
+
+  more-computed : (e : ℕ) → cond (eqb g h) (groupWith (tally ss g .computed + 1) (tally ss g .missing) (tally ss g .energy + e)) (tally ss h) ≡ tally (ss ++ (has g e ∷ [])) h
+  unfolding tally addsComputed addsMissing addsEnergy
+  more-computed e = rw (last (addsComputed h) ss (has g e), last (addsMissing h) ss (has g e), last (addsEnergy h) ss (has g e)) (go (eqb g h) refl)
+    where
+      go : (t : Bool) → eqb g h ≡ t
+          → cond t (groupWith (tally ss g .computed + 1) (tally ss g .missing) (tally ss g .energy + e)) (tally ss h)
+          ≡ groupWith (sumOf (addsComputed h) ss + cond t 1 0) (sumOf (addsMissing h) ss + 0) (sumOf (addsEnergy h) ss + cond t e 0)
+      go true q = rw (eqb-true g h q) (simp add-zero)
+      go false q = simp add-zero
+
+  -- an unused row stores what stands there
+  more-none : cond (eqb g h) (tally ss g) (tally ss h) ≡ tally (ss ++ []) h
+  more-none = rw append-nil (go (eqb g h) refl)
+    where
+      go : (t : Bool) → eqb g h ≡ t → cond t (tally ss g) (tally ss h) ≡ tally ss h
+      go true q = rw (eqb-true g h q) refl
+      go false q = refl
+
+  more-row : (x m l : ℕ) → cond (eqb g h) (withRow (tally ss g) x g m l) (tally ss h) ≡ tally (ss ++ rowShare x g m l) h
+  unfolding withRow rowShare
+  more-row x m l = go (eqb x 0) (eqb m 0)
+    where
+      go : (t u : Bool)
+          → cond (eqb g h) (cond t (tally ss g) (cond u (groupWith (tally ss g .computed) (tally ss g .missing + 1) (tally ss g .energy)) (groupWith (tally ss g .computed + 1) (tally ss g .missing) (tally ss g .energy + energyIn g l)))) (tally ss h)
+          ≡ tally (ss ++ cond t [] (cond u (lacks g) (has g (energyIn g l)) ∷ [])) h
+      go true u = more-none
+      go false true = more-missing
+      go false false = more-computed (energyIn g l)
+
+-- one row more
+row-table : (ss : List Share) (x g m l : ℕ) → g < groupCount
+    → withGroup (table (tally ss)) g (withRow (groupAt (table (tally ss)) g) x g m l) ≡ table (tally (ss ++ rowShare x g m l))
+row-table ss x g m l h =
+    rw (at-table (tally ss) g h, put-table (tally ss) (withRow (tally ss g) x g m l) g h)
+    (ap table (fun-ext (λ k. more-row ss g k x m l)))
+
+-- Bounds of V, U and S
+
+one : (t : Bool) → cond t 1 0 ≤ 1
+one true = lit≤ tt
+one false = lit≤ tt
+
+-- no count is over the number of shares
+adds-le : (g : ℕ) (s : Share) → (addsComputed g s ≤ 1) × (addsMissing g s ≤ 1)
+unfolding addsComputed addsMissing
+adds-le g (has h e) = (one (eqb h g), lit≤ tt)
+adds-le g (lacks h) = (lit≤ tt, one (eqb h g))
+
+sum-le-length : (w : Share → ℕ) → ((s : Share) → w s ≤ 1) → (ss : List Share) → sumOf w ss ≤ length ss
+unfolding sumOf
+sum-le-length w b [] = lit≤ tt
+sum-le-length w b (s ∷ ss) = omega (arith, b s, sum-le-length w b ss)
+
+tally-le : (ss : List Share) (g : ℕ) → (tally ss g .computed ≤ length ss) × (tally ss g .missing ≤ length ss)
+unfolding tally
+tally-le ss g = (sum-le-length (addsComputed g) (λ s. adds-le g s .0) ss, sum-le-length (addsMissing g) (λ s. adds-le g s .1) ss)
+
+abbrev Small : Share → Type 0
+Small (has g e) = e ≤ maxEnergy
+Small (lacks g) = Unit {0}
+
+abbrev AllSmall : List Share → Type 0
+AllSmall [] = Unit {0}
+AllSmall (s ∷ ss) = Small s × AllSmall ss
+
+adds-small : (g : ℕ) (s : Share) → Small s → addsEnergy g s ≤ addsComputed g s * maxEnergy
+unfolding addsEnergy addsComputed
+adds-small g (has h e) a = go (eqb h g)
+  where
+    go : (b : Bool) → cond b e 0 ≤ cond b 1 0 * maxEnergy
+    go true = omega arith
+    go false = omega arith
+adds-small g (lacks h) a = omega arith
+
+energy-small : (ss : List Share) (g : ℕ) → AllSmall ss → tally ss g .energy ≤ tally ss g .computed * maxEnergy
+unfolding tally sumOf
+energy-small [] g a = omega arith
+energy-small (s ∷ ss) g a =
+    rw (add-mul (addsComputed g s) (sumOf (addsComputed g) ss) maxEnergy) (omega (arith, adds-small g s (a .0), energy-small ss g (a .1)))
+
+small-append : (a b : List Share) → AllSmall a → AllSmall b → AllSmall (a ++ b)
+small-append [] b h k = k
+small-append (s ∷ a) b h k = (h .0, small-append a b (h .1) k)
+
+weight-le : (p : Period) → weightOf p ≤ 1000
+weight-le Day = omega arith
+weight-le Evening = omega arith
+weight-le Night = omega arith
+
+-- the highest level at night is 130.00
+pub weighted-le : (g l : ℕ) → l ≤ maxLevel → l + weightOf (groupPeriod g) ≤ maxWeighted
+weighted-le g l h = omega (arith, weight-le (groupPeriod g))
+
+pub energy-in-small : (g l : ℕ) → l ≤ maxLevel → energyIn g l ≤ maxEnergy
+unfolding energyIn
+energy-in-small g l h = energy-le (l + weightOf (groupPeriod g)) (weighted-le g l h)
+
+-- One row of a sound book
+
+rows-at : (p : ℕ) (xs gs ms ls : List ℕ) (i : ℕ) → length gs ≡ length xs → length ms ≡ length xs → i < length xs
+    → rowsSound p xs gs ms ls ≡ true → rowSound (getD xs i 0) (getD gs i 0) (getD ms i 0) (take p (drop (i * p) ls)) ≡ true
+unfolding rowsSound
+rows-at p [] gs ms ls i a b h e = absurd (omega arith)
+rows-at p (x ∷ xs) [] ms ls i a b h e = absurd (omega arith)
+rows-at p (x ∷ xs) (g ∷ gs) [] ls i a b h e = absurd (omega arith)
+rows-at p (x ∷ xs) (g ∷ gs) (m ∷ ms) ls zero a b h e = rw zero-mul (and-left (rowSound x g m (take p ls)) _ e)
+rows-at p (x ∷ xs) (g ∷ gs) (m ∷ ms) ls (suc i) a b h e =
+    let q : suc i * p ≡ p + i * p = omega (arith, suc-mul i p) in
+    rw (q, ← drop-drop (i * p) p ls)
+    (rows-at p xs gs ms (drop p ls) i (omega arith) (omega arith) (omega arith) (and-right (rowSound x g m (take p ls)) _ e))
+
+within-at : (top : ℕ) (xs : List ℕ) (k : ℕ) → allWithin top xs ≡ true → getD xs k 0 ≤ top
+unfolding allWithin
+within-at top [] k e = omega arith
+within-at top (x ∷ xs) zero e = leb-true x top (and-left (leb x top) _ e)
+within-at top (x ∷ xs) (suc k) e = within-at top xs k (and-right (leb x top) _ e)
+
+head-group : (x g m : ℕ) → headSound x g m ≡ true → g < groupCount
+unfolding headSound
+head-group x g m = go (eqb x 0)
+  where
+    go : (t : Bool) → cond t (eqb g 0 && eqb m 0) (leb x maxIdentity && (ltb g groupCount && leb m 1)) ≡ true → g < groupCount
+    go true e = omega (arith, eqb-true g 0 (and-left (eqb g 0) _ e))
+    go false e = ltb-true g groupCount (and-left (ltb g groupCount) _ (and-right (leb x maxIdentity) _ e))
+
+top-level-le : (m : ℕ) → topLevel m ≤ maxLevel
+unfolding topLevel
+top-level-le m = go (eqb m 0)
+  where
+    go : (t : Bool) → cond t 0 maxLevel ≤ maxLevel
+    go true = lit≤ tt
+    go false = lit≤ tt
+
+-- row i of a sound book: its place in each column, its values in range, and room for it in its group
+pub record Row (p pt : ℕ) (b : Book) (i : ℕ) : Type 0 where
+  pub in-groups : i < length (b .groups)
+  pub in-marks : i < length (b .marks)
+  pub in-levels : i * p + pt < length (b .levels)
+  pub group< : getD (b .groups) i 0 < groupCount
+  pub level≤ : getD (b .levels) (i * p + pt) 0 ≤ maxLevel
+  pub room : Room (groupAt (table (tally (sharesTo p pt b i))) (getD (b .groups) i 0))
+
+module _ (p pt : ℕ) (b : Book) (ok : sound p b ≡ true) (there : pt < p) where
+  row-sound : (i : ℕ) → i < length (b .identities)
+      → rowSound (getD (b .identities) i 0) (getD (b .groups) i 0) (getD (b .marks) i 0) (take p (drop (i * p) (b .levels))) ≡ true
+  row-sound i h =
+      let f = sound-fits p b ok in
+      rows-at p (b .identities) (b .groups) (b .marks) (b .levels) i (f .groups=) (f .marks=) h
+      (sound-rows p b ok)
+
+  row-group : (i : ℕ) → i < length (b .identities) → getD (b .groups) i 0 < groupCount
+  unfolding rowSound
+  row-group i h =
+      head-group (getD (b .identities) i 0) (getD (b .groups) i 0) (getD (b .marks) i 0)
+      (and-left (headSound (getD (b .identities) i 0) (getD (b .groups) i 0) (getD (b .marks) i 0)) _ (row-sound i h))
+
+  row-level : (i : ℕ) → i < length (b .identities) → getD (b .levels) (i * p + pt) 0 ≤ maxLevel
+  unfolding rowSound
+  row-level i h =
+      let w = within-at (topLevel (getD (b .marks) i 0)) (take p (drop (i * p) (b .levels))) pt
+      (and-right (headSound (getD (b .identities) i 0) (getD (b .groups) i 0) (getD (b .marks) i 0)) _ (row-sound i h)) in
+      omega (arith, rw (getD-take p (drop (i * p) (b .levels)) pt 0 there, getD-drop (i * p) (b .levels) pt 0) at w, top-level-le (getD (b .marks) i 0))
+
+  -- its place among the levels
+  row-place : (i : ℕ) → i < length (b .identities) → i * p + pt < length (b .levels)
+  row-place i h =
+      let f = sound-fits p b ok in
+      omega (arith, suc-mul i p, mul-le-mul-right p h, f .levels=)
+
+  -- The first n rows
+
+  pub shares-length : (n : ℕ) → length (sharesTo p pt b n) ≤ n
+  unfolding sharesTo rowShare
+  shares-length zero = lit≤ tt
+  shares-length (suc n) = rw length-append (go _ (eqb (getD (b .identities) n 0) 0) (shares-length n))
+    where
+      go : (s : Share) (t : Bool) → length (sharesTo p pt b n) ≤ n → length (sharesTo p pt b n) + length (cond t [] (s ∷ [])) ≤ suc n
+      go s true l = omega arith
+      go s false l = omega arith
+
+  row-small : (x g m l : ℕ) → l ≤ maxLevel → AllSmall (rowShare x g m l)
+  unfolding rowShare
+  row-small x g m l h = go (eqb x 0) (eqb m 0)
+    where
+      go : (t u : Bool) → AllSmall (cond t [] (cond u (lacks g) (has g (energyIn g l)) ∷ []))
+      go true u = tt
+      go false true = (tt, tt)
+      go false false = (energy-in-small g l h, tt)
+
+  pub shares-small : (n : ℕ) → n ≤ length (b .identities) → AllSmall (sharesTo p pt b n)
+  unfolding sharesTo
+  shares-small zero h = tt
+  shares-small (suc n) h =
+      small-append (sharesTo p pt b n) _ (shares-small n (omega arith))
+      (row-small (getD (b .identities) n 0) (getD (b .groups) n 0) (getD (b .marks) n 0) _ (row-level n h))
+
+  rows-le : length (b .identities) ≤ maxMovements
+  rows-le = let f = sound-fits p b ok in omega (arith, f .rows≤)
+
+  -- room for one row more
+  row-room : (i : ℕ) → i < length (b .identities) → Room (groupAt (table (tally (sharesTo p pt b i))) (getD (b .groups) i 0))
+  row-room i h =
+      let g = getD (b .groups) i 0 in
+      let ss = sharesTo p pt b i in
+      let t = tally-le ss g in
+      let e = energy-small ss g (shares-small i (omega arith)) in
+      rw (at-table (tally ss) g (row-group i h))
+      (record {
+        computed = omega (arith, t .0, shares-length i, rows-le);
+        missing = omega (arith, t .1, shares-length i, rows-le);
+        energy = omega (arith, t .0, shares-length i, rows-le, e);
+      })
+
+  -- all that a turn of the loop wants of its row
+  pub row-at : (i : ℕ) → i < length (b .identities) → Row p pt b i
+  row-at i h =
+      let f = sound-fits p b ok in
+      record {
+        in-groups = omega (arith, f .groups=);
+        in-marks = omega (arith, f .marks=);
+        in-levels = row-place i h;
+        group< = row-group i h;
+        level≤ = row-level i h;
+        room = row-room i h;
+      }
+
+  -- one row more is tallied
+  pub row-next : (i : ℕ) → i < length (b .identities) → (cells : List (List (List Group))) (next : Group) → cells ≡ table (tally (sharesTo p pt b i))
+      → next ≡ withRow (groupAt cells (getD (b .groups) i 0)) (getD (b .identities) i 0) (getD (b .groups) i 0) (getD (b .marks) i 0) (getD (b .levels) (i * p + pt) 0)
+      → withGroup cells (getD (b .groups) i 0) next ≡ table (tally (sharesTo p pt b (i + 1)))
+  unfolding sharesTo
+  row-next i h cells next e w =
+      rw (add-one, w, e)
+      (row-table (sharesTo p pt b i) (getD (b .identities) i 0) (getD (b .groups) i 0) (getD (b .marks) i 0) (getD (b .levels) (i * p + pt) 0) (row-group i h))
+
+  -- every row stands in a group
+  row-grouped : (x g m l : ℕ) → g < groupCount → AllGrouped (rowShare x g m l)
+  unfolding rowShare
+  row-grouped x g m l h = go (eqb x 0) (eqb m 0)
+    where
+      go : (t u : Bool) → AllGrouped (cond t [] (cond u (lacks g) (has g (energyIn g l)) ∷ []))
+      go true u = tt
+      go false true = (h, tt)
+      go false false = (h, tt)
+
+  pub rows-grouped : (n : ℕ) → n ≤ length (b .identities) → AllGrouped (sharesTo p pt b n)
+  unfolding sharesTo
+  rows-grouped zero h = tt
+  rows-grouped (suc n) h =
+      grouped-append (sharesTo p pt b n) _ (rows-grouped n (omega arith))
+      (row-grouped (getD (b .identities) n 0) (getD (b .groups) n 0) (getD (b .marks) n 0) _ (row-group n h))
+
+  -- all rows
+  pub rows-bounded : Bounded (table (tally (sharesTo p pt b (length (b .identities)))))
+  rows-bounded =
+      let n = length (b .identities) in
+      let ss = sharesTo p pt b n in
+      let same = sum-ext (λ g. groupAt (table (tally ss)) g .computed + groupAt (table (tally ss)) g .missing) (λ g. tally ss g .computed + tally ss g .missing) groupCount
+      (λ g h. ap (λ c. c .computed + c .missing) (at-table (tally ss) g h)) in
+      record {
+        movements = omega (arith, same, counted-le ss, shares-length n, rows-le);
+        energies = λ g h. rw (at-table (tally ss) g h) (energy-small ss g (shares-small n (omega arith)));
+      }

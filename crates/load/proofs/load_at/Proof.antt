@@ -1,0 +1,61 @@
+-- `load::load_at` meets its contract: 9, 11, and then the load of the rows.
+-- Assumes nothing.
+use Rattle.refusal.proofs.Laws.{passed, failed}
+use Rattle.book.specs.Columns.{Book, bookOf}
+use Rattle.counted.specs.Load.{loadRefusal, loadOf, bookLoad}
+use Rattle.load.proofs.SumsLaws.{fits-there}
+use borrow.Author.Needs.{needs}
+use Rattle.load.proofs.load_at.Statement.{statement}
+use Rattle.load.proofs.load_at.Tie as tie
+use Rattle.load.proofs.load_at.Reads as reads
+use Rattle.load.proofs.load_at.Lts as lts
+use Rattle.load.proofs.days_fit.Reads as days-fit-reads
+use Rattle.load.proofs.load_of.Reads as load-of-reads
+use Rattle.load.proofs.point_fits.Reads as point-fits-reads
+use Rattle.load.proofs.refusal.Reads as refusal-reads
+
+abbrev book : tie.Start → Book
+book s = bookOf (s .args .ids .now) (s .args .groups .now) (s .args .marks .now) (s .args .levels .now)
+
+point-fits-requires : tie.Need-point-fits-requires
+point-fits-requires c κs = search needs
+
+refusal-requires : tie.Need-refusal-requires
+refusal-requires c κs = search needs
+
+returns : tie.Need-returns
+unfolding bookLoad loadOf loadRefusal
+returns c = rw (failed (c .before .before .point-fits .ensures) (c .before .if1 .taken)) (c .refusal .ensures)
+
+days-fit-requires : tie.Need-days-fit-requires
+days-fit-requires c κs = search needs
+
+refusal-requires-2 : tie.Need-refusal-requires-2
+refusal-requires-2 c κs = search needs
+
+returns-2 : tie.Need-returns-2
+unfolding bookLoad loadOf loadRefusal
+returns-2 c = rw (passed (c .before .before .before .before .point-fits .ensures) (c .before .before .before .if1 .left), failed (c .before .before .days-fit .ensures) (c .before .if2 .taken)) (c .refusal2 .ensures)
+
+load-of-requires : tie.Need-load-of-requires
+load-of-requires c κs =
+    let s = c .before .before .before .before .before .before .before .before in
+    let there = fits-there (s .args .points) (s .args .point) (book s) (passed (c .before .before .before .point-fits .ensures) (c .before .before .if1 .left)) in
+    (there .0, (there .1, passed (c .before .days-fit .ensures) (c .if2 .left)))
+
+returns-3 : tie.Need-returns-3
+unfolding bookLoad
+returns-3 c = rw (passed (c .before .before .before .before .point-fits .ensures) (c .before .before .before .if1 .left)) (c .load-of .ensures)
+
+pub load-at-spec : {M : Type 1} → statement M
+load-at-spec =
+    tie.close
+    (tie.spec
+    point-fits-requires
+    refusal-requires
+    returns
+    days-fit-requires
+    refusal-requires-2
+    returns-2
+    load-of-requires
+    returns-3)

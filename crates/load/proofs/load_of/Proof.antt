@@ -1,0 +1,63 @@
+-- `load::load_of` meets its contract: the tally of the rows is within the bounds, and its load is that of the shares.
+-- Assumes nothing.
+use mathlib.Core.Path.{ap, _∙_}
+use native.Mathlib.Omega.{arith}
+use lib.ListN.{length}
+use Rattle.book.specs.Columns.{Book, bookOf}
+use Rattle.counted.specs.Shares.{bookShares}
+use Rattle.counted.specs.Tally.{tally, groupAt}
+use Rattle.load.specs.Steps.{loadFrom}
+use Rattle.load.proofs.RowLaws.{rows-bounded, rows-grouped}
+use Rattle.load.proofs.SumsLaws.{from-table, from-shares}
+use borrow.Author.Needs.{needs}
+use Rattle.load.proofs.load_of.Statement.{statement}
+use Rattle.load.proofs.load_of.Tie as tie
+use Rattle.load.proofs.load_of.Reads as reads
+use Rattle.load.proofs.load_of.Lts as lts
+use Rattle.level.proofs.tables.powers.Reads as powers-reads
+use Rattle.level.proofs.tables.table_a.Reads as table-a-reads
+use Rattle.load.proofs.answer_from.Reads as answer-from-reads
+use Rattle.load.proofs.tally.no_groups.Reads as no-groups-reads
+use Rattle.load.proofs.tally.tallied.Reads as tallied-reads
+
+abbrev book : tie.Start → Book
+book s = bookOf (s .args .ids .now) (s .args .groups .now) (s .args .marks .now) (s .args .levels .now)
+
+table-a-requires : tie.Need-table-a-requires
+table-a-requires c κs = search needs
+
+powers-requires : tie.Need-powers-requires
+powers-requires c κs = search needs
+
+no-groups-requires : tie.Need-no-groups-requires
+no-groups-requires c κs = search needs
+
+tallied-requires : tie.Need-tallied-requires
+tallied-requires c κs = search needs
+
+answer-from-requires : tie.Need-answer-from-requires
+unfolding bookShares
+answer-from-requires c κs =
+    let s = c .before .before .before .before .before .before .before .before .before .before in
+    (rw (c .tallied .ensures) (rows-bounded (s .args .points) (s .args .point) (book s) (s .pre .0) (s .pre .1 .0)), s .pre .1 .1)
+
+returns : tie.Need-returns
+unfolding bookShares
+returns c =
+    let s = c .before .before .before .before .before .before .before .before .before .before .before in
+    let ss = bookShares (s .args .points) (s .args .point) (book s) in
+    c .answer-from .ensures
+    ∙ ap (λ cs. loadFrom (groupAt cs) (s .args .days)) (c .before .tallied .ensures)
+    ∙ from-table (tally ss) (s .args .days)
+    ∙ from-shares ss (s .args .days) (s .pre .1 .1) (rows-grouped (s .args .points) (s .args .point) (book s) (s .pre .0) (s .pre .1 .0) (length (s .args .ids .now)) (omega arith))
+
+pub load-of-spec : {M : Type 1} → statement M
+load-of-spec =
+    tie.close
+    (tie.spec
+    table-a-requires
+    powers-requires
+    no-groups-requires
+    tallied-requires
+    answer-from-requires
+    returns)

@@ -1,0 +1,65 @@
+-- `load::sums::counts_of` meets its contract: the invariant is the list filled so far.
+-- Assumes nothing.
+use mathlib.Core.Path.{_≡_, refl, ap, _∙_}
+use Prim.Native.Nat.{_-_, _≤_}
+use native.Mathlib.Numerals.{add-one}
+use native.Mathlib.Omega.{arith}
+use borrow.Author.Needs.{needs}
+use Rattle.counted.specs.Tally.{groupAt}
+use Rattle.counted.specs.Load.{countsOf}
+use Rattle.load.proofs.CellLaws.{filled}
+use Rattle.load.proofs.sums.counts_of.Reads as reads
+use Rattle.load.proofs.sums.counts_of.Lts as lts
+use Rattle.load.proofs.tally.group_at.Reads as group-at-reads
+use Rattle.load.proofs.sums.counts_of.Tie as tie
+use Rattle.load.proofs.sums.counts_of.Statement.{statement}
+
+abbrev Inv-loop : tie.InvT-loop
+Inv-loop groups flat₀ g₀ flat g = (g ≤ 18) × (flat ≡ filled (λ i. countsOf (groupAt groups i)) g)
+
+abbrev μ-loop : tie.MeasureT-loop
+μ-loop groups flat₀ g₀ flat g = 18 - g
+
+loop-holds : tie.Need-loop-holds Inv-loop μ-loop
+unfolding filled
+loop-holds c = (omega arith, refl)
+
+group-at-requires : tie.Need-group-at-requires Inv-loop μ-loop
+group-at-requires c κs = search needs
+
+mul-flat : tie.Need-mul-flat Inv-loop μ-loop
+mul-flat c = search needs
+
+array-set-from-flat : tie.Need-array-set-from-flat Inv-loop μ-loop
+array-set-from-flat c = search needs
+
+add-g : tie.Need-add-g Inv-loop μ-loop
+add-g c = search needs
+
+loop-less : tie.Need-loop-less Inv-loop μ-loop
+loop-less c = search needs
+
+loop-again : tie.Need-loop-again Inv-loop μ-loop
+unfolding filled
+loop-again c = (omega arith, rw (add-one, ← c .group-at .ensures, c .before .before .loop .inv .1))
+
+returns : tie.Need-returns Inv-loop μ-loop
+unfolding filled
+returns c =
+    let e : c .before .loop .g ≡ 18 = omega arith in
+    c .before .loop .inv .1 ∙ ap (filled (λ i. countsOf (groupAt (c .before .before .args .groups) i))) e
+
+pub counts-of-spec : {M : Type 1} → statement M
+counts-of-spec =
+    tie.close
+    (tie.spec
+    Inv-loop
+    μ-loop
+    loop-holds
+    group-at-requires
+    mul-flat
+    array-set-from-flat
+    add-g
+    loop-less
+    loop-again
+    returns)

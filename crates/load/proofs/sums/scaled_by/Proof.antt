@@ -1,0 +1,28 @@
+-- `load::sums::scaled_by` meets its contract: by cases on the lower; the quotient fits.
+-- Assumes nothing.
+use native.Mathlib.Omega.{arith}
+use borrow.Author.Tests.{eq-eqb, ne-eqb}
+use Rattle.level.specs.Limits.{maxEnergy}
+use Rattle.level.proofs.ScaleLaws.{scaled-le}
+use Rattle.counted.specs.Factors.{scaledBy}
+use Rattle.load.proofs.sums.scaled_by.Statement.{statement}
+use Rattle.load.proofs.sums.scaled_by.Tie as tie
+use Rattle.load.proofs.sums.scaled_by.Reads as reads
+use Rattle.load.proofs.sums.scaled_by.Lts as lts
+use Rattle.level.proofs.core.scaled.Reads as scaled-reads
+
+returns : tie.Need-returns
+unfolding scaledBy
+returns c = rw (eq-eqb _ _ (c .if1 .taken))
+
+scaled-requires : tie.Need-scaled-requires
+scaled-requires c κs =
+    let a = c .before .args in
+    (omega arith, omega (arith, scaled-le (a .energy) (a .upper) (a .lower) maxEnergy (c .before .pre .energy), c .before .pre .movements))
+
+returns-2 : tie.Need-returns-2
+unfolding scaledBy
+returns-2 c = rw (ne-eqb _ _ (c .before .if1 .left)) (c .scaled .ensures)
+
+pub scaled-by-spec : {M : Type 1} → statement M
+scaled-by-spec = tie.close (tie.spec returns scaled-requires returns-2)

@@ -1,0 +1,15 @@
+-- `load::tally::no_groups` meets its contract: by definition.
+-- Assumes nothing.
+use borrow.Author.Needs.{needs}
+use Rattle.counted.specs.Tally.{table, tally, sumOf}
+use Rattle.load.proofs.tally.no_groups.Statement.{statement}
+use Rattle.load.proofs.tally.no_groups.Tie as tie
+use Rattle.load.proofs.tally.no_groups.Reads as reads
+use Rattle.load.proofs.tally.no_groups.Lts as lts
+
+returns : tie.Need-returns
+unfolding table tally sumOf
+returns c = search needs
+
+pub no-groups-spec : {M : Type 1} → statement M
+no-groups-spec = tie.close (tie.spec returns)

@@ -1,0 +1,73 @@
+-- What the functions of the crate require of and ensure to one another.
+-- Assumes nothing.
+use Prim.Native.Nat.{ℕ, _+_, _*_, _^_, _≤_, _<_}
+use mathlib.Core.Bool.{cond, _&&_}
+use mathlib.Core.List.{List}
+use lib.Dec.{eqb, ltb}
+use Rattle.level.specs.Tables.{Holds, tableA}
+use Rattle.level.specs.Limits.{maxMovements, maxEnergy, maxTotal}
+use Rattle.level.specs.Level.{verdictOf}
+use Rattle.movement.specs.Limits.{groupCount}
+use Rattle.counted.specs.declared.Group.{Group}
+use Rattle.counted.specs.declared.Load.{Load}
+use Rattle.counted.specs.declared.Judged.{Judged}
+use Rattle.counted.specs.Shares.{energyIn}
+use Rattle.counted.specs.Tally.{groupWith, groupAt}
+use Rattle.counted.specs.Factors.{sumTo, known, unknown, knownSum, unknownSum}
+use Rattle.counted.specs.Load.{countsOf, scaledEnergy, answer, refusedLoad}
+use Rattle.counted.specs.Verdict.{judged}
+use Rattle.load.specs.declared.sums.Sums.{Sums}
+
+-- table A and the powers of ten, as they are lent
+pub record Tables (a powers : List ℕ) : Type 0 where
+  pub table-a : Holds tableA 1000 a
+  pub powers-of-ten : Holds (λ q. 10 ^ q) 14 powers
+
+-- one movement more fits into a group
+pub record Room (c : Group) : Type 0 where
+  pub computed : c .computed < maxMovements
+  pub missing : c .missing < maxMovements
+  pub energy : c .energy ≤ maxTotal
+
+-- a group with one row more: identity x, group g, mark m and level l
+unfoldable pub withRow : Group → ℕ → ℕ → ℕ → ℕ → Group
+withRow c x g m l =
+    cond (eqb x 0) c
+    (cond (eqb m 0) (groupWith (c .computed) (c .missing + 1) (c .energy))
+    (groupWith (c .computed + 1) (c .missing) (c .energy + energyIn g l)))
+
+-- an energy and a factor whose product fits
+pub record Scalable (e upper lower : ℕ) : Type 0 where
+  pub movements : upper ≤ maxMovements
+  pub energy : e ≤ lower * maxEnergy
+
+-- groups that movements within the bounds could give
+pub record Bounded (cs : List (List (List Group))) : Type 0 where
+  pub movements : sumTo (λ g. groupAt cs g .computed + groupAt cs g .missing) groupCount ≤ maxMovements
+  pub energies : (g : ℕ) → g < groupCount → groupAt cs g .energy ≤ groupAt cs g .computed * maxEnergy
+
+abbrev pub sums : ℕ → ℕ → ℕ → Sums
+sums p n w = record { scaled = p; known = n; unknown = w }
+
+-- P, V + U and W over the groups below n
+unfoldable pub sumsOf : (ℕ → Group) → ℕ → Sums
+sumsOf f n =
+    sums (sumTo (λ g. scaledEnergy (f g)) n) (sumTo (λ g. known (countsOf (f g))) n) (sumTo (λ g. unknown (countsOf (f g))) n)
+
+unfoldable pub addedTo : Sums → Group → Sums
+addedTo s c = sums (s .scaled + scaledEnergy c) (s .known + known (countsOf c)) (s .unknown + unknown (countsOf c))
+
+-- one group more fits into the sums
+pub record Fitting (s : Sums) (c : Group) : Type 0 where
+  pub movements : s .known + s .unknown + (c .computed + c .missing) ≤ maxMovements
+  pub scaled : s .scaled ≤ maxEnergy * s .known
+  pub energy : c .energy ≤ c .computed * maxEnergy
+
+-- the load of what the groups hold, where neither 9 nor 11 is given: 10 where none is known and some are unknown
+unfoldable pub loadFrom : (ℕ → Group) → ℕ → Load
+loadFrom f days =
+    cond (eqb (knownSum (λ g. countsOf (f g))) 0 && ltb 0 (unknownSum (λ g. countsOf (f g)))) (refusedLoad 10) (answer f days)
+
+-- the verdict on a load
+unfoldable pub judgedBy : Load → ℕ → Judged
+judgedBy l limit = judged (l .refused) (verdictOf (l .level) limit)

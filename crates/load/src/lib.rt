@@ -1,0 +1,184 @@
+// The load and the verdict at a point of a book: document 01, "Energy and load".
+mod sums;
+mod tally;
+
+use counted::Counts;
+use counted::Groups;
+use counted::Judged;
+use counted::Load;
+use level::Level;
+use movement::limits::MAX_DAYS;
+use movement::limits::MAX_LIMIT;
+use sums::counts_of;
+use sums::none_computed;
+use sums::scaled_by;
+use sums::summed;
+use tally::no_groups;
+use tally::tallied;
+ghost use mathlib.Core.Path.{_≡_};
+ghost use mathlib.Core.Bool.{true, _&&_};
+ghost use Prim.Native.Nat.{_<_};
+ghost use lib.Dec.{ltb};
+ghost use Rattle.book.specs.Columns.{bookOf, sound};
+ghost use Rattle.counted.specs.Shares.{bookShares};
+ghost use Rattle.counted.specs.Tally.{groupAt};
+ghost use Rattle.counted.specs.Load.{refusedLoad, daysFit, loadOf, bookLoad};
+ghost use Rattle.counted.specs.Verdict.{limitFits, Judging};
+ghost use Rattle.load.specs.Steps.{Bounded, loadFrom, judgedBy};
+
+// The load at a point of a book, over a number of days.
+pub fn load_at(
+    ids: &[u32],
+    groups: &[u32],
+    marks: &[u32],
+    levels: &[u32],
+    points: usize,
+    point: usize,
+    days: u32,
+) -> Load
+    ensures { λ r. ⌜ r ≡ bookLoad points point (bookOf (now (ids .entry)) (now (groups .entry)) (now (marks .entry)) (now (levels .entry))) days ⌝ }
+{
+    if !point_fits(ids, groups, marks, levels, points, point) {
+        return refusal(9);
+    }
+    if !days_fit(days) {
+        return refusal(11);
+    }
+    load_of(ids, groups, marks, levels, points, point, days)
+}
+
+// The verdict on the load at a point of a book.
+pub fn verdict_at(
+    ids: &[u32],
+    groups: &[u32],
+    marks: &[u32],
+    levels: &[u32],
+    points: usize,
+    point: usize,
+    days: u32,
+    limit: u32,
+) -> Judged
+    ensures { λ r. ⌜ Judging points point (bookOf (now (ids .entry)) (now (groups .entry)) (now (marks .entry)) (now (levels .entry))) days limit r ⌝ }
+{
+    if !point_fits(ids, groups, marks, levels, points, point) {
+        return Judged::Refused(9);
+    }
+    if !days_fit(days) {
+        return Judged::Refused(11);
+    }
+    if MAX_LIMIT < limit {
+        return Judged::Refused(15);
+    }
+    judged_by(
+        load_of(ids, groups, marks, levels, points, point, days),
+        limit,
+    )
+}
+
+// Whether the book is sound and the point asked for is there.
+fn point_fits(
+    ids: &[u32],
+    groups: &[u32],
+    marks: &[u32],
+    levels: &[u32],
+    points: usize,
+    point: usize,
+) -> bool
+    ensures { λ r. ⌜ r ≡ (sound points (bookOf (now (ids .entry)) (now (groups .entry)) (now (marks .entry)) (now (levels .entry))) && ltb point points) ⌝ }
+{
+    if !book::soundness::is_sound(ids, groups, marks, levels, points) {
+        return false;
+    }
+    point < points
+}
+
+fn days_fit(days: u32) -> bool
+    ensures { λ r. ⌜ r ≡ daysFit days ⌝ }
+{
+    if days < 1 {
+        return false;
+    }
+    days <= MAX_DAYS
+}
+
+// The load where neither 9 nor 11 is given.
+fn load_of(
+    ids: &[u32],
+    groups: &[u32],
+    marks: &[u32],
+    levels: &[u32],
+    points: usize,
+    point: usize,
+    days: u32,
+) -> Load
+    requires { ⌜ sound points (bookOf (now ids) (now groups) (now marks) (now levels)) ≡ true ⌝ }
+    requires { ⌜ point < points ⌝ }
+    requires { ⌜ daysFit days ≡ true ⌝ }
+    ensures { λ r. ⌜ r ≡ loadOf true (bookShares points point (bookOf (now (ids .entry)) (now (groups .entry)) (now (marks .entry)) (now (levels .entry)))) days ⌝ }
+{
+    let a = level::tables::table_a();
+    let powers = level::tables::powers();
+    answer_from(
+        tallied(
+            no_groups(),
+            &a,
+            &powers,
+            ids,
+            groups,
+            marks,
+            levels,
+            points,
+            point,
+        ),
+        days,
+    )
+}
+
+// A refusal's number alone.
+fn refusal(n: u32) -> Load
+    ensures { λ r. ⌜ r ≡ refusedLoad n ⌝ }
+{
+    let none = Counts {
+        computed: 0,
+        missing: 0,
+    };
+    Load {
+        refused: n,
+        total: 0,
+        level: Level::BelowZero,
+        counts: [none; 18],
+    }
+}
+
+// The load of groups that were tallied: refusal 10 where movements stand and none is computed.
+fn answer_from(groups: Groups, days: u32) -> Load
+    requires { ⌜ Bounded groups ⌝ }
+    requires { ⌜ daysFit days ≡ true ⌝ }
+    ensures { λ r. ⌜ r ≡ loadFrom (groupAt groups) days ⌝ }
+{
+    let sums = summed(groups);
+    if none_computed(sums) {
+        return refusal(10);
+    }
+    let total = scaled_by(sums.scaled, sums.known + sums.unknown, sums.known);
+    let level = level::core::level_of(level::core::mean(total, days));
+    let counts = counts_of(groups);
+    Load {
+        refused: 0,
+        total: total,
+        level: level,
+        counts: counts,
+    }
+}
+
+// The verdict on a load.
+fn judged_by(load: Load, limit: u32) -> Judged
+    ensures { λ r. ⌜ r ≡ judgedBy load limit ⌝ }
+{
+    let refused = load.refused;
+    let level = load.level;
+    if refused != 0 {
+        return Judged::Refused(refused);
+    }
+    Judged::Given(level::core::judge(level, limit))
+}

@@ -1,0 +1,98 @@
+// Sums over the 18 groups.
+use crate::tally::group_at;
+use counted::Counts;
+use counted::Group;
+use counted::Groups;
+ghost use mathlib.Core.Path.{_≡_};
+ghost use mathlib.Core.Bool.{_&&_};
+ghost use lib.Dec.{eqb, ltb};
+ghost use Rattle.movement.specs.Limits.{groupCount};
+ghost use Rattle.counted.specs.Tally.{groupAt, listFrom};
+ghost use Rattle.counted.specs.Factors.{over, scaledBy};
+ghost use Rattle.counted.specs.Load.{countsOf};
+ghost use Rattle.load.specs.Steps.{Scalable, Bounded, Fitting, sumsOf, addedTo};
+
+// P, V + U over the groups with computed movements, and W.
+pub(crate) struct Sums {
+    pub(crate) scaled: u64,
+    pub(crate) known: u32,
+    pub(crate) unknown: u32,
+}
+
+// An energy times a factor, rounded down; a lower of 0 never divides.
+pub(crate) fn scaled_by(energy: u64, upper: u32, lower: u32) -> u64
+    requires { ⌜ Scalable energy upper lower ⌝ }
+    ensures { λ r. ⌜ r ≡ scaledBy (over upper lower) energy ⌝ }
+{
+    if lower == 0 {
+        return 0;
+    }
+    level::core::scaled(energy, upper, lower)
+}
+
+// The sums with one group more: the U of a group with none computed go into W.
+fn added_to(s: Sums, c: Group) -> Sums
+    requires { ⌜ Fitting s c ⌝ }
+    ensures { λ r. ⌜ r ≡ addedTo s c ⌝ }
+{
+    let computed = c.computed;
+    let all = computed + c.missing;
+    let scaled = s.scaled + scaled_by(c.energy, all, computed);
+    if computed == 0 {
+        return Sums {
+            scaled: scaled,
+            known: s.known,
+            unknown: s.unknown + c.missing,
+        };
+    }
+    Sums {
+        scaled: scaled,
+        known: s.known + all,
+        unknown: s.unknown,
+    }
+}
+
+// The sums over all groups.
+pub(crate) fn summed(groups: Groups) -> Sums
+    requires { ⌜ Bounded groups ⌝ }
+    ensures { λ r. ⌜ r ≡ sumsOf (groupAt groups) groupCount ⌝ }
+{
+    let mut s = Sums {
+        scaled: 0,
+        known: 0,
+        unknown: 0,
+    };
+    for g in 0..18 {
+        s = added_to(s, group_at(groups, g));
+    }
+    s
+}
+
+// Whether movements stand and none is computed.
+pub(crate) fn none_computed(s: Sums) -> bool
+    ensures { λ r. ⌜ r ≡ (eqb (s .known) 0 && ltb 0 (s .unknown)) ⌝ }
+{
+    if s.known != 0 {
+        return false;
+    }
+    0 < s.unknown
+}
+
+// V and U of each group, by its number.
+pub(crate) fn counts_of(groups: Groups) -> [Counts; 18]
+    ensures { λ r. ⌜ r ≡ listFrom (λ g. countsOf (groupAt groups g)) 0 groupCount ⌝ }
+{
+    let none = Counts {
+        computed: 0,
+        missing: 0,
+    };
+    let mut flat = [none; 18];
+    for g in 0..18 {
+        let c = group_at(groups, g);
+        flat[g] = Counts {
+            computed: c.computed,
+            missing: c.missing,
+        };
+    }
+    flat
+}

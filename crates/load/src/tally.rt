@@ -1,0 +1,95 @@
+// The tally of a book's rows: V, U and S of each group at one point.
+use counted::Group;
+use counted::Groups;
+ghost use mathlib.Core.Path.{_≡_};
+ghost use mathlib.Core.Bool.{true};
+ghost use mathlib.Core.List.{[]};
+ghost use Prim.Native.Nat.{_≤_, _<_};
+ghost use Rattle.movement.specs.Limits.{maxLevel, groupCount};
+ghost use Rattle.book.specs.Columns.{bookOf, sound};
+ghost use Rattle.counted.specs.Shares.{bookShares};
+ghost use Rattle.counted.specs.Tally.{tally, table, groupAt};
+ghost use Rattle.load.specs.Steps.{Tables, Room, withRow};
+
+// No movement in any group.
+pub(crate) fn no_groups() -> Groups
+    ensures { λ r. ⌜ r ≡ table (tally []) ⌝ }
+{
+    let none = Group {
+        computed: 0,
+        missing: 0,
+        energy: 0,
+    };
+    [[[none; 3]; 2]; 3]
+}
+
+// A group by its number.
+pub(crate) fn group_at(groups: Groups, g: usize) -> Group
+    requires { ⌜ g < groupCount ⌝ }
+    ensures { λ r. ⌜ r ≡ groupAt groups g ⌝ }
+{
+    groups[g / 6][g % 6 / 3][g % 3]
+}
+
+// A group with one row of it more, by table A and the powers of ten; an unused row adds nothing.
+fn with_row(
+    a: &[u64; 1000],
+    powers: &[u64; 14],
+    seen: Group,
+    identity: u32,
+    group: u32,
+    mark: u32,
+    level: u32,
+) -> Group
+    requires { ⌜ (Room seen) × (group < groupCount) × (level ≤ maxLevel) ⌝ }
+    requires { ⌜ Tables (now a) (now powers) ⌝ }
+    ensures { λ r. ⌜ r ≡ withRow seen identity group mark level ⌝ }
+{
+    if identity == 0 {
+        return seen;
+    }
+    if mark == 0 {
+        return Group {
+            computed: seen.computed,
+            missing: seen.missing + 1,
+            energy: seen.energy,
+        };
+    }
+    let e = level::core::energy(a, powers, level + movement::core::group_weight(group));
+    Group {
+        computed: seen.computed + 1,
+        missing: seen.missing,
+        energy: seen.energy + e,
+    }
+}
+
+// The groups with all rows of a sound book at a point. They come in once and go out once: a row reads and stores its own group alone.
+pub(crate) fn tallied(
+    start: Groups,
+    a: &[u64; 1000],
+    powers: &[u64; 14],
+    ids: &[u32],
+    groups: &[u32],
+    marks: &[u32],
+    levels: &[u32],
+    points: usize,
+    point: usize,
+) -> Groups
+    requires { ⌜ (start ≡ table (tally [])) × (Tables (now a) (now powers)) ⌝ }
+    requires { ⌜ sound points (bookOf (now ids) (now groups) (now marks) (now levels)) ≡ true ⌝ }
+    requires { ⌜ point < points ⌝ }
+    ensures { λ r. ⌜ r ≡ table (tally (bookShares points point (bookOf (now (ids .entry)) (now (groups .entry)) (now (marks .entry)) (now (levels .entry))))) ⌝ }
+{
+    let mut cells = start;
+    let mut i = 0;
+    while i < ids.len() {
+        let group = groups[i];
+        let at = i * points + point;
+        let g = group as usize;
+        let seen = cells[g / 6][g % 6 / 3][g % 3];
+        let next = with_row(a, powers, seen, ids[i], group, marks[i], levels[at]);
+        cells[g / 6][g % 6 / 3][g % 3] = next;
+        i += 1;
+    }
+    cells
+}
