@@ -1,0 +1,82 @@
+//! What is measured: books, registers and networks, the same in every run.
+
+use reference::book::Columns;
+
+pub type Book = Columns<Vec<u32>>;
+
+/// Numbers that look random (a linear congruence).
+pub struct Numbers(u64);
+
+impl Numbers {
+    pub fn new() -> Numbers {
+        Numbers(1)
+    }
+
+    pub fn below(&mut self, end: u32) -> u32 {
+        self.0 = self.0.wrapping_mul(6_364_136_223_846_793_005).wrapping_add(1_442_695_040_888_963_407);
+        ((self.0 >> 33) % u64::from(end)) as u32
+    }
+}
+
+/// A book of `rows` rows of which `free` are unused, with odd identities; three in four movements are computed.
+pub fn book(rows: usize, free: usize, points: u32) -> Book {
+    let mut numbers = Numbers::new();
+    let mut book = Columns::new(rows, points);
+    for row in 0..rows - free {
+        book.identities[row] = 2 * row as u32 + 1;
+        book.groups[row] = numbers.below(18);
+        book.marks[row] = u32::from(numbers.below(4) > 0);
+        if book.marks[row] == 1 {
+            book.levels[row * points as usize..][..points as usize].iter_mut().for_each(|level| *level = 4_000 + numbers.below(6_000));
+        }
+    }
+    book
+}
+
+/// A register of `rows` rows at `points` points, identities rising, without its header.
+pub fn register(rows: u32, points: u32) -> Vec<u8> {
+    let mut numbers = Numbers::new();
+    let mut text = String::new();
+    for identity in 1..=rows {
+        let (hour, minute) = (numbers.below(24), numbers.below(60));
+        text += &format!(
+            "{identity},{},{},{},{hour:02}:{minute:02}:00",
+            ["G", "H"][numbers.below(2) as usize],
+            500 + numbers.below(90_000),
+            ["S", "L"][numbers.below(2) as usize]
+        );
+        let blank = numbers.below(4) == 0;
+        for _ in 0..points {
+            text += &if blank { ",".to_string() } else { format!(",{}.{:02}", 40 + numbers.below(60), numbers.below(100)) };
+        }
+        text += "\r\n";
+    }
+    text.into_bytes()
+}
+
+/// The level of the contours measured.
+pub const LEVEL: u32 = 5_000;
+
+pub const NETWORKS: [(&str, fn(u32) -> Vec<u32>); 3] = [("smooth", smooth), ("noisy", noisy), ("checkerboard", checkerboard)];
+
+/// Two hills, as around an airfield.
+fn smooth(side: u32) -> Vec<u32> {
+    let hill = |row: u32, column: u32, at: (f64, f64)| {
+        let (y, x) = (f64::from(row) / f64::from(side) - at.0, f64::from(column) / f64::from(side) - at.1);
+        5_000.0 / (1.0 + 30.0 * (x * x + 2.0 * y * y))
+    };
+    points(side, |row, column| (hill(row, column, (0.4, 0.3)) + hill(row, column, (0.6, 0.7))) as u32)
+}
+
+fn noisy(side: u32) -> Vec<u32> {
+    let mut numbers = Numbers::new();
+    points(side, |_, _| 4_000 + numbers.below(2_001))
+}
+
+fn checkerboard(side: u32) -> Vec<u32> {
+    points(side, |row, column| 4_000 + (row + column) % 2 * 2_000)
+}
+
+fn points(side: u32, mut level: impl FnMut(u32, u32) -> u32) -> Vec<u32> {
+    (0..side * side).map(|point| level(point / side, point % side)).collect()
+}

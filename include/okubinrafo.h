@@ -1,0 +1,93 @@
+/* Okubinrafo for C, Rust, Python and others: the functions that the static library exports.
+ *
+ * Every call takes any arguments and any lent memory, ends, and answers with 0 (accepted) or the refusal number of
+ * document 01. A refused call changes no byte that it was lent; room past an answer keeps its bytes. No function keeps
+ * a pointer, allocates or has state.
+ *
+ * A slice is a pointer and the number of its elements (not of bytes). The pointer is not null, not even for a slice of
+ * no elements, and aligned for its type. A slice that a call may write to overlaps no other slice of that call.
+ * Points are counted from 0 here and from 1 in files. Levels are hundredths of a dB.
+ */
+#ifndef OKUBINRAFO_H
+#define OKUBINRAFO_H
+
+#include <stddef.h>
+#include <stdint.h>
+
+#ifdef __cplusplus
+extern "C" {
+#endif
+
+/* A book: four columns lent by the caller, all zero at first. Rows: identities_len, 1 to 50,000; groups and marks have
+ * as many numbers, levels has points (1 to 8) numbers a row. */
+#define OKUBINRAFO_BOOK                                                                              \
+    uint32_t *identities, size_t identities_len, uint32_t *groups, size_t groups_len,                \
+    uint32_t *marks, size_t marks_len, uint32_t *levels, size_t levels_len, uint32_t points
+#define OKUBINRAFO_BOOK_READ                                                                         \
+    const uint32_t *identities, size_t identities_len, const uint32_t *groups, size_t groups_len,    \
+    const uint32_t *marks, size_t marks_len, const uint32_t *levels, size_t levels_len, uint32_t points
+
+/* type: 0 large, 1 small, 2 helicopter. kind: 0 start, 1 landing. time: second of the local day. mass: kg. */
+uint32_t okubinrafo_enter(OKUBINRAFO_BOOK, uint32_t identity, uint32_t type, uint32_t kind, uint32_t time, uint32_t mass);
+uint32_t okubinrafo_supply(OKUBINRAFO_BOOK, uint32_t identity, const uint32_t *given, size_t given_len);
+uint32_t okubinrafo_take_back(OKUBINRAFO_BOOK, uint32_t identity);
+uint32_t okubinrafo_withdraw(OKUBINRAFO_BOOK, uint32_t identity);
+
+/* A journal: calls one after the other as numbers.
+ *   1 enter: identity, type, kind, time, mass.   2 supply: identity, how many levels follow, those levels.
+ *   3 take back: identity.                       4 withdraw: identity.
+ * The calls are made in order, each as the function above would make it; answers: one number a call, 0 or its refusal.
+ * Refusals of the whole, before anything changes: 16 the numbers are off this layout, 9, 14 fewer answers than calls. */
+uint32_t okubinrafo_replay(OKUBINRAFO_BOOK, const uint32_t *journal, size_t journal_len,
+                           uint32_t *answers, size_t answers_len);
+
+/* answer: 39 numbers: total; 1 if a level is given, 0 if below zero; the level (0 if below zero); V of the 18 groups;
+ * U of the 18 groups. */
+uint32_t okubinrafo_load(OKUBINRAFO_BOOK_READ, uint32_t point, uint32_t days, uint64_t *answer, size_t answer_len);
+/* answer: 1 number: 1 over, 0 within. */
+uint32_t okubinrafo_verdict(OKUBINRAFO_BOOK_READ, uint32_t point, uint32_t days, uint32_t limit,
+                            uint32_t *answer, size_t answer_len);
+
+/* A network: levels row by row from the south, west to east; spacing and the south-west point in metres. */
+#define OKUBINRAFO_NETWORK                                                                           \
+    const uint32_t *levels, size_t levels_len, uint32_t columns, uint32_t rows,                      \
+    uint32_t spacing, uint32_t west, uint32_t south
+
+/* edges: edge numbers, contour after contour. counts, closed: one a contour (closed is 0 or 1). sizes: 2 numbers: edges
+ * listed, contours. No answer has more edges than the network, rows*(columns-1) + (rows-1)*columns. */
+uint32_t okubinrafo_contours(OKUBINRAFO_NETWORK, uint32_t level, uint32_t *edges, size_t edges_len,
+                             uint32_t *counts, size_t counts_len, uint32_t *closed, size_t closed_len,
+                             uint32_t *sizes, size_t sizes_len);
+/* Well-known text; size: 1 number, the bytes written. */
+uint32_t okubinrafo_print_contours(OKUBINRAFO_NETWORK, uint32_t level, uint8_t *text, size_t text_len,
+                                   uint32_t *size, size_t size_len);
+
+/* which: 1 number: 0 none, 1 along a horizontal edge, 2 along a vertical edge. fraction: 1 number (0.0 for none). */
+uint32_t okubinrafo_crossing(OKUBINRAFO_NETWORK, uint32_t level, uint32_t edge, uint32_t *which, size_t which_len,
+                             double *fraction, size_t fraction_len);
+/* which as above; place: 2 numbers, x and y (0.0 and 0.0 for none). */
+uint32_t okubinrafo_map_point(OKUBINRAFO_NETWORK, uint32_t level, uint32_t edge, uint32_t *which, size_t which_len,
+                              double *place, size_t place_len);
+/* Many edges in one call: which: one number an edge; places: two numbers an edge. */
+uint32_t okubinrafo_map_points(OKUBINRAFO_NETWORK, uint32_t level, const uint32_t *edges, size_t edges_len,
+                               uint32_t *which, size_t which_len, double *places, size_t places_len);
+
+/* A register row, with its CRLF or without. fields: 6 numbers: identity, type, mass, kind, time, 1 if computed.
+ * levels: one a point (0 where not computed). */
+uint32_t okubinrafo_read_row(const uint8_t *line, size_t line_len, uint32_t points, uint32_t *fields, size_t fields_len,
+                             uint32_t *levels, size_t levels_len);
+/* fields and levels as above (a number of fields other than 6 is 9); the text has its CRLF, at most 86 bytes in all;
+ * size: 1 number, the bytes written. */
+uint32_t okubinrafo_write_row(const uint32_t *fields, size_t fields_len, const uint32_t *levels, size_t levels_len,
+                              uint32_t points, uint8_t *text, size_t text_len, uint32_t *size, size_t size_len);
+
+/* header: 5 numbers: columns, rows, spacing, west, south. levels: at most 65,536. */
+uint32_t okubinrafo_read_network(const uint8_t *text, size_t text_len, uint32_t *header, size_t header_len,
+                                 uint32_t *levels, size_t levels_len);
+/* size: 1 number, the bytes written. */
+uint32_t okubinrafo_write_network(OKUBINRAFO_NETWORK, uint8_t *text, size_t text_len, uint32_t *size, size_t size_len);
+
+#ifdef __cplusplus
+}
+#endif
+#endif

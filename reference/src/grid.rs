@@ -1,0 +1,135 @@
+//! Network files, Esri ASCII grid (document 01, Files and the report program).
+
+use crate::network::{Frame, Network, MAX_NETWORK_LEVEL};
+use crate::text::{level, lines, spell_level, whole};
+use crate::{ensure, Answer, Refusal};
+use std::fmt::Write;
+
+const NO_DATA_KEY: &str = "NODATA_value";
+const NO_DATA: &[u8] = b"-9999";
+
+/// A network's frame and its levels from the south row: 17, 12, 13, each judged over the whole text.
+pub fn read(text: &[u8]) -> Answer<(Frame, Vec<u32>)> {
+    let lines = lines(text);
+    let header = |number: usize, key| keyed(lines.get(number)?, key).and_then(whole);
+    let frame = || {
+        let (columns, rows) = (header(0, "ncols")?, header(1, "nrows")?);
+        let (west, south) = (header(2, "xllcenter")?, header(3, "yllcenter")?);
+        Some(Frame { columns, rows, spacing: header(4, "cellsize")?, west, south })
+    };
+    let frame = frame().ok_or(Refusal::Grid)?;
+    let (no_data, values) = cut_no_data(&lines[5..]).ok_or(Refusal::Grid)?;
+    let values = values.iter().map(|line| row(line, no_data)).collect::<Option<Vec<_>>>().ok_or(Refusal::Grid)?;
+    frame.check()?;
+    let counts = values.len() == frame.rows as usize && values.iter().all(|row| row.len() == frame.columns as usize);
+    ensure(counts, Refusal::Network)?;
+    let levels = values.into_iter().rev().flatten().collect::<Option<Vec<u32>>>().ok_or(Refusal::NetworkLevel)?;
+    ensure(levels.iter().all(|&level| level <= MAX_NETWORK_LEVEL), Refusal::NetworkLevel)?;
+    Ok((frame, levels))
+}
+
+/// The field after a key and one space.
+fn keyed<'a>(line: &'a [u8], key: &str) -> Option<&'a [u8]> {
+    line.strip_prefix(key.as_bytes())?.strip_prefix(b" ")
+}
+
+/// The spelling of no data, and the lines of values.
+fn cut_no_data<'a>(lines: &'a [&'a [u8]]) -> Option<(&'a [u8], &'a [&'a [u8]])> {
+    match lines {
+        [first, rest @ ..] if first.starts_with(NO_DATA_KEY.as_bytes()) => {
+            let spelling = keyed(first, NO_DATA_KEY)?;
+            let number = spelling.strip_prefix(b"-").unwrap_or(spelling);
+            whole(number).or(level(number))?;
+            Some((spelling, rest))
+        }
+        _ => Some((NO_DATA, lines)),
+    }
+}
+
+/// The values of a line, none for no data; or none at all where one is off the layout.
+fn row(line: &[u8], no_data: &[u8]) -> Option<Vec<Option<u32>>> {
+    let value = |field: &[u8]| if field == no_data { Some(None) } else { level(field).map(Some) };
+    line.split(|&byte| byte == b' ').map(value).collect()
+}
+
+/// The network's text; the network is in range.
+pub fn write(network: &Network) -> String {
+    let Frame { columns, rows, spacing, west, south } = network.frame;
+    let mut text = format!("ncols {columns}\r\nnrows {rows}\r\nxllcenter {west}\r\nyllcenter {south}\r\ncellsize {spacing}\r\n");
+    for row in network.levels.chunks(columns as usize).rev() {
+        let values: Vec<String> = row.iter().map(|&level| spell_level(level)).collect();
+        write!(text, "{}\r\n", values.join(" ")).expect("a string takes all text");
+    }
+    text
+}
+
+#[cfg(test)]
+mod tests {
+    use super::*;
+
+    const HEAD: &str = "ncols 2\r\nnrows 2\r\nxllcenter 5\r\nyllcenter 6\r\ncellsize 100\r\n";
+    const FRAME: Frame = Frame { columns: 2, rows: 2, spacing: 100, west: 5, south: 6 };
+
+    fn read_values(values: &str) -> Answer<Vec<u32>> {
+        read(format!("{HEAD}{values}").as_bytes()).map(|(_, levels)| levels)
+    }
+
+    #[test]
+    fn rows_run_from_north_to_south() {
+        let text = format!("{HEAD}1.00 2.00\r\n3.00 150.00\r\n");
+        let levels = vec![300, 15_000, 100, 200];
+        assert_eq!(read(text.as_bytes()), Ok((FRAME, levels.clone())));
+        assert_eq!(write(&Network { frame: FRAME, levels: &levels }), text);
+        assert_eq!(read_values("1.00 2.00\r\n3.00 150.00"), Ok(levels), "the last CRLF may be missing");
+    }
+
+    #[test]
+    fn off_the_layout() {
+        for wrong in [
+            "1.00 2.00\r\n3.00  4.00",
+            "1.00 2.00 \r\n3.00 4.00",
+            " 1.00 2.00\r\n3.00 4.00",
+            "1.00 2.00\n3.00 4.00",
+            "1.00 2.00\r\n\r\n3.00 4.00",
+            "1.00 2.00\r\n3.00 4.00\r\n\r\n",
+            "1.00 2.00\r\n3.00 4",
+            "NODATA_value\r\n1.00 2.00\r\n3.00 4.00",
+            "NODATA_value --1\r\n1.00 2.00\r\n3.00 4.00",
+            "NODATA_value -01\r\n1.00 2.00\r\n3.00 4.00",
+            "NODATA_value 0\r\nNODATA_value 0\r\n1.00 2.00\r\n3.00 4.00",
+            "NODATA_value 0\r\n1.00 2.00\r\n3.00 -9999",
+        ] {
+            assert_eq!(read_values(wrong), Err(Refusal::Grid), "{wrong:?}");
+        }
+        for wrong in ["", "ncols 2\r\nnrows 2\r\nxllcenter 5\r\nyllcenter 6", "NCOLS 2", "ncols  2", "ncols 02", "ncols -2"] {
+            let text = HEAD.replacen("ncols 2", wrong, 1);
+            assert_eq!(read(if wrong.len() > 20 { wrong.as_bytes() } else { text.as_bytes() }), Err(Refusal::Grid), "{wrong:?}");
+        }
+        assert_eq!(read(b""), Err(Refusal::Grid));
+    }
+
+    #[test]
+    fn off_the_size() {
+        for wrong in ["", "1.00 2.00", "1.00 2.00\r\n3.00", "1.00 2.00\r\n3.00 4.00 5.00", "1.00 2.00\r\n3.00 4.00\r\n5.00 6.00", "999.99"]
+        {
+            assert_eq!(read_values(wrong), Err(Refusal::Network), "{wrong:?}");
+        }
+        let spaced = format!("{HEAD}1.00 2.00\r\n3.00 4.00").replace("cellsize 100", "cellsize 0");
+        assert_eq!(read(spaced.as_bytes()), Err(Refusal::Network));
+        assert_eq!(read((spaced + "x").as_bytes()), Err(Refusal::Grid), "17 before 12");
+    }
+
+    #[test]
+    fn no_data_and_levels_out_of_range() {
+        for wrong in [
+            "1.00 2.00\r\n3.00 150.01",
+            "1.00 -9999\r\n3.00 4.00",
+            "NODATA_value 2.00\r\n1.00 2.00\r\n3.00 4.00",
+            "NODATA_value -0\r\n1.00 2.00\r\n3.00 -0",
+            "NODATA_value 5\r\n1.00 2.00\r\n3.00 5",
+        ] {
+            assert_eq!(read_values(wrong), Err(Refusal::NetworkLevel), "{wrong:?}");
+        }
+        assert_eq!(read_values("NODATA_value 2\r\n1.00 2.00\r\n3.00 4.00"), Ok(vec![300, 400, 100, 200]));
+    }
+}

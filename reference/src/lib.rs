@@ -1,0 +1,51 @@
+//! Document 01 in plain Rust, written from the document and from nothing else, to test the proved library against.
+//! Each module is one noun of the document; `calls` has the functions of include/okubinrafo.h over slices.
+
+pub mod big;
+pub mod book;
+pub mod calls;
+pub mod contour;
+pub mod grid;
+pub mod level;
+pub mod load;
+pub mod mapping;
+pub mod movement;
+pub mod network;
+pub mod register;
+pub mod report;
+pub mod text;
+pub mod wkt;
+
+/// The refusals with their numbers (document 01, Refusal numbers).
+#[derive(Clone, Copy, Debug, PartialEq, Eq)]
+#[repr(u32)]
+pub enum Refusal {
+    Movement = 1,
+    TooLight = 2,
+    Identity = 3,
+    Stands = 4,
+    StandsNot = 5,
+    NoRow = 6,
+    Levels = 7,
+    NoLevels = 8,
+    Book = 9,
+    NoneComputed = 10,
+    Days = 11,
+    Network = 12,
+    NetworkLevel = 13,
+    Room = 14,
+    Range = 15,
+    Register = 16,
+    Grid = 17,
+}
+
+pub type Answer<T> = Result<T, Refusal>;
+
+/// Goes on where `holds`, otherwise refuses.
+pub fn ensure(holds: bool, otherwise: Refusal) -> Answer<()> {
+    if holds {
+        Ok(())
+    } else {
+        Err(otherwise)
+    }
+}

@@ -1,0 +1,101 @@
+//! Lines, fields and numbers as texts spell them (document 01, Files and the report program).
+
+const CRLF: &[u8] = b"\r\n";
+
+/// The lines of a text. Only CRLF ends a line, and the last one may be missing.
+pub fn lines(text: &[u8]) -> Vec<&[u8]> {
+    let mut lines = Vec::new();
+    let mut rest = text;
+    while !rest.is_empty() {
+        let end = rest.windows(2).position(|pair| pair == CRLF);
+        lines.push(&rest[..end.unwrap_or(rest.len())]);
+        rest = end.map_or(&[], |end| &rest[end + 2..]);
+    }
+    lines
+}
+
+/// The line without its CRLF, if it has one.
+pub fn without_crlf(line: &[u8]) -> &[u8] {
+    line.strip_suffix(CRLF).unwrap_or(line)
+}
+
+/// A whole number: one to seven digits without a needless leading zero.
+pub fn whole(field: &[u8]) -> Option<u32> {
+    let spelled = (1..=7).contains(&field.len()) && (field == b"0" || field[0] != b'0');
+    if spelled {
+        digits(field)
+    } else {
+        None
+    }
+}
+
+/// A level or limit in hundredths: one to three digits, a point and two digits.
+pub fn level(field: &[u8]) -> Option<u32> {
+    let (before, after) = field.split_at_checked(field.len().checked_sub(3)?)?;
+    let hundredths = digits(after.strip_prefix(b".")?)?;
+    if before.len() > 3 {
+        return None;
+    }
+    Some(whole(before)? * 100 + hundredths)
+}
+
+/// hh:mm:ss as a second of the day.
+pub fn time(field: &[u8]) -> Option<u32> {
+    let &[h, i, b':', m, n, b':', s, t] = field else { return None };
+    let (hour, minute, second) = (digits(&[h, i])?, digits(&[m, n])?, digits(&[s, t])?);
+    (hour <= 23 && minute <= 59 && second <= 59).then_some((hour * 60 + minute) * 60 + second)
+}
+
+fn digits(field: &[u8]) -> Option<u32> {
+    field.iter().try_fold(0, |sum, digit| digit.is_ascii_digit().then(|| sum * 10 + u32::from(digit - b'0')))
+}
+
+/// Hundredths with a point and two digits.
+pub fn spell_level(level: u32) -> String {
+    format!("{}.{:02}", level / 100, level % 100)
+}
+
+pub fn spell_time(time: u32) -> String {
+    format!("{:02}:{:02}:{:02}", time / 3600, time / 60 % 60, time % 60)
+}
+
+#[cfg(test)]
+mod tests {
+    use super::*;
+
+    #[test]
+    fn only_crlf_ends_a_line() {
+        assert_eq!(lines(b""), Vec::<&[u8]>::new());
+        assert_eq!(lines(b"a\r\nb"), [b"a", b"b"]);
+        assert_eq!(lines(b"a\r\nb\r\n"), [b"a", b"b"]);
+        assert_eq!(lines(b"a\r\n\r\n"), [&b"a"[..], b""]);
+        assert_eq!(lines(b"\r\n"), [b""]);
+        assert_eq!(lines(b"a\nb\rc\r\r\n\n"), [&b"a\nb\rc\r"[..], b"\n"]);
+    }
+
+    #[test]
+    fn whole_numbers() {
+        assert_eq!((whole(b"0"), whole(b"9999999"), whole(b"150")), (Some(0), Some(9_999_999), Some(150)));
+        for wrong in [&b""[..], b"00", b"07", b"10000000", b"-1", b"+1", b"1 ", b"1.0", b"\xb2"] {
+            assert_eq!(whole(wrong), None, "{wrong:?}");
+        }
+    }
+
+    #[test]
+    fn levels() {
+        assert_eq!((level(b"0.00"), level(b"0.05"), level(b"120.00"), level(b"999.99")), (Some(0), Some(5), Some(12_000), Some(99_999)));
+        for wrong in [&b""[..], b".00", b"00.00", b"01.00", b"1.0", b"1.000", b"1000.00", b"1,00", b"1", b"-1.00", b"1.-1", b"1. 1"] {
+            assert_eq!(level(wrong), None, "{wrong:?}");
+        }
+        assert_eq!((spell_level(5), spell_level(12_000)), ("0.05".to_string(), "120.00".to_string()));
+    }
+
+    #[test]
+    fn times() {
+        assert_eq!((time(b"00:00:00"), time(b"23:59:59"), time(b"07:00:00")), (Some(0), Some(86_399), Some(25_200)));
+        for wrong in [&b"24:00:00"[..], b"00:60:00", b"00:00:60", b"7:00:00", b"07:00", b"07-00-00", b"007:00:00"] {
+            assert_eq!(time(wrong), None, "{wrong:?}");
+        }
+        assert_eq!(spell_time(86_399), "23:59:59");
+    }
+}

@@ -1,0 +1,143 @@
+//! The exported names of include/okubinrafo.h over the reference. Nothing is decided here: pointers become slices.
+//!
+//! # Safety
+//! Each pointer is not null, aligned, and good for as many elements as the length after it says.
+#![allow(clippy::missing_safety_doc, clippy::too_many_arguments)]
+
+use reference::book::Columns;
+use reference::calls::{self, ContourRoom};
+use reference::network::{Frame, Network};
+use std::slice::{from_raw_parts, from_raw_parts_mut};
+
+macro_rules! lent_book {
+    ($ids:ident $ids_len:ident $groups:ident $groups_len:ident $marks:ident $marks_len:ident $levels:ident $levels_len:ident $points:ident) => {
+        Columns {
+            identities: from_raw_parts_mut($ids, $ids_len),
+            groups: from_raw_parts_mut($groups, $groups_len),
+            marks: from_raw_parts_mut($marks, $marks_len),
+            levels: from_raw_parts_mut($levels, $levels_len),
+            points: $points,
+        }
+    };
+}
+
+/// A function that takes a book to change and more.
+macro_rules! book_call {
+    ($name:ident($($arg:ident: $kind:ty),*) $body:expr) => {
+        #[no_mangle]
+        pub unsafe extern "C" fn $name(
+            ids: *mut u32, ids_len: usize, groups: *mut u32, groups_len: usize, marks: *mut u32, marks_len: usize,
+            levels: *mut u32, levels_len: usize, points: u32, $($arg: $kind),*
+        ) -> u32 {
+            $body(lent_book!(ids ids_len groups groups_len marks marks_len levels levels_len points))
+        }
+    };
+}
+
+book_call!(okubinrafo_enter(identity: u32, aircraft: u32, kind: u32, time: u32, mass: u32)
+    |book| calls::enter(book, identity, aircraft, kind, time, mass));
+book_call!(okubinrafo_supply(identity: u32, given: *const u32, given_len: usize)
+    |book| calls::supply(book, identity, from_raw_parts(given, given_len)));
+book_call!(okubinrafo_take_back(identity: u32) |book| calls::take_back(book, identity));
+book_call!(okubinrafo_withdraw(identity: u32) |book| calls::withdraw(book, identity));
+book_call!(okubinrafo_replay(journal: *const u32, journal_len: usize, answers: *mut u32, answers_len: usize)
+    |book| calls::replay(book, from_raw_parts(journal, journal_len), from_raw_parts_mut(answers, answers_len)));
+
+/// A function that takes a book to read and more.
+macro_rules! read_book_call {
+    ($name:ident($($arg:ident: $kind:ty),*) $body:expr) => {
+        #[no_mangle]
+        pub unsafe extern "C" fn $name(
+            ids: *const u32, ids_len: usize, groups: *const u32, groups_len: usize, marks: *const u32, marks_len: usize,
+            levels: *const u32, levels_len: usize, points: u32, $($arg: $kind),*
+        ) -> u32 {
+            let (identities, groups) = (from_raw_parts(ids, ids_len), from_raw_parts(groups, groups_len));
+            let (marks, levels) = (from_raw_parts(marks, marks_len), from_raw_parts(levels, levels_len));
+            $body(Columns { identities, groups, marks, levels, points })
+        }
+    };
+}
+
+read_book_call!(okubinrafo_load(point: u32, days: u32, answer: *mut u64, answer_len: usize)
+    |book| calls::load(book, point, days, from_raw_parts_mut(answer, answer_len)));
+read_book_call!(okubinrafo_verdict(point: u32, days: u32, limit: u32, answer: *mut u32, answer_len: usize)
+    |book| calls::verdict(book, point, days, limit, from_raw_parts_mut(answer, answer_len)));
+
+/// A function that takes a network and more.
+macro_rules! network_call {
+    ($name:ident($($arg:ident: $kind:ty),*) $body:expr) => {
+        #[no_mangle]
+        pub unsafe extern "C" fn $name(
+            levels: *const u32, levels_len: usize, columns: u32, rows: u32, spacing: u32, west: u32, south: u32, $($arg: $kind),*
+        ) -> u32 {
+            let frame = Frame { columns, rows, spacing, west, south };
+            $body(Network { frame, levels: from_raw_parts(levels, levels_len) })
+        }
+    };
+}
+
+network_call!(okubinrafo_contours(
+level: u32, edges: *mut u32, edges_len: usize, counts: *mut u32, counts_len: usize,
+closed: *mut u32, closed_len: usize, sizes: *mut u32, sizes_len: usize)
+|network| {
+    let (edges, counts) = (from_raw_parts_mut(edges, edges_len), from_raw_parts_mut(counts, counts_len));
+    let (closed, sizes) = (from_raw_parts_mut(closed, closed_len), from_raw_parts_mut(sizes, sizes_len));
+    calls::contours(network, level, ContourRoom { edges, counts, closed, sizes })
+});
+network_call!(okubinrafo_print_contours(level: u32, text: *mut u8, text_len: usize, size: *mut u32, size_len: usize)
+    |network| calls::print_contours(network, level, from_raw_parts_mut(text, text_len), from_raw_parts_mut(size, size_len)));
+network_call!(okubinrafo_crossing(level: u32, edge: u32, which: *mut u32, which_len: usize, fraction: *mut f64, fraction_len: usize)
+    |network| calls::crossing(network, level, edge, from_raw_parts_mut(which, which_len), from_raw_parts_mut(fraction, fraction_len)));
+network_call!(okubinrafo_map_point(level: u32, edge: u32, which: *mut u32, which_len: usize, place: *mut f64, place_len: usize)
+    |network| calls::map_point(network, level, edge, from_raw_parts_mut(which, which_len), from_raw_parts_mut(place, place_len)));
+network_call!(okubinrafo_map_points(
+level: u32, edges: *const u32, edges_len: usize, which: *mut u32, which_len: usize, places: *mut f64, places_len: usize)
+|network| {
+    let (which, places) = (from_raw_parts_mut(which, which_len), from_raw_parts_mut(places, places_len));
+    calls::map_points(network, level, from_raw_parts(edges, edges_len), which, places)
+});
+network_call!(okubinrafo_write_network(text: *mut u8, text_len: usize, size: *mut u32, size_len: usize)
+    |network| calls::write_network(network, from_raw_parts_mut(text, text_len), from_raw_parts_mut(size, size_len)));
+
+#[no_mangle]
+pub unsafe extern "C" fn okubinrafo_read_row(
+    line: *const u8,
+    line_len: usize,
+    points: u32,
+    fields: *mut u32,
+    fields_len: usize,
+    levels: *mut u32,
+    levels_len: usize,
+) -> u32 {
+    let (fields, levels) = (from_raw_parts_mut(fields, fields_len), from_raw_parts_mut(levels, levels_len));
+    calls::read_row(from_raw_parts(line, line_len), points, fields, levels)
+}
+
+#[no_mangle]
+pub unsafe extern "C" fn okubinrafo_write_row(
+    fields: *const u32,
+    fields_len: usize,
+    levels: *const u32,
+    levels_len: usize,
+    points: u32,
+    text: *mut u8,
+    text_len: usize,
+    size: *mut u32,
+    size_len: usize,
+) -> u32 {
+    let (fields, levels) = (from_raw_parts(fields, fields_len), from_raw_parts(levels, levels_len));
+    calls::write_row(fields, levels, points, from_raw_parts_mut(text, text_len), from_raw_parts_mut(size, size_len))
+}
+
+#[no_mangle]
+pub unsafe extern "C" fn okubinrafo_read_network(
+    text: *const u8,
+    text_len: usize,
+    header: *mut u32,
+    header_len: usize,
+    levels: *mut u32,
+    levels_len: usize,
+) -> u32 {
+    let (header, levels) = (from_raw_parts_mut(header, header_len), from_raw_parts_mut(levels, levels_len));
+    calls::read_network(from_raw_parts(text, text_len), header, levels)
+}
