@@ -2,12 +2,12 @@
 use Prim.Native.Nat.{ℕ, _+_, _≤_, _<_}
 use mathlib.Core.Path.{_≡_, refl, sym, ap, _∙_}
 use mathlib.Core.Bool.{Bool, true, false, cond, _&&_}
-use mathlib.Core.List.{List, [], _∷_, _++_}
+use mathlib.Core.List.{List, [], _++_}
 use native.Mathlib.Nat.{zero-add}
 use native.Mathlib.Omega.{arith}
 use borrow.Author.Tests.{le-leb, lt-leb, ne-eqb, eqb-true}
 use lib.Dec.{leb, eqb, leb·zero}
-use lib.ListN.{length, take, drop}
+use lib.ListN.{length, drop}
 use lib.Seq.{sets, sets-eq}
 use Rattle.text.specs.Put.{put}
 use Rattle.text.proofs.Digits.{either}
@@ -62,6 +62,10 @@ module _ {n : ℕ} {answer room : List ℕ} where
   pub write : {room' : List ℕ} → n ≡ 0 → length answer ≤ length room → room' ≡ over room answer → Writes n answer room 0 room'
   write e h p = let z : thenRoom n (fitsIn answer room) ≡ 0 = rw (e, le-leb (length answer) (length room) h) refl in record { number = sym z; numbers = rw z p }
 
+  -- two outcomes of one call are equal
+  pub one-outcome : {r r' : ℕ} {w w' : List ℕ} → Writes n answer room r w → Writes n answer room r' w' → (r ≡ r') × (w ≡ w')
+  one-outcome x y = (x .number ∙ sym (y .number), x .numbers ∙ sym (y .numbers))
+
 pub nothing : (n : ℕ) (room : List ℕ) → Writes n [] room n room
 nothing n room =
     let z : thenRoom n (leb 0 (length room)) ≡ n = rw (leb·zero (length room)) (own n) in
@@ -89,3 +93,7 @@ module _ {n : ℕ} {a b ra rb : List ℕ} where
 
   pub short-second : {k : ℕ} → length rb < length b → k ≡ thenRoom n false → WritesTwo n a b ra rb k ra rb
   short-second h e = short-two (rw (lt-leb (length b) (length rb) h) (and-false (fitsIn a ra))) e
+
+  -- two outcomes of one call are equal
+  pub one-outcome-two : {r r' : ℕ} {v v' w w' : List ℕ} → WritesTwo n a b ra rb r v w → WritesTwo n a b ra rb r' v' w' → (r ≡ r') × ((v ≡ v') × (w ≡ w'))
+  one-outcome-two x y = (x .number ∙ sym (y .number), (x .first-list ∙ sym (y .first-list), x .second-list ∙ sym (y .second-list)))

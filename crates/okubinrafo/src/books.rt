@@ -3,6 +3,7 @@ ghost use Rattle.book.specs.Columns.{bookOf};
 ghost use Rattle.book.specs.Calls.{Call, Called};
 ghost use Rattle.journal.specs.Journal.{Replayed};
 
+// A movement goes into the book at its place, not computed.
 #[no_mangle]
 pub extern "C" fn okubinrafo_enter(
     identities: &mut [u32],
@@ -32,6 +33,7 @@ pub extern "C" fn okubinrafo_enter(
     )
 }
 
+// All levels of a standing movement, replacing earlier ones.
 #[no_mangle]
 pub extern "C" fn okubinrafo_supply(
     identities: &[u32],
@@ -55,6 +57,7 @@ pub extern "C" fn okubinrafo_supply(
     )
 }
 
+// A movement is no longer computed.
 #[no_mangle]
 pub extern "C" fn okubinrafo_take_back(
     identities: &[u32],
@@ -69,6 +72,7 @@ pub extern "C" fn okubinrafo_take_back(
     calls::take_back(identities, groups, marks, levels, points as usize, identity)
 }
 
+// A movement goes out of the book.
 #[no_mangle]
 pub extern "C" fn okubinrafo_withdraw(
     identities: &mut [u32],
@@ -83,6 +87,7 @@ pub extern "C" fn okubinrafo_withdraw(
     calls::withdraw(identities, groups, marks, levels, points as usize, identity)
 }
 
+// A journal: calls one after the other as numbers, with an answer for each.
 #[no_mangle]
 pub extern "C" fn okubinrafo_replay(
     identities: &mut [u32],

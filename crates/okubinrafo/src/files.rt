@@ -6,6 +6,7 @@ ghost use Rattle.grid.specs.Read.{readRefusal, headerAfter, levelsAfter};
 ghost use Rattle.grid.specs.Write.{writeRefusal, textAfter, sizeAfter};
 ghost use Rattle.okubinrafo.specs.Networks.{frameOf};
 
+// A network file, read: its five header numbers, and its levels.
 #[no_mangle]
 pub extern "C" fn okubinrafo_read_network(
     text: &[u8],
@@ -19,6 +20,7 @@ pub extern "C" fn okubinrafo_read_network(
     grid::read::read_network(text, header, levels)
 }
 
+// A network file, written, and its size.
 #[no_mangle]
 pub extern "C" fn okubinrafo_write_network(
     levels: &[u32],

@@ -13,7 +13,7 @@ ghost use Rattle.mapping.specs.Many.{over};
 ghost use Rattle.okubinrafo.specs.Rooms.{Writes};
 ghost use Rattle.okubinrafo.specs.Loads.{loadSize, numbersFrom, loadNumbers, verdictNumbers};
 
-// Number `k` of the 39 of a load.
+// Number `k` of the 39 of a load: total, whether a level is given, the level, V of the 18 groups from 3 on, U from 21 on.
 fn number_at(total: u64, level: Level, counts: [Counts; 18], k: usize) -> u64
     requires { ⌜ k < loadSize ⌝ }
     ensures { λ r. ⌜ r ≡ getD (numbersFrom total level counts) k 0 ⌝ }
@@ -47,6 +47,7 @@ fn put_numbers(total: u64, level: Level, counts: [Counts; 18], answer: &mut [u64
     }
 }
 
+// The load at a point, as 39 numbers.
 #[no_mangle]
 pub extern "C" fn okubinrafo_load(
     identities: &[u32],
@@ -94,6 +95,7 @@ fn put_number(n: u32, room: &mut [u32]) -> u32
     0
 }
 
+// The verdict at a point, as one number: 1 over, 0 within.
 #[no_mangle]
 pub extern "C" fn okubinrafo_verdict(
     identities: &[u32],

@@ -5,6 +5,7 @@ ghost use Rattle.mapping.specs.Lent.{Lent};
 ghost use Rattle.mapping.specs.Many.{Many};
 ghost use Rattle.okubinrafo.specs.Networks.{frameOf};
 
+// Where a contour crosses an edge: the number of the case, and the fraction.
 #[no_mangle]
 pub extern "C" fn okubinrafo_crossing(
     levels: &[u32],
@@ -30,6 +31,7 @@ pub extern "C" fn okubinrafo_crossing(
     mapping::put_crossing(levels, frame, level, edge, which, fraction)
 }
 
+// The map point of the crossing on an edge.
 #[no_mangle]
 pub extern "C" fn okubinrafo_map_point(
     levels: &[u32],
@@ -55,6 +57,7 @@ pub extern "C" fn okubinrafo_map_point(
     mapping::put_map_point(levels, frame, level, edge, which, place)
 }
 
+// The map points of many edges, the network checked once.
 #[no_mangle]
 pub extern "C" fn okubinrafo_map_points(
     levels: &[u32],

@@ -4,6 +4,7 @@ ghost use Rattle.contour.specs.Answers.{outcome, Leaves};
 ghost use Rattle.wkt.specs.Calls.{networkText, printRefusal, Leaves as Prints};
 ghost use Rattle.okubinrafo.specs.Networks.{frameOf};
 
+// The contours at a level, as lists of edges.
 #[no_mangle]
 pub extern "C" fn okubinrafo_contours(
     levels: &[u32],
@@ -31,6 +32,7 @@ pub extern "C" fn okubinrafo_contours(
     contour::contours(levels, frame, level, edges, counts, closed, sizes)
 }
 
+// The contours at a level as well-known text, and its size.
 #[no_mangle]
 pub extern "C" fn okubinrafo_print_contours(
     levels: &[u32],

@@ -40,6 +40,7 @@ fn put_fields(f: Fields, fields: &mut [u32])
     fields[5] = f.computed;
 }
 
+// A register row, read: its six fields, and a level a point.
 #[no_mangle]
 pub extern "C" fn okubinrafo_read_row(
     line: &[u8],
@@ -91,6 +92,7 @@ fn unwritten(f: Fields, levels: &[u32], points: u32) -> u32
     }
 }
 
+// A register row, written with its CRLF, and its size.
 #[no_mangle]
 pub extern "C" fn okubinrafo_write_row(
     fields: &[u32],

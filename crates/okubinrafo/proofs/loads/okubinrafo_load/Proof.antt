@@ -1,6 +1,5 @@
 -- `okubinrafo::loads::okubinrafo_load` meets its contract: a refusal, no room, or the 39 numbers. Assumes nothing.
 use mathlib.Core.Path.{_≡_, sym, ap, _∙_}
-use Prim.Native.Nat.{ℕ}
 use native.Mathlib.Omega.{arith}
 use lib.ListN.{length}
 use Rattle.book.specs.Columns.{bookOf}

@@ -1,5 +1,4 @@
 -- `okubinrafo::rows::row_fault` meets its contract: what the library refuses, or 14. Assumes nothing.
-use mathlib.Core.Path.{sym}
 use Rattle.okubinrafo.proofs.Lines.{row-faulty, row-fine}
 use borrow.Author.Needs.{needs}
 use Rattle.okubinrafo.proofs.rows.row_fault.Statement.{statement}
