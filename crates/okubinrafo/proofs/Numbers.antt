@@ -2,10 +2,12 @@
 use Prim.Native.Nat.{ℕ, suc, _+_, _-_, _≤_, _<_}
 use mathlib.Core.Path.{_≡_, refl, sym, ap, _∙_}
 use mathlib.Core.Bool.{_&&_}
-use mathlib.Core.List.{List, [], _∷_, map}
+use mathlib.Core.List.{List, [], _∷_, _++_, map}
+use native.Mathlib.Nat.{zero-add}
+use native.Mathlib.Numerals.{add-one}
 use native.Mathlib.Omega.{arith}
-use lib.ListN.{length, getD, length-append, length-map, List·getD-append, List·getD-map}
-use lib.Seq.{getD-append-add}
+use lib.ListN.{length, getD, take, drop, set, length-append, length-map, List·getD-append, List·getD-map}
+use lib.Seq.{getD-append-add, paste-suc}
 use lib.Dec.{eqb, ltb}
 use Rattle.level.specs.declared.Level.{Level}
 use Rattle.level.specs.declared.Verdict.{Verdict}
@@ -21,6 +23,10 @@ use Rattle.counted.specs.Verdict.{refusalNumber}
 use Rattle.okubinrafo.specs.Rooms.{Writes}
 use Rattle.okubinrafo.specs.Loads.{computedOf, missingOf, numbersFrom, loadNumbers, verdictNumbers}
 use Rattle.okubinrafo.proofs.Answers.{nothing}
+
+-- a turn of a loop that copies from the front
+pub copy-more : (to from : List ℕ) (j : ℕ) → j < length to → j < length from → set (take j from ++ drop j to) j (getD from j 0) ≡ take (j + 1) from ++ drop (j + 1) to
+copy-more to from j ht hf = let e = paste-suc to 0 from j 0 (omega arith) hf in rw (add-one j) (simp zero-add at e)
 
 abbrev none : Counts
 none = record { computed = 0; missing = 0 }

@@ -5,10 +5,9 @@ use mathlib.Core.List.{_++_}
 use native.Mathlib.Omega.{arith}
 use lib.ListN.{length, take, drop, length-set}
 use lib.Seq.{take-length}
-use Rattle.text.proofs.Puts.{copy-more}
 use Rattle.mapping.specs.Many.{over}
 use Rattle.okubinrafo.specs.Loads.{numbersFrom}
-use Rattle.okubinrafo.proofs.Numbers.{length-numbers}
+use Rattle.okubinrafo.proofs.Numbers.{copy-more, length-numbers}
 use borrow.Author.Needs.{needs}
 use Rattle.okubinrafo.proofs.loads.put_numbers.Statement.{statement}
 use Rattle.okubinrafo.proofs.loads.put_numbers.Tie as tie
