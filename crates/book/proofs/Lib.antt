@@ -1,8 +1,7 @@
--- Laws. `Lists` and `Parts` serve the loops that move a column's values, `Scans` and `Search` those that read one; `Shapes` and `RowFacts` say what
+-- Laws. `Scans` and `Search` serve the loops that read a column; `Shapes` and `RowFacts` say what
 -- soundness gives; `Accepted` is about one call; `Blocks`, `Standing`, `Reading` and `Steps` tie rows to the list of movements; `Kept`: calls keep a book
--- sound; `Rooms`: what a call's rows may rely on.
-pub mod Lists
-pub mod Parts
+-- sound; `Rooms`: what a call's rows may rely on;
+-- `History` has the theorem, and `Folds` the same for any sum.
 pub mod Scans
 pub mod Search
 pub mod Shapes
@@ -14,3 +13,5 @@ pub mod Reading
 pub mod Steps
 pub mod Kept
 pub mod Rooms
+pub mod History
+pub mod Folds

@@ -17,6 +17,7 @@ pub record Fitting (p rows groups marks levels : ℕ) : Type 0 where
   pub points : p ≤ maxPoints
   pub some : 1 ≤ p
   pub rows≤ : rows ≤ maxRows
+  pub rows≥ : 1 ≤ rows
   pub groups= : groups ≡ rows
   pub marks= : marks ≡ rows
   pub levels= : levels ≡ rows * p
@@ -33,6 +34,7 @@ fitting p rows groups marks levels e =
       points = leb-true _ _ (and-right (leb 1 p) _ q);
       some = leb-true _ _ (and-left (leb 1 p) _ q);
       rows≤ = leb-true _ _ (and-right (leb 1 rows) _ r);
+      rows≥ = leb-true _ _ (and-left (leb 1 rows) _ r);
       groups= = eqb-true _ _ (and-left (eqb groups rows) _ s);
       marks= = eqb-true _ _ (and-right (eqb groups rows) _ s);
       levels= = eqb-true _ _ (and-right (eqb groups rows && eqb marks rows) _ l);

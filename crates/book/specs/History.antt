@@ -1,6 +1,7 @@
 -- What a history of calls means without rows: document 01, "The accepted calls alone also define, without rows, a list of movements ..".
 -- And the book whose rows are such a list. Assumes nothing.
-use Prim.Native.Nat.{ℕ, _*_}
+use mathlib.Core.Path.{_≡_}
+use Prim.Native.Nat.{ℕ, suc, _*_, _-_, _≤_}
 use mathlib.Core.Bool.{Bool, true, false, cond, not, _&&_, _||_}
 use mathlib.Core.List.{List, [], _∷_, _++_}
 use lib.ListN.{length, take, drop, replicate}
@@ -9,7 +10,7 @@ use Rattle.refusal.specs.Refuse.{refuse}
 use Rattle.movement.specs.Limits.{maxRows, maxPoints}
 use Rattle.movement.specs.Rules.{fieldsFit, counts, identityFits, levelsFit}
 use Rattle.movement.specs.Group.{groupOf}
-use Rattle.book.specs.Columns.{Book, bookOf}
+use Rattle.book.specs.Columns.{Book, bookOf, sound}
 use Rattle.book.specs.Calls.{Call, refusal, after}
 use Rattle.book.specs.Calls.Call.{enter, supply, takeBack, withdraw}
 
@@ -113,6 +114,11 @@ unfoldable pub accepted : ℕ → ℕ → List Movement → List Made → List C
 accepted p n ms [] = []
 accepted p n ms (c ∷ cs) = cond (eqb (listRefusal p n ms c) 0) (c .call ∷ accepted p n (step ms (c .call)) cs) (accepted p n ms cs)
 
+-- the answer of each call, where these movements stand at first
+unfoldable pub listAnswered : ℕ → ℕ → List Movement → List Made → List ℕ
+listAnswered p n ms [] = []
+listAnswered p n ms (c ∷ cs) = listRefusal p n ms c ∷ listAnswered p n (cond (eqb (listRefusal p n ms c) 0) (step ms (c .call)) ms) cs
+
 -- the movements that a history of calls leaves standing, from an empty book of n rows and p points
 unfoldable pub movements : ℕ → ℕ → List Made → List Movement
 movements p n cs = listOf [] (accepted p n [] cs)
@@ -169,6 +175,35 @@ rowsOf p unused ms =
 -- n rows, all unused
 unfoldable pub emptyBook : ℕ → ℕ → Book
 emptyBook p n = bookOf (replicate n 0) (replicate n 0) (replicate n 0) (replicate (n * p) 0)
+
+-- The theorem's statement
+
+-- how often the identity x stands in a column of identities
+unfoldable pub times : ℕ → List ℕ → ℕ
+times x [] = 0
+times x (y ∷ ys) = cond (eqb y x) (suc (times x ys)) (times x ys)
+
+-- each movement has a lower identity than the next
+unfoldable pub inOrder : List Movement → Bool
+inOrder [] = true
+inOrder (a ∷ []) = true
+inOrder (a ∷ (b ∷ ms)) = ltb (a .identity) (b .identity) && inOrder (b ∷ ms)
+
+-- start from an empty book of n rows and p points and make any calls, refused ones included:
+pub record HistoryHolds (p n : ℕ) (cs : List Made) : Type 0 where
+  -- the columns hold exactly the movements that the accepted calls leave standing, and then unused rows, zero throughout
+  pub rows : booked (emptyBook p n) cs ≡ rowsOf p (n - length (movements p n cs)) (movements p n cs)
+  -- in rising identity
+  pub order : inOrder (movements p n cs) ≡ true
+  -- each movement once, and no other
+  pub once : (x : ℕ) → 1 ≤ x → times x (booked (emptyBook p n) cs .identities) ≡ cond (standing x (movements p n cs)) 1 0
+  -- within the n rows
+  pub room : length (movements p n cs) ≤ n
+  -- each call is answered as the list alone says, and so the accepted calls are those that the list alone says
+  pub answers : answered (emptyBook p n) cs ≡ listAnswered p n [] cs
+  pub same : acceptedByRows (emptyBook p n) cs ≡ accepted p n [] cs
+  -- the book stays sound, where its size is in range
+  pub kept : sound p (booked (emptyBook p n) cs) ≡ sizesFit p n
 
 -- Folds: any sum over the rows of a book, and the same sum over the list of movements
 

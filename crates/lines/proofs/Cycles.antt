@@ -133,7 +133,7 @@ module _ (total : ℕ) (crossed : ℕ → Bool) (next prev : ℕ → ℕ)
       let r = returned s list₀ list n w f b in
       record {
         long = w .long;
-            from = λ m b y k q. ⊎-elim (λ e. subst (λ (i : ℕ). waits list (prev i) ≡ false) (sym e) (r .1 .1 .1)) (λ c. c) (w .from m b y k q);
+        from = λ m b y k q. ⊎-elim (λ e. subst (λ (i : ℕ). waits list (prev i) ≡ false) (sym e) (r .1 .1 .1)) (λ c. c) (w .from m b y k q);
         onto = λ m b y k q. ⊎-elim (λ e. subst (λ (i : ℕ). waits list i ≡ false) (sym e) f) (λ c. c) (w .onto m b y k q);
       }
 

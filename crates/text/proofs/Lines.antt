@@ -6,8 +6,8 @@ use mathlib.Core.Bool.{true, false, cond, _&&_, and-false}
 use native.Mathlib.Nat.{add-zero}
 use native.Mathlib.Numerals.{add-one}
 use native.Mathlib.Omega.{arith}
-use borrow.Author.Tests.{le-leb}
-use lib.ListN.{length, getD, take, drop, length-append, drop-of-length-le}
+use borrow.Author.Tests.{le-leb, lt-leb, leb-true, leb-false}
+use lib.ListN.{length, getD, take, drop, length-append, length-drop, drop-of-length-le}
 use lib.Seq.{take-length, length-take-le, drop-cons, getD-drop, take-append-seam, getD-append-seam, getD-append-add}
 use lib.Dec.{leb, eqb}
 use Rattle.text.specs.Line.{endAt, firstLine, onto, linesOf, bareLine}
@@ -92,3 +92,21 @@ lines-rest s h = ap length (lines-step s h) ∙ omega arith
 
 pub lines-next : (s : List ℕ) (i : ℕ) → 1 ≤ length s → getD (linesOf s) (suc i) [] ≡ getD (linesOf (drop (length (firstLine s) + 2) s)) i []
 lines-next s i h = ap (λ ls. getD ls (suc i) []) (lines-step s h)
+
+-- whether a text has at most one line
+lines-some : (s : List ℕ) → 1 ≤ length s → 1 ≤ length (linesOf s)
+lines-some s h = omega (arith, lines-rest s h)
+
+pub lines-one : (s : List ℕ) → leb (1 + length (linesOf s)) 2 ≡ leb (length s) (length (firstLine s) + 2)
+unfolding linesOf firstLine
+lines-one [] = refl
+lines-one (c ∷ t) =
+    let s = c ∷ t in
+    let n = length (firstLine s) + 2 in
+    let all = lines-rest s (omega arith) in
+    let left = length-drop n s in
+    either (leb (length s) n)
+    (λ yes. let h = leb-true (length s) n yes in
+    le-leb (1 + length (linesOf s)) 2 (omega (arith, all, ap (λ r. length (linesOf r)) (drop-of-length-le s h), ap length lines-none)) ∙ sym yes)
+    (λ no. let h = leb-false (length s) n no in
+    lt-leb (1 + length (linesOf s)) 2 (omega (arith, all, lines-some (drop n s) (omega arith))) ∙ sym no)

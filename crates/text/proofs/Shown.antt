@@ -140,3 +140,7 @@ level-back n h =
 pub level-most : (n : ℕ) → n < 100000 → length (showLevel n) ≤ 6
 level-most n h =
     omega (arith, length-append (showWhole (n / 100)) (46 ∷ showTwo (n % 100)), shown-width 7 2 (n / 100) (omega arith))
+
+-- and at least four
+pub level-least : (n : ℕ) → 4 ≤ length (showLevel n)
+level-least n = omega (arith, length-append (showWhole (n / 100)) (46 ∷ showTwo (n % 100)), shown-least 6 (n / 100))

@@ -1,0 +1,113 @@
+-- Laws of times of day: what is written reads back, and what is read is what is written. Assumes nothing.
+use Prim.Native.Nat.{ℕ, _+_, _-_, _*_, _/_, _%_, _≤_, _<_}
+use mathlib.Core.Path.{_≡_, refl, sym, ap, _∙_}
+use mathlib.Core.List.{List, [], _∷_, _++_}
+use mathlib.Core.Bool.{_&&_}
+use native.Mathlib.Omega.{arith}
+use borrow.Author.Tests.{lt-ltb, ltb-true, eqb-true}
+use lib.ListN.{length, getD, take, drop, length-drop}
+use lib.Seq.{length-take-le, split-at, drop-drop, getD-drop, take-all}
+use lib.Dec.{ltb, eqb}
+use Rattle.refusal.proofs.Laws.{and-left, and-right}
+use Rattle.text.specs.Number.{digitsOf, showTwo}
+use Rattle.text.specs.Field.{countOf}
+use Rattle.text.specs.declared.number.Number.{Number}
+use Rattle.text.specs.declared.number.Number.the-variants.{Got, Off}
+use Rattle.text.proofs.Digits.{passed}
+use Rattle.text.proofs.Shown.{two-back}
+use Rattle.text.proofs.Exact.{two-exact}
+use Rattle.text.proofs.Free.{byte-free, two-free, nil-free}
+use Rattle.register.specs.Clock.{under, twoAt, clock, timeOf, showTime}
+
+-- a number under its bound was read, and is under it
+under-got : (bound n : ℕ) (r : Number) → under bound r ≡ Got n → (r ≡ Got n) × (n < bound)
+under-got bound n Off e = let z : _≡_ {A = ℕ} 0 1 = cc in absurd (omega arith)
+under-got bound n (Got m) e =
+    let p = passed (ltb m bound) (Got m) n e in
+    let q : m ≡ n = cc (p .1) in
+    (p .1, omega (arith, ltb-true m bound (p .0)))
+
+pub two-under : (s : List ℕ) (at bound n : ℕ) → twoAt s at bound ≡ Got n → n < bound
+unfolding twoAt
+two-under s at bound n e = under-got bound n (digitsOf 0 (take 2 (drop at s))) e .1
+
+-- a second of the day reads back
+pub time-back : (n : ℕ) → n < 86400 → timeOf (showTime n) ≡ Got n
+unfolding timeOf twoAt
+time-back n h =
+    let w : n / 3600 * 3600 + n / 60 % 60 * 60 + n % 60 ≡ n = omega arith in
+    rw (
+      two-back (n / 3600) (omega arith),
+      two-back (n / 60 % 60) (omega arith),
+      two-back (n % 60) (omega arith),
+      lt-ltb (n / 3600) 24 (omega arith),
+      lt-ltb (n / 60 % 60) 60 (omega arith),
+      lt-ltb (n % 60) 60 (omega arith),
+      w,
+    )
+
+-- and has no byte below the point
+pub time-free : (d n : ℕ) → d < 46 → countOf d (showTime n) ≡ 0
+time-free d n low =
+    let seconds : List ℕ = 58 ∷ showTwo (n % 60) in
+    let minutes : List ℕ = 58 ∷ (showTwo (n / 60 % 60) ++ seconds) in
+    two-free d low (n / 3600) minutes
+    ∙ byte-free d low 58 (showTwo (n / 60 % 60) ++ seconds) (omega arith)
+    ∙ two-free d low (n / 60 % 60) seconds
+    ∙ byte-free d low 58 (showTwo (n % 60)) (omega arith)
+    ∙ two-free d low (n % 60) []
+    ∙ nil-free d low
+
+-- two digits that were read at a place are the text of their number
+two-text : (s : List ℕ) (at bound n : ℕ) → at + 2 ≤ length s → twoAt s at bound ≡ Got n → take 2 (drop at s) ≡ showTwo n
+unfolding twoAt
+two-text s at bound n h e =
+    let l : length (take 2 (drop at s)) ≡ 2 = length-take-le 2 (drop at s) (rw (length-drop at s) (omega arith)) in
+    two-exact (take 2 (drop at s)) n l (under-got bound n (digitsOf 0 (take 2 (drop at s))) e .0) .0
+
+-- a time that was put together had all its parts
+clock-got : (a b c : Number) (n : ℕ) → clock a b c ≡ Got n
+    → (h : ℕ) × (m : ℕ) × (s : ℕ) × (a ≡ Got h) × (b ≡ Got m) × (c ≡ Got s) × (n ≡ h * 3600 + m * 60 + s)
+clock-got Off b c n e = let z : _≡_ {A = ℕ} 0 1 = cc in absurd (omega arith)
+clock-got (Got h) Off c n e = let z : _≡_ {A = ℕ} 0 1 = cc in absurd (omega arith)
+clock-got (Got h) (Got m) Off n e = let z : _≡_ {A = ℕ} 0 1 = cc in absurd (omega arith)
+clock-got (Got h) (Got m) (Got s) n e = let q : h * 3600 + m * 60 + s ≡ n = cc in (h, m, s, refl, refl, refl, sym q)
+
+-- a text of eight bytes, apart at its colons
+eight-apart : (s : List ℕ) → length s ≡ 8
+    → s ≡ take 2 (drop 0 s) ++ (getD s 2 0 ∷ (take 2 (drop 3 s) ++ (getD s 5 0 ∷ take 2 (drop 6 s))))
+eight-apart s l =
+    let three : length (drop 3 s) ≡ 5 = length-drop 3 s ∙ (let w : length s - 3 ≡ 5 = omega arith in w) in
+    let six : length (drop 6 s) ≡ 2 = length-drop 6 s ∙ (let w : length s - 6 ≡ 2 = omega arith in w) in
+    let last : drop 3 s ≡ take 2 (drop 3 s) ++ (getD s 5 0 ∷ take 2 (drop 6 s)) =
+    split-at (drop 3 s) 2 0 (omega arith) ∙ rw (getD-drop 3 s 2 0, drop-drop 3 3 s, take-all 2 (drop 6 s) (omega arith)) in
+    split-at s 2 0 (omega arith) ∙ ap (λ t. take 2 s ++ (getD s 2 0 ∷ t)) last
+
+time-text : (s : List ℕ) (h m x : ℕ) → length s ≡ 8 → getD s 2 0 ≡ 58 → getD s 5 0 ≡ 58
+    → take 2 (drop 0 s) ≡ showTwo h → take 2 (drop 3 s) ≡ showTwo m → take 2 (drop 6 s) ≡ showTwo x
+    → s ≡ showTwo h ++ (58 ∷ showTwo m) ++ (58 ∷ showTwo x)
+time-text s h m x l one two th tm tx = eight-apart s l ∙ rw (th, tm, tx, one, two)
+
+-- a text that reads as a time is that time's text, and it is a second of the day
+pub time-exact : (s : List ℕ) (n : ℕ) → timeOf s ≡ Got n → (s ≡ showTime n) × (n < 86400)
+unfolding timeOf
+time-exact s n e =
+    let a = eqb (length s) 8 in
+    let b = eqb (getD s 2 0) 58 in
+    let d = eqb (getD s 5 0) 58 in
+    let p = passed (a && b && d) (clock (twoAt s 0 24) (twoAt s 3 60) (twoAt s 6 60)) n e in
+    let l = eqb-true (length s) 8 (and-left a b (and-left (a && b) d (p .0))) in
+    let one = eqb-true (getD s 2 0) 58 (and-right a b (and-left (a && b) d (p .0))) in
+    let two = eqb-true (getD s 5 0) 58 (and-right (a && b) d (p .0)) in
+    let q = clock-got (twoAt s 0 24) (twoAt s 3 60) (twoAt s 6 60) n (p .1) in
+    let hours = two-under s 0 24 (q .0) (q .3) in
+    let minutes = two-under s 3 60 (q .1) (q .4) in
+    let seconds = two-under s 6 60 (q .2) (q .5) in
+    let sum = q .6 in
+    let h : n / 3600 ≡ q .0 = omega arith in
+    let m : n / 60 % 60 ≡ q .1 = omega arith in
+    let x : n % 60 ≡ q .2 = omega arith in
+    let th = two-text s 0 24 (q .0) (omega arith) (q .3) in
+    let tm = two-text s 3 60 (q .1) (omega arith) (q .4) in
+    let tx = two-text s 6 60 (q .2) (omega arith) (q .5) in
+    (rw (h, m, x) (time-text s (q .0) (q .1) (q .2) l one two th tm tx), omega arith)

@@ -1,0 +1,183 @@
+-- `register::cell::read_cells` meets its contract. The invariant: every field passed is on its layout, its value and the blank
+-- levels are noted, and here the next one starts. Assumes nothing.
+use Prim.Native.Nat.{_+_, _-_, _≤_, _<_}
+use mathlib.Core.Path.{_≡_, refl, sym, ap, _∙_}
+use mathlib.Core.List.{_++_}
+use mathlib.Core.Bool.{true, cond}
+use native.Mathlib.Omega.{arith}
+use lib.ListN.{length, drop, replicate, set, length-drop}
+use Rattle.text.specs.Field.{countOf, fieldOf}
+use Rattle.text.specs.Index.{every, many, listing}
+use Rattle.text.specs.Number.{isGot, valueOf}
+use Rattle.text.specs.declared.number.Number.the-variants.{Got, Off}
+use Rattle.text.proofs.Fields.{FieldAt, at-start, at-cut, at-next, at-last, up-length}
+use Rattle.text.proofs.Indices.{every-none, every-more, every-fails, store-more, many-most}
+use Rattle.register.specs.Cell.{cellOf, cellAt, gotAt, valueAt, blankAt, blankCell}
+use Rattle.register.proofs.Readings.{mark-most, blanks-next, cells-other, cells-off, cells-counted}
+use borrow.Author.Needs.{needs}
+use Rattle.register.proofs.cell.read_cells.Statement.{statement}
+use Rattle.register.proofs.cell.read_cells.Tie as tie
+
+abbrev Inv-loop : tie.InvT-loop
+Inv-loop s table count values₀ blanks₀ at₀ k₀ values blanks at k =
+    (every (gotAt table s) k ≡ true) × FieldAt 44 s at k × (values ≡ listing (valueAt table s) k ++ replicate (13 - k) 0)
+    × (blanks ≡ many (blankAt s) (k - 5)) × (k < count)
+
+abbrev μ-loop : tie.MeasureT-loop
+μ-loop s table count values₀ blanks₀ at₀ k₀ values blanks at k = length s - at
+
+loop-holds : tie.Need-loop-holds Inv-loop μ-loop
+unfolding listing many
+loop-holds c =
+    (every-none _, at-start 44 _, refl, refl, omega (arith, c .before .pre .0))
+
+field-end-requires : tie.Need-field-end-requires Inv-loop μ-loop
+field-end-requires c κs = search needs
+
+sub-cell : tie.Need-sub-cell Inv-loop μ-loop
+sub-cell c = search needs
+
+part-cell-start : tie.Need-part-cell-start Inv-loop μ-loop
+part-cell-start c = search needs
+
+-- the field ends within the line
+within : (c : tie.After-field-end Inv-loop μ-loop) → c .field-end .result ≤ length (c .before .before .before .args .s .now)
+within c =
+    let s = c .before .before .before .args .s .now in
+    omega (arith, up-length 44 (drop (c .before .loop .at) s), length-drop (c .before .loop .at) s, c .field-end .ensures, c .before .loop .inv .1 .within)
+
+part-cell-end : tie.Need-part-cell-end Inv-loop μ-loop
+part-cell-end c = within c
+
+cell-requires : tie.Need-cell-requires Inv-loop μ-loop
+cell-requires c κs = search needs
+
+-- what was answered is the cell of this column
+read : (c : tie.After-cell Inv-loop μ-loop) → c .cell .result ≡ cellAt (c .before .before .before .before .before .args .table) (c .before .before .before .before .before .args .s .now) (c .before .before .before .loop .k)
+read c = c .cell .ensures ∙ ap (cellOf (c .before .before .before .before .before .args .table) (c .before .before .before .loop .k)) (at-cut (c .before .before .before .loop .inv .1) (c .before .before .field-end .result) (c .before .before .field-end .ensures))
+
+enum-known-v : tie.Need-enum-known-v Inv-loop μ-loop
+enum-known-v c = search needs
+
+enum-told : tie.Need-enum-told Inv-loop μ-loop
+enum-told c = search needs
+
+off-cells-requires : tie.Need-off-cells-requires Inv-loop μ-loop
+off-cells-requires c κs = search needs
+
+returns : tie.Need-returns Inv-loop μ-loop
+returns c =
+    let a = c .before .before .before .before .before .before .before .before .args in
+    let off : cellAt (a .table) (a .s .now) (c .before .before .before .before .before .before .loop .k) ≡ Off = sym (read (c .before .before .before)) ∙ c .before .enum-told .given .1 in
+    c .off-cells .ensures
+    ∙ sym (cells-off (a .table) (a .s .now) (a .count) (every-fails (gotAt (a .table) (a .s .now)) (c .before .before .before .before .before .before .loop .k) (a .count) (c .before .before .before .before .before .before .loop .inv .4) (ap isGot off)))
+
+mul-values : tie.Need-mul-values Inv-loop μ-loop
+mul-values c = omega (arith, c .before .before .before .before .before .before .loop .inv .4, c .before .before .before .before .before .before .before .before .pre .1)
+
+array-write-values : tie.Need-array-write-values Inv-loop μ-loop
+array-write-values c = omega (arith, c .before .before .before .before .before .before .loop .inv .4, c .before .before .before .before .before .before .before .before .pre .1)
+
+sub-blank-level : tie.Need-sub-blank-level Inv-loop μ-loop
+sub-blank-level c = search needs
+
+part-blank-level-start : tie.Need-part-blank-level-start Inv-loop μ-loop
+part-blank-level-start c = search needs
+
+part-blank-level-end : tie.Need-part-blank-level-end Inv-loop μ-loop
+part-blank-level-end c = within (c .before .before .before .before .before)
+
+blank-level-requires : tie.Need-blank-level-requires Inv-loop μ-loop
+blank-level-requires c κs = search needs
+
+-- the value of this column, and whether it is a blank level
+got : (c : tie.After-blank-level Inv-loop μ-loop) → cellAt (c .before .before .before .before .before .before .before .before .before .before .args .table) (c .before .before .before .before .before .before .before .before .before .before .args .s .now) (c .before .before .before .before .before .before .before .before .loop .k) ≡ Got (c .before .before .before .v .given .0 .0)
+got c = sym (read (c .before .before .before .before .before)) ∙ c .before .before .before .v .given .1
+
+blank : (c : tie.After-blank-level Inv-loop μ-loop) → c .blank-level .result ≡ cond (blankCell (c .before .before .before .before .before .before .before .before .loop .k) (fieldOf 44 (c .before .before .before .before .before .before .before .before .loop .k) (c .before .before .before .before .before .before .before .before .before .before .args .s .now))) 1 0
+blank c = c .blank-level .ensures ∙ ap (λ t. cond (blankCell (c .before .before .before .before .before .before .before .before .loop .k) t) 1 0) (at-cut (c .before .before .before .before .before .before .before .before .loop .inv .1) (c .before .before .before .before .before .before .before .field-end .result) (c .before .before .before .before .before .before .before .field-end .ensures))
+
+-- one column more
+more : (c : tie.After-blank-level Inv-loop μ-loop) → let a = c .before .before .before .before .before .before .before .before .before .before .args in let l = c .before .before .before .before .before .before .before .before .loop in
+    (every (gotAt (a .table) (a .s .now)) (l .k + 1) ≡ true)
+    × (set (l .values) (l .k) (c .before .before .before .v .given .0 .0) ≡ listing (valueAt (a .table) (a .s .now)) (l .k + 1) ++ replicate (13 - (l .k + 1)) 0)
+    × (l .blanks + c .blank-level .result ≡ many (blankAt (a .s .now)) (l .k + 1 - 5))
+more c =
+    let a = c .before .before .before .before .before .before .before .before .before .before .args in
+    let l = c .before .before .before .before .before .before .before .before .loop in (
+      every-more (gotAt (a .table) (a .s .now)) (l .k) (l .inv .0) (ap isGot (got c)),
+      rw (l .inv .2, ← ap valueOf (got c)) (store-more (valueAt (a .table) (a .s .now)) (l .k) 13 (omega (arith, l .inv .4, c .before .before .before .before .before .before .before .before .before .before .pre .1))),
+      rw (l .inv .3, blank c) (blanks-next (a .s .now) (l .k)),
+    )
+
+add-blanks : tie.Need-add-blanks Inv-loop μ-loop
+add-blanks c =
+    let s = c .before .before .before .before .before .before .before .before .before .before .args .s .now in
+    omega (arith, many-most (blankAt s) (c .before .before .before .before .before .before .before .before .loop .k - 5), c .before .before .before .before .before .before .before .before .loop .inv .3, c .before .before .before .before .before .before .before .before .loop .inv .4, c .before .before .before .before .before .before .before .before .before .before .pre .1, blank c, mark-most (blankCell (c .before .before .before .before .before .before .before .before .loop .k) (fieldOf 44 (c .before .before .before .before .before .before .before .before .loop .k) s)))
+
+add-k : tie.Need-add-k Inv-loop μ-loop
+add-k c = omega (arith, c .before .before .before .before .before .before .before .before .loop .inv .4, c .before .before .before .before .before .before .before .before .before .before .pre .1)
+
+counted-requires : tie.Need-counted-requires Inv-loop μ-loop
+counted-requires c κs = search needs
+
+returns-2 : tie.Need-returns-2 Inv-loop μ-loop
+returns-2 c =
+    let a = c .before .before .before .before .before .before .before .before .before .before .before .before .args in
+    let l = c .before .before .before .before .before .before .before .before .before .before .loop in
+    let m = more (c .before .before) in
+    let last = at-last (l .inv .1) (c .before .before .before .before .before .before .before .before .before .field-end .result) (c .before .before .before .before .before .before .before .before .before .field-end .ensures) (c .before .if1 .taken) in
+    let n : countOf 44 (a .s .now) + 1 ≡ l .k + 1 = omega arith in
+    c .counted .ensures ∙ rw (m .1, m .2) (sym (cells-counted (a .table) (a .s .now) (a .count) (l .k + 1) n (m .0)))
+
+off-cells-requires-2 : tie.Need-off-cells-requires-2 Inv-loop μ-loop
+off-cells-requires-2 c κs = search needs
+
+returns-3 : tie.Need-returns-3 Inv-loop μ-loop
+returns-3 c =
+    let a = c .before .before .before .before .before .before .before .before .before .before .before .before .before .args in
+    let next = at-next (c .before .before .before .before .before .before .before .before .before .before .before .loop .inv .1) (c .before .before .before .before .before .before .before .before .before .before .field-end .result) (c .before .before .before .before .before .before .before .before .before .before .field-end .ensures) (c .before .before .if1 .left) in
+    c .off-cells2 .ensures ∙ sym (cells-other (a .table) (a .s .now) (a .count) (λ e. omega (arith, next .count, c .before .if2 .taken)))
+
+add-at : tie.Need-add-at Inv-loop μ-loop
+add-at c = omega arith
+
+loop-less : tie.Need-loop-less Inv-loop μ-loop
+loop-less c = omega (arith, c .before .before .before .before .before .before .before .before .before .field-end .ensures, c .before .if1 .left)
+
+loop-again : tie.Need-loop-again Inv-loop μ-loop
+loop-again c =
+    let m = more (c .before .before) in
+    (m .0, at-next (c .before .before .before .before .before .before .before .before .before .before .loop .inv .1) (c .before .before .before .before .before .before .before .before .before .field-end .result) (c .before .before .before .before .before .before .before .before .before .field-end .ensures) (c .before .if1 .left), m .1, m .2, omega (arith, c .if2 .left))
+
+pub read-cells-spec : {M : Type 1} → statement M
+read-cells-spec =
+    tie.close
+    (tie.spec
+    Inv-loop
+    μ-loop
+    loop-holds
+    field-end-requires
+    sub-cell
+    part-cell-start
+    part-cell-end
+    cell-requires
+    enum-known-v
+    enum-told
+    off-cells-requires
+    returns
+    mul-values
+    array-write-values
+    sub-blank-level
+    part-blank-level-start
+    part-blank-level-end
+    blank-level-requires
+    add-blanks
+    add-k
+    counted-requires
+    returns-2
+    off-cells-requires-2
+    returns-3
+    add-at
+    loop-less
+    loop-again)

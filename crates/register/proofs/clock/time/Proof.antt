@@ -1,0 +1,139 @@
+-- `register::clock::time` meets its contract: the three tests, and then the three numbers. Assumes nothing.
+use Prim.Native.Nat.{_<_}
+use mathlib.Core.Path.{_≡_, sym, _∙_}
+use native.Mathlib.Omega.{arith}
+use borrow.Author.Tests.{eq-eqb, ne-eqb}
+use lib.ListN.{length, getD}
+use Rattle.register.specs.Clock.{timeOf, twoAt, clock}
+use Rattle.text.specs.declared.number.Number.the-variants.{Got, Off}
+use Rattle.register.proofs.Clocks.{two-under}
+use borrow.Author.Needs.{needs}
+use Rattle.register.proofs.clock.time.Statement.{statement}
+use Rattle.register.proofs.clock.time.Tie as tie
+
+returns : tie.Need-returns
+unfolding timeOf
+returns c = simp (ne-eqb (length (c .before .before .args .s .now)) 8 (c .if1 .taken))
+
+shared-slice-read-if2 : tie.Need-shared-slice-read-if2
+shared-slice-read-if2 c = search needs
+
+returns-2 : tie.Need-returns-2
+unfolding timeOf
+returns-2 c =
+    let s = c .before .before .before .before .args .s .now in
+    simp (eq-eqb (length s) 8 (c .before .before .if1 .left), ne-eqb (getD s 2 0) 58 (c .if2 .taken))
+
+shared-slice-read-if3 : tie.Need-shared-slice-read-if3
+shared-slice-read-if3 c = search needs
+
+returns-3 : tie.Need-returns-3
+unfolding timeOf
+returns-3 c =
+    let s = c .before .before .before .before .before .before .args .s .now in
+    simp (eq-eqb (length s) 8 (c .before .before .before .before .if1 .left), eq-eqb (getD s 2 0) 58 (c .before .before .if2 .left), ne-eqb (getD s 5 0) 58 (c .if3 .taken))
+
+-- past the tests only the three numbers are left
+opened : (c : tie.Else3) → let s = c .before .before .before .before .before .before .args .s .now in timeOf s ≡ clock (twoAt s 0 24) (twoAt s 3 60) (twoAt s 6 60)
+unfolding timeOf
+opened c =
+    let s = c .before .before .before .before .before .before .args .s .now in
+    simp (eq-eqb (length s) 8 (c .before .before .before .before .if1 .left), eq-eqb (getD s 2 0) 58 (c .before .before .if2 .left), eq-eqb (getD s 5 0) 58 (c .if3 .left))
+
+two-at-requires : tie.Need-two-at-requires
+two-at-requires c κs = search needs
+
+enum-known-hour : tie.Need-enum-known-hour
+enum-known-hour c = search needs
+
+enum-told : tie.Need-enum-told
+enum-told c = search needs
+
+returns-4 : tie.Need-returns-4
+returns-4 c =
+    let s = c .before .before .before .before .before .before .before .before .before .args .s .now in
+    let h : twoAt s 0 24 ≡ Off = cc in
+    sym (opened (c .before .before .before) ∙ rw h)
+
+two-at-requires-2 : tie.Need-two-at-requires-2
+two-at-requires-2 c κs = search needs
+
+enum-known-minute : tie.Need-enum-known-minute
+enum-known-minute c = search needs
+
+enum-told-2 : tie.Need-enum-told-2
+enum-told-2 c = search needs
+
+returns-5 : tie.Need-returns-5
+returns-5 c =
+    let s = c .before .before .before .before .before .before .before .before .before .before .before .before .before .args .s .now in
+    let h : twoAt s 0 24 ≡ Got (c .before .before .before .before .hour .given .0 .0) = cc in
+    let m : twoAt s 3 60 ≡ Off = cc in
+    sym (opened (c .before .before .before .before .before .before .before) ∙ rw (h, m))
+
+two-at-requires-3 : tie.Need-two-at-requires-3
+two-at-requires-3 c κs = search needs
+
+enum-known-second : tie.Need-enum-known-second
+enum-known-second c = search needs
+
+enum-told-3 : tie.Need-enum-told-3
+enum-told-3 c = search needs
+
+returns-6 : tie.Need-returns-6
+returns-6 c =
+    let s = c .before .before .before .before .before .before .before .before .before .before .before .before .before .before .before .before .before .args .s .now in
+    let h : twoAt s 0 24 ≡ Got (c .before .before .before .before .before .before .before .before .hour .given .0 .0) = cc in
+    let m : twoAt s 3 60 ≡ Got (c .before .before .before .before .minute .given .0 .0) = cc in
+    let z : twoAt s 6 60 ≡ Off = cc in
+    sym (opened (c .before .before .before .before .before .before .before .before .before .before .before) ∙ rw (h, m, z))
+
+-- the three numbers are read, and are small
+three : (c : tie.After-known-told3) → let s = c .before .before .before .before .before .before .before .before .before .before .before .before .before .before .before .before .before .before .args .s .now in
+    (twoAt s 0 24 ≡ Got (c .before .before .before .before .before .before .before .before .before .hour .given .0 .0)) × (twoAt s 3 60 ≡ Got (c .before .before .before .before .before .minute .given .0 .0)) × (twoAt s 6 60 ≡ Got (c .before .second .given .0 .0))
+three c = (cc, cc, cc)
+
+small : (c : tie.After-known-told3) → (c .before .before .before .before .before .before .before .before .before .hour .given .0 .0 < 24) × (c .before .before .before .before .before .minute .given .0 .0 < 60) × (c .before .second .given .0 .0 < 60)
+small c = (two-under _ 0 24 _ (three c .0), two-under _ 3 60 _ (three c .1), two-under _ 6 60 _ (three c .2))
+
+mul-t13 : tie.Need-mul-t13
+mul-t13 c = omega (arith, small c .0, small c .1, small c .2)
+
+mul-t14 : tie.Need-mul-t14
+mul-t14 c = omega (arith, small c .0, small c .1, small c .2)
+
+add-t15 : tie.Need-add-t15
+add-t15 c = omega (arith, small c .0, small c .1, small c .2)
+
+add-t16 : tie.Need-add-t16
+add-t16 c = omega (arith, small c .0, small c .1, small c .2)
+
+returns-7 : tie.Need-returns-7
+returns-7 c = let r = three c in sym (opened (c .before .before .before .before .before .before .before .before .before .before .before .before) ∙ rw (r .0, r .1, r .2))
+
+pub time-spec : {M : Type 1} → statement M
+time-spec =
+    tie.close
+    (tie.spec
+    returns
+    shared-slice-read-if2
+    returns-2
+    shared-slice-read-if3
+    returns-3
+    two-at-requires
+    enum-known-hour
+    enum-told
+    returns-4
+    two-at-requires-2
+    enum-known-minute
+    enum-told-2
+    returns-5
+    two-at-requires-3
+    enum-known-second
+    enum-told-3
+    returns-6
+    mul-t13
+    mul-t14
+    add-t15
+    add-t16
+    returns-7)

@@ -1,0 +1,107 @@
+-- `register::header::header_points` meets its contract: each test on the way settles one of `headerOf`'s. Assumes nothing.
+use Prim.Native.Nat.{_-_, _/_, _%_}
+use mathlib.Core.Path.{_≡_, sym, _∙_}
+use borrow.Author.Tests.{lt-ltb, le-ltb, le-leb, lt-leb, eq-eqb, ne-eqb}
+use lib.ListN.{length, take}
+use lib.Seq.{length-take-le}
+use Rattle.register.specs.Header.{headerOf}
+use borrow.Author.Needs.{needs}
+use Rattle.register.proofs.header.header_points.Statement.{statement}
+use Rattle.register.proofs.header.header_points.Tie as tie
+
+returns : tie.Need-returns
+unfolding headerOf
+returns c =
+    let a = c .before .before .before .args in
+    let n = length (a .s .now) in
+    rw (le-ltb (a .lead) n (c .if1 .taken))
+
+returns-2 : tie.Need-returns-2
+unfolding headerOf
+returns-2 c =
+    let a = c .before .before .before .before .args in
+    let n = length (a .s .now) in
+    rw (
+      lt-ltb (a .lead) n (c .before .if1 .left),
+      lt-leb n (length (a .full .now)) (c .if2 .taken),
+    )
+
+sub-if3 : tie.Need-sub-if3
+sub-if3 c = search needs
+
+returns-3 : tie.Need-returns-3
+unfolding headerOf
+returns-3 c =
+    let a = c .before .before .before .before .before .args in
+    let n = length (a .s .now) in
+    rw (
+      lt-ltb (a .lead) n (c .before .before .if1 .left),
+      le-leb n (length (a .full .now)) (c .before .if2 .left),
+      ne-eqb ((n - a .lead) % 3) 0 (c .if3 .taken),
+    )
+
+sub-points : tie.Need-sub-points
+sub-points c = search needs
+
+returns-4 : tie.Need-returns-4
+unfolding headerOf
+returns-4 c =
+    let a = c .before .before .before .before .before .before .args in
+    let n = length (a .s .now) in
+    rw (
+      lt-ltb (a .lead) n (c .before .before .before .if1 .left),
+      le-leb n (length (a .full .now)) (c .before .before .if2 .left),
+      eq-eqb ((n - a .lead) % 3) 0 (c .before .if3 .left),
+      lt-leb ((n - a .lead) / 3) 8 (c .if4 .taken),
+    )
+
+slice-aggregate-same-text : tie.Need-slice-aggregate-same-text
+slice-aggregate-same-text c = sym (length-take-le _ _ (c .before .before .before .if2 .left))
+
+same-text-requires : tie.Need-same-text-requires
+same-text-requires c κs = search needs
+
+cast-t13 : tie.Need-cast-t13
+cast-t13 c = search needs
+
+returns-5 : tie.Need-returns-5
+unfolding headerOf
+returns-5 c =
+    let a = c .before .before .before .before .before .before .before .before .before .args in
+    let n = length (a .s .now) in
+    rw (
+      lt-ltb (a .lead) n (c .before .before .before .before .before .before .if1 .left),
+      le-leb n (length (a .full .now)) (c .before .before .before .before .before .if2 .left),
+      eq-eqb ((n - a .lead) % 3) 0 (c .before .before .before .before .if3 .left),
+      le-leb ((n - a .lead) / 3) 8 (c .before .before .before .if4 .left),
+      sym (c .before .same-text .ensures) ∙ c .if5 .taken,
+    )
+
+returns-6 : tie.Need-returns-6
+unfolding headerOf
+returns-6 c =
+    let a = c .before .before .before .before .before .before .before .before .before .args in
+    let n = length (a .s .now) in
+    rw (
+      lt-ltb (a .lead) n (c .before .before .before .before .before .before .if1 .left),
+      le-leb n (length (a .full .now)) (c .before .before .before .before .before .if2 .left),
+      eq-eqb ((n - a .lead) % 3) 0 (c .before .before .before .before .if3 .left),
+      le-leb ((n - a .lead) / 3) 8 (c .before .before .before .if4 .left),
+      sym (c .before .same-text .ensures) ∙ c .if5 .left,
+    )
+
+pub header-points-spec : {M : Type 1} → statement M
+header-points-spec =
+    tie.close
+    (tie.spec
+    returns
+    returns-2
+    sub-if3
+    returns-3
+    sub-points
+    returns-4
+    slice-aggregate-same-text
+    same-text-requires
+    cast-t13
+    returns-5
+    returns-6)

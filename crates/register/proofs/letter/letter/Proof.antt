@@ -1,0 +1,68 @@
+-- `register::letter::letter` meets its contract. The invariant: the letter's place is among the letters still to come. Assumes nothing.
+use Prim.Native.Nat.{_-_, _≤_}
+use mathlib.Core.Path.{_≡_, sym, _∙_}
+use native.Mathlib.Omega.{arith}
+use borrow.Author.Tests.{eq-eqb, ne-eqb}
+use lib.ListN.{length, drop}
+use Rattle.register.specs.Letter.{placeOf, letterOf}
+use Rattle.register.proofs.Letters.{moved, moved-none, place-hit, place-miss, place-end}
+use borrow.Author.Needs.{needs}
+use Rattle.register.proofs.letter.letter.Statement.{statement}
+use Rattle.register.proofs.letter.letter.Tie as tie
+
+abbrev Inv-loop : tie.InvT-loop
+Inv-loop t letters c i₀ i = (letterOf letters t ≡ moved i (placeOf c (drop i letters))) × (i ≤ length letters)
+
+abbrev μ-loop : tie.MeasureT-loop
+μ-loop t letters c i₀ i = length letters - i
+
+returns : tie.Need-returns Inv-loop μ-loop
+unfolding letterOf
+returns c =
+    rw (ne-eqb (length (c .before .args .t .now)) 1 (c .if1 .taken))
+
+shared-slice-read-c : tie.Need-shared-slice-read-c Inv-loop μ-loop
+shared-slice-read-c c = search needs
+
+loop-holds : tie.Need-loop-holds Inv-loop μ-loop
+unfolding letterOf
+loop-holds c =
+    (rw (eq-eqb (length (c .before .before .args .t .now)) 1 (c .before .if1 .left)) (moved-none _), omega arith)
+
+shared-slice-read-if2 : tie.Need-shared-slice-read-if2 Inv-loop μ-loop
+shared-slice-read-if2 c = search needs
+
+cast-t13 : tie.Need-cast-t13 Inv-loop μ-loop
+cast-t13 c = search needs
+
+returns-2 : tie.Need-returns-2 Inv-loop μ-loop
+returns-2 c = sym (c .before .before .before .loop .inv .0 ∙ place-hit _ _ _ (c .before .before .loop-test .taken) (c .if2 .taken))
+
+add-i : tie.Need-add-i Inv-loop μ-loop
+add-i c = search needs
+
+loop-less : tie.Need-loop-less Inv-loop μ-loop
+loop-less c = search needs
+
+loop-again : tie.Need-loop-again Inv-loop μ-loop
+loop-again c = (c .before .before .before .loop .inv .0 ∙ place-miss _ _ _ (c .before .before .loop-test .taken) (c .if2 .left), omega arith)
+
+returns-3 : tie.Need-returns-3 Inv-loop μ-loop
+returns-3 c = sym (c .before .loop .inv .0 ∙ place-end _ _ _ (c .loop-test .left))
+
+pub letter-spec : {M : Type 1} → statement M
+letter-spec =
+    tie.close
+    (tie.spec
+    Inv-loop
+    μ-loop
+    returns
+    shared-slice-read-c
+    loop-holds
+    shared-slice-read-if2
+    cast-t13
+    returns-2
+    add-i
+    loop-less
+    loop-again
+    returns-3)

@@ -1,0 +1,70 @@
+-- `register::row::eight_from` meets its contract. The invariant: so many values are copied. Assumes nothing.
+use Prim.Native.Nat.{ℕ, _+_, _-_, _≤_}
+use mathlib.Core.Path.{_≡_, refl, ap, _∙_}
+use mathlib.Core.List.{_++_, append-nil}
+use native.Mathlib.Omega.{arith}
+use lib.ListN.{getD, replicate}
+use Rattle.text.specs.Index.{listing}
+use Rattle.text.proofs.Indices.{store-more}
+use Rattle.register.specs.Row.{eightFrom}
+use borrow.Author.Needs.{needs}
+use Rattle.register.proofs.row.eight_from.Statement.{statement}
+use Rattle.register.proofs.row.eight_from.Tie as tie
+
+abbrev Inv-loop : tie.InvT-loop
+Inv-loop k values eight₀ i₀ eight i = (eight ≡ listing (λ j. getD values (k + j) 0) i ++ replicate (8 - i) 0) × (i ≤ 8)
+
+abbrev μ-loop : tie.MeasureT-loop
+μ-loop k values eight₀ i₀ eight i = 8 - i
+
+loop-holds : tie.Need-loop-holds Inv-loop μ-loop
+unfolding listing
+loop-holds c =
+    (refl, omega arith)
+
+add-eight : tie.Need-add-eight Inv-loop μ-loop
+add-eight c = search needs
+
+mul-eight : tie.Need-mul-eight Inv-loop μ-loop
+mul-eight c = search needs
+
+array-read-eight : tie.Need-array-read-eight Inv-loop μ-loop
+array-read-eight c = search needs
+
+mul-eight-2 : tie.Need-mul-eight-2 Inv-loop μ-loop
+mul-eight-2 c = search needs
+
+array-write-eight : tie.Need-array-write-eight Inv-loop μ-loop
+array-write-eight c = search needs
+
+add-i : tie.Need-add-i Inv-loop μ-loop
+add-i c = search needs
+
+loop-less : tie.Need-loop-less Inv-loop μ-loop
+loop-less c = search needs
+
+loop-again : tie.Need-loop-again Inv-loop μ-loop
+loop-again c = (rw (c .before .loop .inv .0) (store-more (λ j. getD (c .before .before .args .t1) (c .before .before .args .k + j) 0) (c .before .loop .i) 8 (c .loop-test .taken)), omega arith)
+
+returns : tie.Need-returns Inv-loop μ-loop
+unfolding eightFrom
+returns c =
+    let e : c .before .loop .i ≡ 8 = omega arith in
+    rw e at (c .before .loop .inv .0) ∙ append-nil _
+
+pub eight-from-spec : {M : Type 1} → statement M
+eight-from-spec =
+    tie.close
+    (tie.spec
+    Inv-loop
+    μ-loop
+    loop-holds
+    add-eight
+    mul-eight
+    array-read-eight
+    mul-eight-2
+    array-write-eight
+    add-i
+    loop-less
+    loop-again
+    returns)

@@ -1,0 +1,60 @@
+-- `register::row::read_row` meets its contract: the layout, then the rules and the room, and then the levels. Assumes nothing.
+use Prim.Native.Nat.{_≤_}
+use mathlib.Core.Path.{_≡_, refl, sym, ap, _∙_}
+use native.Mathlib.Omega.{arith}
+use borrow.Author.Tests.{eq-eqb, ne-eqb}
+use lib.ListN.{length, take}
+use Rattle.text.specs.Put.{put}
+use Rattle.register.specs.Row.{layoutOf, rowRefusal, fieldList}
+use Rattle.register.proofs.Rows.{row-none, layout-points}
+use borrow.Author.Needs.{needs}
+use Rattle.register.proofs.row.read_row.Statement.{statement}
+use Rattle.register.proofs.row.read_row.Tie as tie
+
+read-layout-requires : tie.Need-read-layout-requires
+read-layout-requires c κs = search needs
+
+row-refusal-requires : tie.Need-row-refusal-requires
+row-refusal-requires c κs = search needs
+
+-- what was found is the refusal of the row
+found : (c : tie.After-row-refusal) → let a = c .before .before .before .before .args in c .row-refusal .result ≡ rowRefusal (a .points) (layoutOf (a .points) (a .s .now)) (length (a .levels .now))
+found c = let a = c .before .before .before .before .args in c .row-refusal .ensures ∙ ap (λ l. rowRefusal (a .points) l (length (a .levels .now))) (c .before .read-layout .ensures)
+
+returns : tie.Need-returns
+returns c =
+    let e = found (c .before) in
+    let bad = ne-eqb (c .before .row-refusal .result) 0 (c .if1 .taken) in
+    record { number = e; values = rw (← e, bad); levels = rw (← e, bad) }
+
+put-levels-requires : tie.Need-put-levels-requires
+put-levels-requires c κs =
+    let a = c .before .before .before .before .before .before .before .before .args in
+    let none = row-none (a .points) (layoutOf (a .points) (a .s .now)) (length (a .levels .now)) (sym (found (c .before .before .before .before)) ∙ c .before .before .before .if1 .left) in
+    (layout-points (a .points) (a .s .now) (none .0) .1, none .2)
+
+same-length : tie.Need-same-length
+same-length c = search needs
+
+returns-2 : tie.Need-returns-2
+returns-2 c =
+    let a = c .before .before .before .before .before .before .before .before .before .before .before .args in
+    let e = found (c .before .before .before .before .before .before .before) in
+    let fine = eq-eqb (c .before .before .before .before .before .before .before .row-refusal .result) 0 (c .before .before .before .before .before .before .if1 .left) in
+    let l = c .before .before .before .before .before .before .before .before .read-layout .ensures in
+    record {
+      number = sym (c .before .before .before .before .before .before .if1 .left) ∙ e;
+      values = rw (← e, fine) (ap (λ r. fieldList (r .fields)) l);
+      levels = rw (← e, fine) (c .before .before .put-levels .ensures ∙ ap (λ r. put (a .levels .now) 0 (take (a .points) (r .levels))) l);
+    }
+
+pub read-row-spec : {M : Type 1} → statement M
+read-row-spec =
+    tie.close
+    (tie.spec
+    read-layout-requires
+    row-refusal-requires
+    returns
+    put-levels-requires
+    same-length
+    returns-2)

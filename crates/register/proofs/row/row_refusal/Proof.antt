@@ -1,0 +1,54 @@
+-- `register::row::row_refusal` meets its contract: each test settles one of `rowRefusal`'s. Assumes nothing.
+use mathlib.Core.Path.{_≡_, sym, ap, _∙_}
+use native.Mathlib.Omega.{arith}
+use borrow.Author.Tests.{le-leb, lt-leb, eq-eqb, ne-eqb}
+use Rattle.refusal.specs.Range.{allWithin}
+use Rattle.register.specs.Row.{faultOf, rowRefusal}
+use borrow.Author.Needs.{needs}
+use Rattle.register.proofs.row.row_refusal.Statement.{statement}
+use Rattle.register.proofs.row.row_refusal.Tie as tie
+
+returns : tie.Need-returns
+unfolding rowRefusal
+returns c =
+    rw (ne-eqb (c .before .before .args .l .refusal) 0 (c .if1 .taken))
+
+slice-aggregate-all-within : tie.Need-slice-aggregate-all-within
+slice-aggregate-all-within c = search needs
+
+all-within-requires : tie.Need-all-within-requires
+all-within-requires c κs = search needs
+
+fault-requires : tie.Need-fault-requires
+fault-requires c κs = search needs
+
+-- the rule that was found
+fault-of : (c : tie.After-fault) → c .fault .result ≡ faultOf (c .before .before .before .before .before .before .before .args .l .fields) (allWithin 12000 (c .before .before .before .before .before .before .before .args .l .levels))
+fault-of c = c .fault .ensures ∙ ap (faultOf (c .before .before .before .before .before .before .before .args .l .fields)) (c .before .all-within .ensures)
+
+returns-2 : tie.Need-returns-2
+unfolding rowRefusal
+returns-2 c =
+    rw (eq-eqb (c .before .before .before .before .before .before .before .before .args .l .refusal) 0 (c .before .before .before .before .before .before .if1 .left), ← fault-of (c .before), ne-eqb (c .before .fault .result) 0 (c .if2 .taken))
+
+returns-3 : tie.Need-returns-3
+unfolding rowRefusal
+returns-3 c =
+    rw (eq-eqb (c .before .before .before .before .before .before .before .before .before .args .l .refusal) 0 (c .before .before .before .before .before .before .before .if1 .left), ← fault-of (c .before .before), eq-eqb (c .before .before .fault .result) 0 (c .before .if2 .left), le-leb (c .before .before .before .before .before .before .before .before .before .args .points) (c .before .before .before .before .before .before .before .before .before .args .room) (c .if3 .taken))
+
+returns-4 : tie.Need-returns-4
+unfolding rowRefusal
+returns-4 c =
+    rw (eq-eqb (c .before .before .before .before .before .before .before .before .before .args .l .refusal) 0 (c .before .before .before .before .before .before .before .if1 .left), ← fault-of (c .before .before), eq-eqb (c .before .before .fault .result) 0 (c .before .if2 .left), lt-leb (c .before .before .before .before .before .before .before .before .before .args .points) (c .before .before .before .before .before .before .before .before .before .args .room) (c .if3 .left))
+
+pub row-refusal-spec : {M : Type 1} → statement M
+row-refusal-spec =
+    tie.close
+    (tie.spec
+    returns
+    slice-aggregate-all-within
+    all-within-requires
+    fault-requires
+    returns-2
+    returns-3
+    returns-4)

@@ -1,0 +1,44 @@
+-- `register::write::put_row` meets its contract: the line, and past it the CRLF. Assumes nothing.
+use Prim.Native.Nat.{_+_, _≤_}
+use mathlib.Core.Path.{_≡_, ap, _∙_}
+use mathlib.Core.List.{[], _∷_, _++_, append-assoc}
+use native.Mathlib.Omega.{arith}
+use lib.ListN.{length, length-append}
+use Rattle.text.proofs.Puts.{wrote-then}
+use Rattle.register.specs.Write.{showLine}
+use borrow.Author.Needs.{needs}
+use Rattle.register.proofs.write.put_row.Statement.{statement}
+use Rattle.register.proofs.write.put_row.Tie as tie
+
+put-line-requires : tie.Need-put-line-requires
+put-line-requires c κs = (c .before .before .before .pre .0, omega (arith, c .before .before .before .pre .1))
+
+put-byte-requires : tie.Need-put-byte-requires
+put-byte-requires c κs = omega (arith, c .before .before .before .before .before .before .before .pre .1, c .before .before .before .put-line .ensures .1, c .before .before .before .put-line .kept .0)
+
+put-byte-requires-2 : tie.Need-put-byte-requires-2
+put-byte-requires-2 c κs = omega (arith, c .before .before .before .before .before .before .before .before .before .before .before .pre .1, c .before .before .before .before .before .before .before .put-line .ensures .1, c .before .before .before .before .before .before .before .put-line .kept .0, c .before .before .before .put-byte .ensures .place, c .before .before .before .put-byte .kept .0)
+
+same-length : tie.Need-same-length
+same-length c = c .before .before .put-byte2 .kept .0 ∙ c .before .before .before .before .before .before .put-byte .kept .0 ∙ c .before .before .before .before .before .before .before .before .before .before .put-line .kept .0
+
+returns : tie.Need-returns
+returns c =
+    let line = showLine (c .before .before .before .before .before .before .before .before .before .before .before .before .before .before .args .f) (c .before .before .before .before .before .before .before .before .before .before .before .before .before .before .args .levels .now) in
+    let room = c .before .before .before .before .before .before .before .before .before .before .before .before .before .before .pre .1 in
+    let most = c .before .before .before .before .before .before .before .before .before .before .put-line .ensures .1 in
+    let place = c .before .before .before .before .before .before .before .before .before .before .put-line .ensures .0 .place in
+    let one = length-append line (13 ∷ []) in
+    let two = length-append (line ++ (13 ∷ [])) (10 ∷ []) in
+    let ended = wrote-then (omega arith) (wrote-then (omega arith) (c .before .before .before .before .before .before .before .before .before .before .put-line .ensures .0) (c .before .before .before .before .before .before .put-byte .ensures)) (c .before .before .put-byte2 .ensures) in
+    (rw (append-assoc line (13 ∷ []) (10 ∷ [])) at ended, omega (arith, c .before .before .before .before .before .before .put-byte .ensures .place, c .before .before .put-byte2 .ensures .place))
+
+pub put-row-spec : {M : Type 1} → statement M
+put-row-spec =
+    tie.close
+    (tie.spec
+    put-line-requires
+    put-byte-requires
+    put-byte-requires-2
+    same-length
+    returns)

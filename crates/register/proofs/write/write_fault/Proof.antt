@@ -1,0 +1,47 @@
+-- `register::write::write_fault` meets its contract: each test settles one of `writeFault`'s. Assumes nothing.
+use mathlib.Core.Path.{_≡_, _∙_}
+use native.Mathlib.Omega.{arith}
+use borrow.Author.Tests.{le-leb, lt-leb}
+use Rattle.register.specs.Write.{writeFault}
+use borrow.Author.Needs.{needs}
+use Rattle.register.proofs.write.write_fault.Statement.{statement}
+use Rattle.register.proofs.write.write_fault.Tie as tie
+
+returns : tie.Need-returns
+unfolding writeFault
+returns c =
+    rw (lt-leb 1 (c .before .before .args .points) (omega arith))
+
+returns-2 : tie.Need-returns-2
+unfolding writeFault
+returns-2 c =
+    rw (le-leb 1 (c .before .before .before .args .points) (omega arith), lt-leb (c .before .before .before .args .points) 8 (omega arith))
+
+returns-3 : tie.Need-returns-3
+unfolding writeFault
+returns-3 c =
+    let a = c .before .before .before .before .before .args in
+    rw (le-leb 1 (a .points) (omega arith), le-leb (a .points) 8 (omega arith), lt-leb (a .f .computed) 1 (omega arith))
+
+row-levels-fit-requires : tie.Need-row-levels-fit-requires
+row-levels-fit-requires c κs = search needs
+
+fault-requires : tie.Need-fault-requires
+fault-requires c κs = search needs
+
+returns-4 : tie.Need-returns-4
+unfolding writeFault
+returns-4 c =
+    let a = c .before .before .before .before .before .before .before .args in
+    c .fault .ensures ∙ rw (le-leb 1 (a .points) (omega arith), le-leb (a .points) 8 (omega arith), le-leb (a .f .computed) 1 (omega arith), c .before .row-levels-fit .ensures)
+
+pub write-fault-spec : {M : Type 1} → statement M
+write-fault-spec =
+    tie.close
+    (tie.spec
+    returns
+    returns-2
+    returns-3
+    row-levels-fit-requires
+    fault-requires
+    returns-4)

@@ -1,0 +1,83 @@
+-- `register::write::write_row` meets its contract: a fault, too little room, or the text that was put together. Assumes nothing.
+use Prim.Native.Nat.{_≤_}
+use mathlib.Core.Path.{_≡_, refl, sym, ap, _∙_}
+use mathlib.Core.List.{[], _∷_}
+use native.Mathlib.Omega.{arith}
+use borrow.Author.Tests.{le-leb, lt-leb, eq-eqb, ne-eqb}
+use lib.ListN.{length, take}
+use Rattle.text.specs.Put.{put}
+use Rattle.text.proofs.Puts.{wrote-front, wrote-fits}
+use Rattle.register.specs.Write.{showRow, writeFault, writeRefusal}
+use Rattle.register.proofs.Writes.{fault-fine, fine-writable}
+use borrow.Author.Needs.{needs}
+use Rattle.register.proofs.write.write_row.Statement.{statement}
+use Rattle.register.proofs.write.write_row.Tie as tie
+
+write-fault-requires : tie.Need-write-fault-requires
+write-fault-requires c κs = search needs
+
+returns : tie.Need-returns
+unfolding writeRefusal
+returns c =
+    let f = c .before .write-fault in
+    let bad = ne-eqb (f .result) 0 (c .if1 .taken) in
+    record { number = rw (← f .ensures, bad); values = rw (← f .ensures, bad, bad); bytes = rw (← f .ensures, bad, bad) }
+
+-- past the first test there is no fault
+fine : (c : tie.Else1) → let a = c .before .before .before .before .args in writeFault (a .points) (a .f) (a .levels .now) ≡ 0
+fine c = sym (c .before .write-fault .ensures) ∙ c .if1 .left
+
+slice-aggregate-put-row : tie.Need-slice-aggregate-put-row
+slice-aggregate-put-row c = search needs
+
+put-row-requires : tie.Need-put-row-requires
+put-row-requires c κs = (fine-writable (fault-fine _ _ _ (fine (c .before))), omega arith)
+
+returns-2 : tie.Need-returns-2
+unfolding writeRefusal
+returns-2 c =
+    let a = c .before .before .before .before .before .before .before .before .args in
+    let none = eq-eqb _ 0 (fine (c .before .before .before .before)) in
+    let short = lt-leb (length (showRow (a .f) (a .levels .now))) (length (a .out .now)) (omega (arith, c .before .before .put-row .ensures .0 .place, c .if2 .taken)) in
+    record { number = rw (none, short); values = rw (none, short); bytes = rw (none, short) }
+
+slice-aggregate-put-front : tie.Need-slice-aggregate-put-front
+slice-aggregate-put-front c = search needs
+
+put-front-requires : tie.Need-put-front-requires
+put-front-requires c κs = (wrote-fits (c .before .before .before .before .put-row .ensures .0), c .before .before .if2 .left)
+
+cast-t17 : tie.Need-cast-t17
+cast-t17 c = omega (arith, c .before .before .before .before .before .before .before .put-row .ensures .1)
+
+same-length : tie.Need-same-length
+same-length c = search needs
+
+returns-3 : tie.Need-returns-3
+unfolding writeRefusal
+returns-3 c =
+    let a = c .before .before .before .before .before .before .before .before .before .before .before .before .before .args in
+    let p = c .before .before .before .before .before .before .before .put-row in
+    let none = eq-eqb _ 0 (fine (c .before .before .before .before .before .before .before .before .before)) in
+    let n : p .result ≡ length (showRow (a .f) (a .levels .now)) = omega (arith, p .ensures .0 .place) in
+    let room = le-leb (length (showRow (a .f) (a .levels .now))) (length (a .out .now)) (omega (arith, c .before .before .before .before .before .if2 .left)) in
+    record {
+      number = rw (none, room);
+      values = rw (none, room) (ap (λ k. k ∷ []) n);
+      bytes = rw (none, room) (c .before .before .put-front .ensures ∙ ap (put (a .out .now) 0) (wrote-front (p .ensures .0)));
+    }
+
+pub write-row-spec : {M : Type 1} → statement M
+write-row-spec =
+    tie.close
+    (tie.spec
+    write-fault-requires
+    returns
+    slice-aggregate-put-row
+    put-row-requires
+    returns-2
+    slice-aggregate-put-front
+    put-front-requires
+    cast-t17
+    same-length
+    returns-3)

@@ -1,0 +1,30 @@
+-- Types and kinds as text: one letter, which stands for its place among the letters of its column.
+use Prim.Native.Nat.{ℕ, suc, _+_}
+use mathlib.Core.List.{List, [], _∷_}
+use mathlib.Core.Bool.{cond}
+use lib.ListN.{length, getD}
+use lib.Dec.{eqb}
+use Rattle.text.specs.declared.number.Number.{Number}
+use Rattle.text.specs.declared.number.Number.the-variants.{Got, Off}
+
+-- types G, K, H are 0 large, 1 small, 2 helicopter; kinds S, L are 0 start, 1 landing
+abbrev pub typeLetters : List ℕ
+typeLetters = 71 ∷ 75 ∷ 72 ∷ []
+
+abbrev pub kindLetters : List ℕ
+kindLetters = 83 ∷ 76 ∷ []
+
+abbrev pub later : Number → Number
+later Off = Off
+later (Got n) = Got (suc n)
+
+-- the place of a byte in a list
+unfoldable pub placeOf : ℕ → List ℕ → Number
+placeOf c [] = Off
+placeOf c (l ∷ ls) = cond (eqb c l) (Got 0) (later (placeOf c ls))
+
+unfoldable pub letterOf : List ℕ → List ℕ → Number
+letterOf letters t = cond (eqb (length t) 1) (placeOf (getD t 0 0) letters) Off
+
+abbrev pub showLetter : List ℕ → ℕ → List ℕ
+showLetter letters n = getD letters n 0 ∷ []

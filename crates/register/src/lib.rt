@@ -1,0 +1,8 @@
+// Register rows, headers and limits.csv: document 01, "Files and the report program".
+mod cell;
+mod clock;
+pub mod header;
+mod letter;
+pub mod limits;
+pub mod row;
+pub mod write;
