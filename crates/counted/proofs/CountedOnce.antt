@@ -14,9 +14,8 @@ use Rattle.level.specs.Level.{levelOf}
 use Rattle.movement.specs.Limits.{groupCount}
 use Rattle.refusal.specs.Refuse.{refuse}
 use Rattle.book.specs.Columns.{Book, sound}
-use Rattle.book.specs.Calls.{Call}
-use Rattle.book.specs.History.{Movement, sizesFit, emptyBook, booked}
-use Rattle.book.proofs.History.{movements, history-sound}
+use Rattle.book.specs.History.{Movement, sizesFit, emptyBook, Made, booked, movements}
+use Rattle.book.proofs.History.{history-sound}
 use Rattle.counted.specs.declared.Group.{Group}
 use Rattle.counted.specs.declared.Counts.{Counts}
 use Rattle.counted.specs.declared.Load.{Load}
@@ -99,9 +98,9 @@ load-answered fits ss days = go (eqb n 0) refl
 
 -- After any calls on an empty book of n rows and p points
 
-module _ (p pt n : ℕ) (cs : List Call) where
+module _ (p pt n : ℕ) (cs : List Made) where
   abbrev book : Book
-  book = booked p (emptyBook p n) cs
+  book = booked (emptyBook p n) cs
 
   -- what is worked from the rows is worked from the list, where it is the same of every book that does not fit
   afresh : {A : Type 0} (k : Bool → List Share → A) → ((xs ys : List Share) → k false xs ≡ k false ys)
@@ -114,18 +113,18 @@ module _ (p pt n : ℕ) (cs : List Call) where
       go true true e = ap (k true) (history-shares p pt n cs (ltb-true pt p e))
 
   -- (b) load and verdict are those worked afresh
-  pub load-afresh : (days : ℕ) → bookLoad p pt (booked p (emptyBook p n) cs) days ≡ listLoad p n pt (movements p n cs) days
+  pub load-afresh : (days : ℕ) → bookLoad p pt (booked (emptyBook p n) cs) days ≡ listLoad p n pt (movements p n cs) days
   unfolding bookLoad listLoad loadOf loadRefusal
   load-afresh days = afresh (λ t ss. loadOf t ss days) (λ xs ys. refl)
 
   pub verdict-afresh : (days limit : ℕ)
-      → bookVerdict p pt (booked p (emptyBook p n) cs) days limit ≡ listVerdict p n pt (movements p n cs) days limit
+      → bookVerdict p pt (booked (emptyBook p n) cs) days limit ≡ listVerdict p n pt (movements p n cs) days limit
   unfolding bookVerdict listVerdict judgedOf judged verdictRefusal
   verdict-afresh days limit = afresh (λ t ss. judgedOf t ss days limit) (λ xs ys. refl)
 
   -- (a) and (c) a load that is not refused counts every movement once
-  pub counted-once : (days : ℕ) → bookLoad p pt (booked p (emptyBook p n) cs) days .refused ≡ 0
-      → CountsEach (bookLoad p pt (booked p (emptyBook p n) cs) days) pt (movements p n cs)
+  pub counted-once : (days : ℕ) → bookLoad p pt (booked (emptyBook p n) cs) days .refused ≡ 0
+      → CountsEach (bookLoad p pt (booked (emptyBook p n) cs) days) pt (movements p n cs)
   unfolding listLoad
   counted-once days z =
       let ss = sharesOf pt (movements p n cs) in
@@ -135,7 +134,7 @@ module _ (p pt n : ℕ) (cs : List Call) where
 
   -- and where one is computed, it is not refused
   pub never-dropped : (days : ℕ) → sizesFit p n ≡ true → pt < p → daysFit days ≡ true → someComputed (movements p n cs) ≡ true
-      → bookLoad p pt (booked p (emptyBook p n) cs) days .refused ≡ 0
+      → bookLoad p pt (booked (emptyBook p n) cs) days .refused ≡ 0
   unfolding listLoad loadOf loadRefusal noneComputed answer
   never-dropped days sizes there fit some =
       rw (load-afresh days, sizes, lt-ltb pt p there, fit, shares-computed pt (movements p n cs), some) refl

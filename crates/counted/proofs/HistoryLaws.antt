@@ -10,11 +10,10 @@ use lib.Seq.{getD-append-add}
 use borrow.Author.Tests.{ne-eqb}
 use Rattle.movement.specs.Limits.{groupCount}
 use Rattle.book.specs.Columns.{bookOf}
-use Rattle.book.specs.Calls.{Call}
-use Rattle.book.specs.History.{Held, Movement, markOf, levelsOf, column, identityCell, rowsOf, emptyBook, booked}
+use Rattle.book.specs.History.{Held, Movement, markOf, levelsOf, column, identityCell, rowsOf, emptyBook, Made, booked, movements}
 use Rattle.book.specs.History.Held.{none, holds}
 use Rattle.book.proofs.Standing.{AllGood}
-use Rattle.book.proofs.History.{movements, told, told-empty}
+use Rattle.book.proofs.History.{told-all}
 use Rattle.counted.specs.Shares.{heldShare, sharesOf, rowShare, sharesTo, bookShares}
 use Rattle.counted.proofs.TallyLaws.{groupIn, AllGrouped}
 
@@ -65,13 +64,13 @@ module _ (p pt : ℕ) where
   shares-grouped (a ∷ ms) s = (held-grouped pt (a .group) (a .held) (s .0 .group<), shares-grouped ms (s .1))
 
   -- after any calls on an empty book of n rows
-  pub history-shares : (n : ℕ) (cs : List Call) → pt < p → bookShares p pt (booked p (emptyBook p n) cs) ≡ sharesOf pt (movements p n cs)
+  pub history-shares : (n : ℕ) (cs : List Made) → pt < p → bookShares p pt (booked (emptyBook p n) cs) ≡ sharesOf pt (movements p n cs)
   unfolding bookShares rowsOf
   history-shares n cs h =
-      let t = told p n cs (emptyBook p n) [] (told-empty p n) in
+      let t = told-all p n cs in
       ap (bookShares p pt) (t .rows) ∙ shares-rows (t .unused) (movements p n cs) (t .good) h
 
-  pub history-grouped : (n : ℕ) (cs : List Call) → AllGrouped (sharesOf pt (movements p n cs))
+  pub history-grouped : (n : ℕ) (cs : List Made) → AllGrouped (sharesOf pt (movements p n cs))
   history-grouped n cs =
-      let t = told p n cs (emptyBook p n) [] (told-empty p n) in
+      let t = told-all p n cs in
       shares-grouped (movements p n cs) (t .good)

@@ -1,8 +1,11 @@
 -- The two tables of document 01, "Energy and load", by their rules.
 -- Assumes nothing.
-use Prim.Native.Nat.{ℕ, zero, suc, _+_, _*_, _^_}
+use Prim.Native.Nat.{ℕ, zero, suc, _+_, _*_, _^_, _<_}
+use mathlib.Core.Path.{_≡_}
+use mathlib.Core.List.{List}
 use mathlib.Core.Bool.{cond}
 use lib.Dec.{leb}
+use lib.ListN.{getD}
 
 -- the largest x up to n with x ^ p at most v
 unfoldable pub largestUpTo : ℕ → ℕ → ℕ → ℕ
@@ -19,3 +22,7 @@ tableA k = largestRoot 1000 (10 ^ (6000 + k))
 
 unfoldable pub tableB : ℕ → ℕ
 tableB k = largestRoot 2000 (10 ^ (12000 + 2 * k + 1))
+
+-- xs holds the first n numbers of f
+abbrev pub Holds : (f : ℕ → ℕ) (n : ℕ) → List ℕ → Type 0
+Holds f n xs = (k : ℕ) → k < n → getD xs k 0 ≡ f k

@@ -1,23 +1,24 @@
 // The steps of a load, for numbers that the caller has found in range: energy, scaling, the mean, the level and the verdict.
 use crate::Level;
 use crate::Verdict;
-use crate::tables::a_at;
-use crate::tables::b_at;
-use crate::tables::power;
+use crate::tables::powers;
+use crate::tables::table_b;
 ghost use mathlib.Core.Path.{_≡_};
 ghost use Prim.Native.Nat.{_*_, _/_, _^_, _<_, _≤_};
 ghost use Rattle.level.specs.Limits.{maxWeighted, maxMean};
+ghost use Rattle.level.specs.Tables.{Holds, tableA, tableB};
+ghost use Rattle.level.specs.declared.Level.the-variants.{At};
 ghost use Rattle.level.specs.Energy.{energyOf, meanOf};
 ghost use Rattle.level.specs.Level.{bound, levelOf, verdictOf};
 
-// The energy of a weighted level.
-pub fn energy(c: u32) -> u64
-    requires { ⌜ c ≤ maxWeighted ⌝ }
+// The energy of a weighted level, by table A and the powers of ten.
+pub fn energy(a: &[u64; 1000], powers: &[u64; 14], c: u32) -> u64
+    requires { ⌜ (c ≤ maxWeighted) × (Holds tableA 1000 (now a)) × (Holds (λ q. 10 ^ q) 14 (now powers)) ⌝ }
     ensures { λ r. ⌜ r ≡ energyOf c ⌝ }
 {
     let k = (c % 1000) as usize;
     let q = (c / 1000) as usize;
-    a_at(k) * power(q) / 1000000
+    a[k] * powers[q] / 1000000
 }
 
 // s·n / d rounded down, by parts, since s·n need not fit.
@@ -38,20 +39,32 @@ pub fn mean(total: u64, days: u32) -> u64
 }
 
 // B(k)·10^q / 1000 for n = 1000q + k; from the third decade on 1000 divides the power.
-fn bound_at(n: u32) -> u64
-    requires { ⌜ n < 14000 ⌝ }
+fn bound_at(b: &[u64; 1000], powers: &[u64; 14], n: u32) -> u64
+    requires { ⌜ (n < 14000) × (Holds tableB 1000 (now b)) × (Holds (λ q. 10 ^ q) 14 (now powers)) ⌝ }
     ensures { λ r. ⌜ r ≡ bound n ⌝ }
 {
-    let b = b_at((n % 1000) as usize);
+    let k = (n % 1000) as usize;
     let q = (n / 1000) as usize;
     if q < 3 {
-        b * power(q) / 1000
+        b[k] * powers[q] / 1000
     } else {
-        b * power(q - 3)
+        b[k] * powers[q - 3]
     }
 }
 
-// The level of a mean energy, by a walk up from 0.00.
+// The smallest level whose bound reaches a mean energy, by a walk up from 0.00.
+fn first_reaching(b: &[u64; 1000], powers: &[u64; 14], m: u64) -> u32
+    requires { ⌜ (1000 ≤ m) × (m ≤ maxMean) × (Holds tableB 1000 (now b)) × (Holds (λ q. 10 ^ q) 14 (now powers)) ⌝ }
+    ensures { λ r. ⌜ At r ≡ levelOf m ⌝ }
+{
+    let mut n: u32 = 0;
+    while bound_at(b, powers, n) < m {
+        n += 1;
+    }
+    n
+}
+
+// The level of a mean energy.
 pub fn level_of(m: u64) -> Level
     requires { ⌜ m ≤ maxMean ⌝ }
     ensures { λ r. ⌜ r ≡ levelOf m ⌝ }
@@ -59,11 +72,9 @@ pub fn level_of(m: u64) -> Level
     if m < 1000 {
         return Level::BelowZero;
     }
-    let mut n: u32 = 0;
-    while bound_at(n) < m {
-        n += 1;
-    }
-    Level::At(n)
+    let b = table_b();
+    let p = powers();
+    Level::At(first_reaching(&b, &p, m))
 }
 
 // Whether a level is over the limit.

@@ -19,8 +19,9 @@ use Rattle.movement.specs.declared.period.Period.{Period}
 use Rattle.movement.specs.declared.period.Period.the-variants.{Day, Evening, Night}
 use Rattle.movement.specs.Group.{groupPeriod}
 use Rattle.refusal.proofs.Laws.{and-left, and-right}
-use Rattle.book.specs.Columns.{Book, sound, shaped, rising, headSound, topLevel, allWithin, rowSound, rowsSound}
-use Rattle.book.proofs.Refused.{sound-fits}
+use Rattle.refusal.specs.Range.{allWithin}
+use Rattle.book.specs.Columns.{Book, sound, headSound, topLevel, rowSound, rowsSound}
+use Rattle.book.proofs.Shapes.{sound-fits, sound-rows}
 use Rattle.counted.specs.declared.Group.{Group}
 use Rattle.counted.specs.Shares.{Share, energyIn, rowShare, sharesTo}
 use Rattle.counted.specs.Shares.Share.{has, lacks}
@@ -193,11 +194,10 @@ pub record Row (p pt : ℕ) (b : Book) (i : ℕ) : Type 0 where
 module _ (p pt : ℕ) (b : Book) (ok : sound p b ≡ true) (there : pt < p) where
   row-sound : (i : ℕ) → i < length (b .identities)
       → rowSound (getD (b .identities) i 0) (getD (b .groups) i 0) (getD (b .marks) i 0) (take p (drop (i * p) (b .levels))) ≡ true
-  unfolding sound
   row-sound i h =
       let f = sound-fits p b ok in
       rows-at p (b .identities) (b .groups) (b .marks) (b .levels) i (f .groups=) (f .marks=) h
-      (and-right (rising (b .identities)) _ (and-right (shaped p b) _ ok))
+      (sound-rows p b ok)
 
   row-group : (i : ℕ) → i < length (b .identities) → getD (b .groups) i 0 < groupCount
   unfolding rowSound

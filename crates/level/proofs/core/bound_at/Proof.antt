@@ -1,16 +1,19 @@
 -- `level::core::bound_at` meets its contract: B(k) is below 10^7 and the power at most 10^10, so that each product fits.
 -- Assumes nothing.
-use mathlib.Core.Path.{_≡_, sym, _∙_}
+use mathlib.Core.Path.{_≡_, sym}
 use Prim.Native.Nat.{ℕ, _-_, _*_, _/_, _%_, _^_, _≤_, _<_}
 use native.Mathlib.Nat.{mul-le-mul, pow-le-pow-right, lt-of-le-of-lt}
 use native.Mathlib.Omega.{arith}
 use lib.Dec.{lit<}
-use borrow.Author.Needs.{needs}
+use lib.ListN.{getD}
 use Rattle.level.specs.Tables.{tableB}
 use Rattle.level.specs.Level.{bound}
 use Rattle.level.proofs.LevelLaws.{b-below, thousand-out}
+use borrow.Author.Needs.{needs}
 use Rattle.level.proofs.core.bound_at.Statement.{statement}
 use Rattle.level.proofs.core.bound_at.Tie as tie
+use Rattle.level.proofs.core.bound_at.Reads as reads
+use Rattle.level.proofs.core.bound_at.Lts as lts
 
 -- a number of table B times a power up to 10^10 fits
 fits : (k e : ℕ) → k < 1000 → e ≤ 10 → tableB k * 10 ^ e < 2 ^ 64
@@ -18,36 +21,78 @@ fits k e h l =
     let b = b-below k h in
     lt-of-le-of-lt {m = 10 ^ 7 * 10 ^ 10} (mul-le-mul {n₂ = 10 ^ 7} {m₂ = 10 ^ 10} (omega arith) (pow-le-pow-right (lit< tt) l)) (lit< tt)
 
+-- the two numbers that are read
+of-b : (s : tie.Start) → getD (s .args .b .now) (s .args .n % 1000) 0 ≡ tableB (s .args .n % 1000)
+of-b s = s .pre .1 (s .args .n % 1000) (omega arith)
+
+of-powers : (s : tie.Start) (q : ℕ) → q < 14 → getD (s .args .powers .now) q 0 ≡ 10 ^ q
+of-powers s q h = s .pre .2 q h
+
+cast-k : tie.Need-cast-k
+cast-k c = search needs
+
+cast-q : tie.Need-cast-q
+cast-q c = search needs
+
 mul-result : tie.Need-mul-result
-mul-result c =
-    let a = c .before .before in
-    record { fits = rw (a .b-at .ensures, c .power .ensures) (fits (a .before .args .n % 1000) (a .before .args .n / 1000) (omega arith) (omega arith)) }
+mul-result c = search needs
+
+element-copy-out-result : tie.Need-element-copy-out-result
+element-copy-out-result c = search needs
 
 mul-result-2 : tie.Need-mul-result-2
-mul-result-2 c =
-    let a = c .before .before in
-    record { fits = rw (a .b-at .ensures, c .power2 .ensures) (fits (a .before .args .n % 1000) (a .before .args .n / 1000 - 3) (omega arith) (omega arith)) }
+mul-result-2 c = search needs
+
+element-copy-out-result-2 : tie.Need-element-copy-out-result-2
+element-copy-out-result-2 c = search needs
+
+mul-result-3 : tie.Need-mul-result-3
+mul-result-3 c =
+    let s = c .before .before .before in
+    record { fits = rw (of-b s, of-powers s (s .args .n / 1000) (omega arith)) (fits (s .args .n % 1000) (s .args .n / 1000) (omega arith) (omega arith)) }
+
+mul-result-4 : tie.Need-mul-result-4
+mul-result-4 c = search needs
+
+element-copy-out-result-3 : tie.Need-element-copy-out-result-3
+element-copy-out-result-3 c = search needs
+
+mul-result-5 : tie.Need-mul-result-5
+mul-result-5 c = search needs
+
+element-copy-out-result-4 : tie.Need-element-copy-out-result-4
+element-copy-out-result-4 c = search needs
+
+mul-result-6 : tie.Need-mul-result-6
+mul-result-6 c =
+    let s = c .before .before .before in
+    record { fits = rw (of-b s, of-powers s (s .args .n / 1000 - 3) (omega arith)) (fits (s .args .n % 1000) (s .args .n / 1000 - 3) (omega arith) (omega arith)) }
 
 returns : tie.Need-returns
 unfolding bound
-returns c = rw (c .before .before .b-at .ensures, c .power .ensures)
+returns c = let s = c .before .before .before in rw (of-b s, of-powers s (s .args .n / 1000) (omega arith))
 
 returns-2 : tie.Need-returns-2
 unfolding bound
 returns-2 c =
-    let a = c .before .before in
-    rw (a .b-at .ensures, c .power2 .ensures) (sym (thousand-out (tableB (a .before .args .n % 1000)) (a .before .args .n / 1000) (omega arith)))
+    let s = c .before .before .before in
+    rw (of-b s, of-powers s (s .args .n / 1000 - 3) (omega arith)) (sym (thousand-out (tableB (s .args .n % 1000)) (s .args .n / 1000) (omega arith)))
 
 pub bound-at-spec : {M : Type 1} → statement M
 bound-at-spec =
     tie.close
     (tie.spec
-    (λ c. search needs)
-    (λ c κs. search needs)
-    (λ c. search needs)
-    (λ c κs. search needs)
+    cast-k
+    cast-q
     mul-result
-    (λ c κs. search needs)
+    element-copy-out-result
     mul-result-2
+    element-copy-out-result-2
+    mul-result-3
+    mul-result-4
+    element-copy-out-result-3
+    mul-result-5
+    element-copy-out-result-4
+    mul-result-6
     returns
     returns-2)

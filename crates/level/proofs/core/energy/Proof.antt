@@ -1,12 +1,26 @@
--- `level::core::energy` meets its contract: the readers ensure A(k) and 10^q, and their product is at most 10^19.
+-- `level::core::energy` meets its contract: the tables hold A(k) and 10^q, and their product is at most 10^19.
 -- Assumes nothing.
+use mathlib.Core.Path.{_≡_}
+use Prim.Native.Nat.{_/_, _%_, _^_}
 use native.Mathlib.Nat.{lt-of-le-of-lt}
+use native.Mathlib.Omega.{arith}
 use lib.Dec.{lit<}
-use borrow.Author.Needs.{needs}
+use lib.ListN.{getD}
+use Rattle.level.specs.Tables.{tableA}
 use Rattle.level.specs.Energy.{energyOf}
 use Rattle.level.proofs.EnergyLaws.{product-le}
+use borrow.Author.Needs.{needs}
 use Rattle.level.proofs.core.energy.Statement.{statement}
 use Rattle.level.proofs.core.energy.Tie as tie
+use Rattle.level.proofs.core.energy.Reads as reads
+use Rattle.level.proofs.core.energy.Lts as lts
+
+-- the two numbers that are read
+of-a : (s : tie.Start) → getD (s .args .a .now) (s .args .c % 1000) 0 ≡ tableA (s .args .c % 1000)
+of-a s = s .pre .1 (s .args .c % 1000) (omega arith)
+
+of-powers : (s : tie.Start) → getD (s .args .powers .now) (s .args .c / 1000) 0 ≡ 10 ^ (s .args .c / 1000)
+of-powers s = s .pre .2 (s .args .c / 1000) (omega arith)
 
 cast-k : tie.Need-cast-k
 cast-k c = search needs
@@ -14,19 +28,36 @@ cast-k c = search needs
 cast-q : tie.Need-cast-q
 cast-q c = search needs
 
-a-at-requires : tie.Need-a-at-requires
-a-at-requires c κs = search needs
-
-power-requires : tie.Need-power-requires
-power-requires c κs = search needs
-
 mul-result : tie.Need-mul-result
-mul-result c =
-    record { fits = rw (c .before .a-at .ensures, c .power .ensures) (lt-of-le-of-lt (product-le (c .before .before .args .c) (c .before .before .pre)) (lit< tt)) }
+mul-result c = search needs
+
+element-copy-out-result : tie.Need-element-copy-out-result
+element-copy-out-result c = search needs
+
+mul-result-2 : tie.Need-mul-result-2
+mul-result-2 c = search needs
+
+element-copy-out-result-2 : tie.Need-element-copy-out-result-2
+element-copy-out-result-2 c = search needs
+
+mul-result-3 : tie.Need-mul-result-3
+mul-result-3 c =
+    let s = c .before .before in
+    record { fits = rw (of-a s, of-powers s) (lt-of-le-of-lt (product-le (s .args .c) (s .pre .0)) (lit< tt)) }
 
 returns : tie.Need-returns
 unfolding energyOf
-returns c = rw (c .before .a-at .ensures, c .power .ensures)
+returns c = rw (of-a (c .before .before), of-powers (c .before .before))
 
 pub energy-spec : {M : Type 1} → statement M
-energy-spec = tie.close (tie.spec cast-k cast-q a-at-requires power-requires mul-result returns)
+energy-spec =
+    tie.close
+    (tie.spec
+    cast-k
+    cast-q
+    mul-result
+    element-copy-out-result
+    mul-result-2
+    element-copy-out-result-2
+    mul-result-3
+    returns)
