@@ -21,7 +21,7 @@ pub fn cut(bytes: &[u8], at: usize, ended: bool) -> Cut
     ensures { λ r. ⌜ r ≡ cutOf (drop at (now (bytes .entry))) at ended ⌝ }
 {
     let end = line_end(bytes, at);
-    if end < bytes.len() {
+    if 2 <= bytes.len() - end {
         return Cut::Line(end, end + 2);
     }
     last_cut(bytes, at, ended)
