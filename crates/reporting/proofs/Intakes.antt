@@ -1,14 +1,17 @@
 -- A row that is taken, case by case: from what the layout reads and what the two calls promise to what the row's definition says.
 -- Assumes nothing.
-use mathlib.Core.Path.{_≡_, refl, sym, _∙_}
+use mathlib.Core.Path.{_≡_, refl, sym, ap, _∙_}
+use mathlib.Core.Bool.{Bool, true, false, cond}
 use mathlib.Core.List.{List}
 use Prim.Native.Nat.{ℕ}
 use native.Mathlib.Omega.{arith}
 use lib.ListN.{take}
+use lib.Dec.{eqb}
 use borrow.Author.Tests.{eq-eqb, ne-eqb}
-use Rattle.book.specs.Columns.{Book}
+use Rattle.book.specs.Columns.{Book, sound}
 use Rattle.book.specs.Calls.{Call, Called, refusal, after}
 use Rattle.book.proofs.Accepted.{after-refused}
+use Rattle.book.proofs.Kept.{after-sound}
 use Rattle.register.specs.declared.row.Layout.{Layout}
 use Rattle.register.specs.Row.{layoutOf}
 use Rattle.reporting.specs.declared.Taken.{Taken}
@@ -68,3 +71,20 @@ module _ (line : List ℕ) {p r : ℕ} {b b₁ : Book} {l : Layout} (e : l ≡ l
         answer = rw (← e, eq-eqb (l .refusal) 0 z, ← k .answer, zero, ne-eqb (l .fields .computed) 0 given, ← k .book) (s .answer);
         book = rw (← e, eq-eqb (l .refusal) 0 z, ← k .answer, zero, ne-eqb (l .fields .computed) 0 given, ← k .book) (s .book);
       }
+
+-- a row keeps a sound book sound
+pub row-sound : {p : ℕ} {b b′ : Book} {r : Taken} (line : List ℕ) → sound p b ≡ true → RowTaken p b line r b′ → sound p b′ ≡ true
+unfolding rowAfter layoutAfter enteredAfter
+row-sound {p} {b} {b′} {r} line s k = ap (sound p) (k .book) ∙ go (eqb (l .refusal) 0) (eqb (refusal p b (entering l)) 0) (eqb (l .fields .computed) 0)
+  where
+    l : Layout
+    l = layoutOf p line
+
+    entered : sound p (after p b (entering l)) ≡ true
+    entered = after-sound p p b (entering l) s (λ _. refl)
+
+    go : (x y z : Bool) → sound p (cond x (cond y (cond z (after p b (entering l)) (after p (after p b (entering l)) (supplying p l))) b) b) ≡ true
+    go false y z = s
+    go true false z = s
+    go true true true = entered
+    go true true false = after-sound p p (after p b (entering l)) (supplying p l) entered (λ _. refl)
