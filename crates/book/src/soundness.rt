@@ -35,17 +35,17 @@ fn shape_fits(points: usize, rows: usize, groups: usize, marks: usize, levels: u
     levels == rows * points
 }
 
-// Whether the identity y may stand right after x.
-fn may_follow(x: u32, y: u32) -> bool
-    ensures { λ r. ⌜ r ≡ follows x y ⌝ }
+// Whether one identity may stand right after another.
+fn may_follow(before: u32, after: u32) -> bool
+    ensures { λ r. ⌜ r ≡ follows before after ⌝ }
 {
-    if y == 0 {
+    if after == 0 {
         return true;
     }
-    if x == 0 {
+    if before == 0 {
         return false;
     }
-    x < y
+    before < after
 }
 
 // Whether identities rise with no gap and unused rows come last.

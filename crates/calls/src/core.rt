@@ -33,9 +33,9 @@ pub fn enter(
 {
     let at = place_of(ids, identity);
     let rows = standing_rows(ids);
-    let refused = enter_refusal(ids, at, rows, identity, ty, kind, time, mass);
-    if refused != 0 {
-        return refused;
+    let not_entered = enter_refusal(ids, at, rows, identity, ty, kind, time, mass);
+    if not_entered != 0 {
+        return not_entered;
     }
     let group = group_of(ty, kind, time);
     row_in(
@@ -66,9 +66,9 @@ pub fn supply(
     ensures { λ r. ⌜ Called points (bookOf (now (ids .entry)) (now (groups .entry)) (now (marks .entry)) (now (levels .entry))) (Call.supply identity (now (given .entry))) r (bookOf (now (ids .entry)) (now (groups .entry)) (now (marks .exit)) (now (levels .exit))) ⌝ }
 {
     let at = place_of(ids, identity);
-    let refused = supply_refusal(ids, at, points, identity, given);
-    if refused != 0 {
-        return refused;
+    let not_supplied = supply_refusal(ids, at, points, identity, given);
+    if not_supplied != 0 {
+        return not_supplied;
     }
     fill_at(marks, at, 1, 1);
     copy_at(levels, at * points, given);
@@ -88,9 +88,9 @@ pub fn take_back(
     ensures { λ r. ⌜ Called points (bookOf (now (ids .entry)) (now (groups .entry)) (now (marks .entry)) (now (levels .entry))) (Call.takeBack identity) r (bookOf (now (ids .entry)) (now (groups .entry)) (now (marks .exit)) (now (levels .exit))) ⌝ }
 {
     let at = place_of(ids, identity);
-    let refused = take_back_refusal(ids, marks, at, identity);
-    if refused != 0 {
-        return refused;
+    let not_taken_back = take_back_refusal(ids, marks, at, identity);
+    if not_taken_back != 0 {
+        return not_taken_back;
     }
     fill_at(marks, at, 1, 0);
     fill_at(levels, at * points, points, 0);
@@ -110,9 +110,9 @@ pub fn withdraw(
     ensures { λ r. ⌜ Called points (bookOf (now (ids .entry)) (now (groups .entry)) (now (marks .entry)) (now (levels .entry))) (Call.withdraw identity) r (bookOf (now (ids .exit)) (now (groups .exit)) (now (marks .exit)) (now (levels .exit))) ⌝ }
 {
     let at = place_of(ids, identity);
-    let refused = withdraw_refusal(ids, at, identity);
-    if refused != 0 {
-        return refused;
+    let not_withdrawn = withdraw_refusal(ids, at, identity);
+    if not_withdrawn != 0 {
+        return not_withdrawn;
     }
     let rows = standing_rows(ids);
     row_out(ids, groups, marks, levels, points, at, rows);

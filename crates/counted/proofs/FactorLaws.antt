@@ -56,7 +56,7 @@ known-same f h e =
 
 pub general-same : (f h : ℕ → Counts) → ((g : ℕ) → g < groupCount → f g ≡ h g) → generalFactor f ≡ generalFactor h
 unfolding generalFactor
-general-same f h e = rw (known-same f h e .0, known-same f h e .1) refl
+general-same f h e = cc (known-same f h e .0, known-same f h e .1)
 
 -- one group more: a/b so far is k·g/n, and the group adds t·g/n, as v·(t/v)·(g/n)
 more : (a b k g n v t : ℕ) → a * n ≡ k * g * b → (a * (1 * v * n) + v * t * g * b) * n ≡ (k + t) * g * (b * (1 * v * n))

@@ -12,8 +12,8 @@ use Rattle.lines.specs.declared.Ahead.the-variants.{Square, Outside}
 use Rattle.network.specs.Edges.{WithinEdge}
 use Rattle.lines.specs.Picture.{Picture}
 use Rattle.lines.specs.Squares.{WithinSquare, turn, sideEdge, corner, exitSide, exitOf}
-use Rattle.lines.specs.Crossings.{crossed, aheadOf, behindOf, Next, To, Out, through, nextOf}
-use Rattle.lines.proofs.Heading.{Entry, Entered, entered, side-within, heads-in, heads-out, beyond, side-crossed}
+use Rattle.lines.specs.Crossings.{beyond, crossed, aheadOf, behindOf, Next, To, Out, through, nextOf}
+use Rattle.lines.proofs.Heading.{Entry, Entered, entered, side-within, heads-in, heads-out, side-crossed}
 
 four-turns : (s : Side) → turn (turn (turn (turn s))) ≡ s
 four-turns South = refl

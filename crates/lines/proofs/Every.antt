@@ -17,7 +17,7 @@ use Rattle.lines.specs.Once.{occurs, Neighbours, Border, Chain, Each, So
 use Rattle.lines.proofs.Steps.{prevAt, leads-at, comes-at, next-le, enters-outside, inner-inside, neighbours-at, enters-border, leaves-border}
 use Rattle.lines.proofs.Waiting.{is-or-not, clash, waits-lt, waits-set-same, waited, stays-out, follow-on, follow-each, follow-occurs, length-crossed, crossed-waits, crossed-waits-all}
 use Rattle.lines.proofs.Cycles.{Run, Settled, sets-out, to-the-end, returned, settled-left, settled-returned, comes-back}
-use Rattle.lines.proofs.Sums.{edges-append, all-append, occurs-append, all-steps, all-listed}
+use Rattle.lines.proofs.Sums.{edges-append, all-append, occurs-append, all-steps, fewer, crossings-le, all-listed}
 
 -- over a sweep what is listed and what waits stay the same together
 swept-occurs : (g : Picture) (closes : Bool) (l : Listing) (k n : ℕ) → occurs n (edgesOf (swept g closes l k .found)) + bit (waits (swept g closes l k .list) n) ≡ occurs n (edgesOf (l .found)) + bit (waits (l .list) n)
@@ -200,3 +200,9 @@ module _ (g : Picture) (wide : 2 ≤ g .nx) where
     sound = listed .sound;
     steps-made = all-steps g (contoursOf g) (listed .sound) ∙ all-listed g (edgesIn g) (edgesOf (contoursOf g)) listed-once;
   }
+
+  -- so a network has no more edges on contours, and no more contours, than edges
+  pub few : (length (edgesOf (contoursOf g)) ≤ edgesIn g) × (length (contoursOf g) ≤ edgesIn g)
+  few =
+      let e : length (edgesOf (contoursOf g)) ≡ crossings g (edgesIn g) = all-listed g (edgesIn g) (edgesOf (contoursOf g)) listed-once in
+      (omega (arith, e, crossings-le g (edgesIn g)), omega (arith, e, crossings-le g (edgesIn g), fewer g (contoursOf g) (listed .sound)))

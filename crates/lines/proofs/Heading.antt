@@ -17,7 +17,7 @@ use Rattle.network.specs.Crossed.{unlike}
 use Rattle.network.proofs.Numbers.{by-cond}
 use Rattle.lines.specs.Picture.{Picture}
 use Rattle.lines.specs.Squares.{WithinSquare, turn, sideEdge, corner, exitSide, exitOf}
-use Rattle.lines.specs.Crossings.{northOf, southOf, westOf, eastOf, crossed, acrossOf, aheadOf, Next, To, Out, through, nextOf, isOutside, onBorder}
+use Rattle.lines.specs.Crossings.{beyond, crossed, acrossOf, aheadOf, Next, To, Out, through, nextOf, isOutside, onBorder}
 
 -- ---- the square that a crossing heads into
 
@@ -84,13 +84,6 @@ heads-in g row col South w l r = simp (l, lt-ltb _ _ (w .0))
 heads-in g row col East w l r = simp (l, ne-eqb (col + 1) 0 (λ h. omega arith), add-sub-cancel)
 heads-in g row col North w l r = simp (r, ne-eqb (row + 1) 0 (λ h. omega arith), add-sub-cancel)
 heads-in g row col West w l r = simp (r, lt-ltb _ _ (w .1))
-
--- what lies beyond a side
-abbrev pub beyond : ℕ → ℕ → ℕ → ℕ → Side → Ahead
-beyond nx ny row col South = southOf row col
-beyond nx ny row col East = eastOf nx row (col + 1)
-beyond nx ny row col North = northOf ny (row + 1) col
-beyond nx ny row col West = westOf row col
 
 -- a side with the corner on the left out, and the one on the right in, heads out of the square
 pub heads-out : (g : Picture) (row col : ℕ) (s : Side) → corner g row col s ≡ false → corner g row col (turn s) ≡ true → aheadOf g (sideEdge row col s) ≡ beyond (g .nx) (g .ny) row col s

@@ -128,6 +128,15 @@ unfolding crossings sumTo
 crossings-sum g zero = refl
 crossings-sum g (suc n) = ap (λ (k : ℕ). k + bit (crossedAt g n)) (crossings-sum g n)
 
+pub crossings-le : (g : Picture) (n : ℕ) → crossings g n ≤ n
+unfolding crossings
+crossings-le g zero = omega arith
+crossings-le g (suc n) = go (crossedAt g n) (crossings-le g n)
+  where
+    go : (b : Bool) → crossings g n ≤ n → crossings g n + bit b ≤ suc n
+    go true h = omega arith
+    go false h = omega arith
+
 -- a list that has each crossed edge below n once, and nothing else, is as long as these are many
 pub all-listed : (g : Picture) (n : ℕ) (es : List ℕ) → ((k : ℕ) → occurs k es ≡ bit (ltb k n && crossedAt g k)) → length es ≡ crossings g n
 all-listed g n es once =

@@ -7,6 +7,7 @@ use Rattle.network.specs.declared.Edge.{Edge}
 use Rattle.network.specs.declared.Edge.the-variants.{Horizontal, Vertical}
 use Rattle.network.specs.Edges.{edges, numberOf, edgeAt}
 use Rattle.network.specs.Crossed.{crossedBy}
+use Rattle.lines.specs.declared.Side.{Side}
 use Rattle.lines.specs.declared.Side.the-variants.{South, East, North, West}
 use Rattle.lines.specs.declared.Ahead.{Ahead}
 use Rattle.lines.specs.declared.Ahead.the-variants.{Square, Outside}
@@ -29,6 +30,13 @@ westOf row col = cond (eqb col 0) Outside (Square row (col - 1) East)
 
 abbrev pub eastOf : ℕ → ℕ → ℕ → Ahead
 eastOf nx row col = cond (ltb (col + 1) nx) (Square row col West) Outside
+
+-- what lies beyond a square's side
+abbrev pub beyond : ℕ → ℕ → ℕ → ℕ → Side → Ahead
+beyond nx ny row col South = southOf row col
+beyond nx ny row col East = eastOf nx row (col + 1)
+beyond nx ny row col North = northOf ny (row + 1) col
+beyond nx ny row col West = westOf row col
 
 -- whether the west or south end is in
 abbrev pub firstIn : Picture → Edge → Bool

@@ -1,9 +1,10 @@
 -- What the functions of the crate require of and ensure to one another.
 -- Assumes nothing.
-use Prim.Native.Nat.{ℕ, _+_, _*_, _≤_, _<_}
+use Prim.Native.Nat.{ℕ, _+_, _*_, _^_, _≤_, _<_}
 use mathlib.Core.Bool.{cond, _&&_}
 use mathlib.Core.List.{List}
 use lib.Dec.{eqb, ltb}
+use Rattle.level.specs.Tables.{Holds, tableA}
 use Rattle.level.specs.Limits.{maxMovements, maxEnergy, maxTotal}
 use Rattle.level.specs.Level.{verdictOf}
 use Rattle.movement.specs.Limits.{groupCount}
@@ -16,6 +17,11 @@ use Rattle.counted.specs.Factors.{sumTo, known, unknown, knownSum, unknownSum}
 use Rattle.counted.specs.Load.{countsOf, scaledEnergy, answer, refusedLoad}
 use Rattle.counted.specs.Verdict.{judged}
 use Rattle.load.specs.declared.sums.Sums.{Sums}
+
+-- table A and the powers of ten, as they are lent
+pub record Tables (a powers : List ℕ) : Type 0 where
+  pub table-a : Holds tableA 1000 a
+  pub powers-of-ten : Holds (λ q. 10 ^ q) 14 powers
 
 -- one movement more fits into a group
 pub record Room (c : Group) : Type 0 where

@@ -116,8 +116,20 @@ fn load_of(
     requires { ⌜ daysFit days ≡ true ⌝ }
     ensures { λ r. ⌜ r ≡ loadOf true (bookShares points point (bookOf (now (ids .entry)) (now (groups .entry)) (now (marks .entry)) (now (levels .entry)))) days ⌝ }
 {
+    let a = level::tables::table_a();
+    let powers = level::tables::powers();
     answer_from(
-        tallied(no_groups(), ids, groups, marks, levels, points, point),
+        tallied(
+            no_groups(),
+            &a,
+            &powers,
+            ids,
+            groups,
+            marks,
+            levels,
+            points,
+            point,
+        ),
         days,
     )
 }

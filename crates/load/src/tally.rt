@@ -9,7 +9,7 @@ ghost use Rattle.movement.specs.Limits.{maxLevel, groupCount};
 ghost use Rattle.book.specs.Columns.{bookOf, sound};
 ghost use Rattle.counted.specs.Shares.{bookShares};
 ghost use Rattle.counted.specs.Tally.{tally, table, groupAt};
-ghost use Rattle.load.specs.Steps.{Room, withRow};
+ghost use Rattle.load.specs.Steps.{Tables, Room, withRow};
 
 // No movement in any group.
 pub(crate) fn no_groups() -> Groups
@@ -31,9 +31,18 @@ pub(crate) fn group_at(groups: Groups, g: usize) -> Group
     groups[g / 6][g % 6 / 3][g % 3]
 }
 
-// A group with one row of it more; an unused row adds nothing.
-fn with_row(seen: Group, identity: u32, group: u32, mark: u32, level: u32) -> Group
+// A group with one row of it more, by table A and the powers of ten; an unused row adds nothing.
+fn with_row(
+    a: &[u64; 1000],
+    powers: &[u64; 14],
+    seen: Group,
+    identity: u32,
+    group: u32,
+    mark: u32,
+    level: u32,
+) -> Group
     requires { ⌜ (Room seen) × (group < groupCount) × (level ≤ maxLevel) ⌝ }
+    requires { ⌜ Tables (now a) (now powers) ⌝ }
     ensures { λ r. ⌜ r ≡ withRow seen identity group mark level ⌝ }
 {
     if identity == 0 {
@@ -46,7 +55,7 @@ fn with_row(seen: Group, identity: u32, group: u32, mark: u32, level: u32) -> Gr
             energy: seen.energy,
         };
     }
-    let e = level::core::energy(level + movement::core::group_weight(group));
+    let e = level::core::energy(a, powers, level + movement::core::group_weight(group));
     Group {
         computed: seen.computed + 1,
         missing: seen.missing,
@@ -57,6 +66,8 @@ fn with_row(seen: Group, identity: u32, group: u32, mark: u32, level: u32) -> Gr
 // The groups with all rows of a sound book at a point. They come in once and go out once: a row reads and stores its own group alone.
 pub(crate) fn tallied(
     start: Groups,
+    a: &[u64; 1000],
+    powers: &[u64; 14],
     ids: &[u32],
     groups: &[u32],
     marks: &[u32],
@@ -64,7 +75,7 @@ pub(crate) fn tallied(
     points: usize,
     point: usize,
 ) -> Groups
-    requires { ⌜ start ≡ table (tally []) ⌝ }
+    requires { ⌜ (start ≡ table (tally [])) × (Tables (now a) (now powers)) ⌝ }
     requires { ⌜ sound points (bookOf (now ids) (now groups) (now marks) (now levels)) ≡ true ⌝ }
     requires { ⌜ point < points ⌝ }
     ensures { λ r. ⌜ r ≡ table (tally (bookShares points point (bookOf (now (ids .entry)) (now (groups .entry)) (now (marks .entry)) (now (levels .entry))))) ⌝ }
@@ -76,7 +87,7 @@ pub(crate) fn tallied(
         let at = i * points + point;
         let g = group as usize;
         let seen = cells[g / 6][g % 6 / 3][g % 3];
-        let next = with_row(seen, ids[i], group, marks[i], levels[at]);
+        let next = with_row(a, powers, seen, ids[i], group, marks[i], levels[at]);
         cells[g / 6][g % 6 / 3][g % 3] = next;
         i += 1;
     }

@@ -1,7 +1,8 @@
 pub mod Quotients
 pub mod Range
-pub mod Astride
+pub mod Ends
 pub mod Zero
 pub mod Fill
 pub mod Rooms
+pub mod Lends
 pub mod Ranges

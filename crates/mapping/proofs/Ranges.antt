@@ -2,7 +2,6 @@
 use mathlib.Core.Path.{_≡_, refl, sym}
 use mathlib.Core.Bool.{Bool, true, false, _&&_, true≢false}
 use mathlib.Core.List.{List}
-use mathlib.Core.Logic.{_⊎_, ⊎-elim}
 use Prim.Native.Nat.{ℕ, _+_, _*_, _^_, _≤_, _<_}
 use native.Mathlib.Nat.{mul-le-mul, le-of-lt}
 use native.Mathlib.Omega.{arith}
@@ -17,20 +16,17 @@ use Rattle.network.specs.Edges.{edges, edgeAt, WithinEdge, Checked}
 use Rattle.network.specs.Crossed.{crossedEdge, crossedAt}
 use Rattle.network.specs.Refusals.{contourRefusal}
 use Rattle.network.proofs.Numbers.{edge-within, by-cond}
+use Rattle.network.proofs.Astride.{astride, num-den}
 use Rattle.network.proofs.Refusals.{both, contour-not-refused}
 use Rattle.mapping.specs.declared.Crossing.{Crossing}
-use Rattle.mapping.specs.Fractions.{whole, distance, alongEdge, isCrossed, crossingOf, whichOf, fractionShown, crossingAsked}
+use Rattle.mapping.specs.Fractions.{whole, alongEdge, isCrossed, crossingOf, whichOf, fractionShown, crossingAsked}
 use Rattle.mapping.specs.Places.{rowOf, colOf, locate, locatedOf, mappedOf}
 use Rattle.mapping.specs.Ranges.{Within, Exactly, FractionInRange, PlaceInRange, MappedInRange}
-use Rattle.mapping.proofs.Astride.{astride, ends-small}
+use Rattle.mapping.proofs.Ends.{ends-small}
 use Rattle.mapping.proofs.Quotients.{whole-value}
 use Rattle.mapping.proofs.Range.{quotient-ranged, at-least, at-most, on-edge}
 
 -- ---- the fraction
-
--- of an edge with v between its levels, num is at most den, and den is not 0
-num-den : (v a b : ℕ) → ((a < v) × (v ≤ b)) ⊎ ((b < v) × (v ≤ a)) → (0 < distance b a) × (distance v a ≤ distance b a)
-num-den v a b = ⊎-elim (λ w. (omega arith, omega arith)) (λ w. (omega arith, omega arith))
 
 fraction-within : (num den : ℕ) → (0 < den) × (num ≤ den) → Within 0 (round binary64 false num den) 1
 fraction-within num den h =

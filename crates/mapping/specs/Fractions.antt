@@ -2,7 +2,7 @@
 use mathlib.Core.Path.{_≡_}
 use mathlib.Core.Bool.{Bool, false, _&&_, cond}
 use mathlib.Core.List.{List}
-use Prim.Native.Nat.{ℕ, _+_, _-_}
+use Prim.Native.Nat.{ℕ, _+_}
 use lib.Dec.{T, ltb, eqb}
 use lib.IntN.{pos}
 use lib.Ieee.{Float, binary64, round, ofInt, le}
@@ -10,7 +10,7 @@ use Rattle.network.specs.declared.Edge.{Edge}
 use Rattle.network.specs.declared.Edge.the-variants.{Horizontal, Vertical}
 use Rattle.network.specs.declared.Frame.{Frame}
 use Rattle.network.specs.Edges.{levelAt, edges, edgeAt}
-use Rattle.network.specs.Crossed.{crossedAt}
+use Rattle.network.specs.Crossed.{crossedAt, distance}
 use Rattle.network.specs.Refusals.{contourRefusal}
 use Rattle.mapping.specs.declared.Crossing.{Crossing}
 use Rattle.mapping.specs.declared.Crossing.the-variants.{Nowhere, AlongHorizontal, AlongVertical}
@@ -26,10 +26,6 @@ pub record Rounded (num den : ℕ) (r : Float) : Type 0 where
   pub nearest : r ≡ round binary64 false num den
   pub low : T (le (whole 0) r)
   pub high : T (le r (whole 1))
-
--- |a - b|
-abbrev pub distance : ℕ → ℕ → ℕ
-distance a b = (a - b) + (b - a)
 
 -- how far along an edge from a level a to a level b the level v lies: |v - a| / |b - a|, the one division, rounded once
 abbrev pub fractionOf : ℕ → ℕ → ℕ → Float

@@ -1,4 +1,5 @@
 pub mod Fractions
 pub mod Places
 pub mod Many
+pub mod Lent
 pub mod Ranges

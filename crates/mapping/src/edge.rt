@@ -5,7 +5,7 @@ ghost use mathlib.Core.Logic.{_⊎_};
 ghost use Prim.Native.Nat.{_<_, _≤_};
 ghost use Rattle.network.specs.Edges.{Sized, Checked, WithinEdge};
 ghost use Rattle.network.specs.Crossed.{crossedEdge};
-ghost use Rattle.mapping.specs.Fractions.{Rounded, distance, fractionOf, alongEdge, crossingOf};
+ghost use Rattle.mapping.specs.Fractions.{Rounded, fractionOf, alongEdge, crossingOf};
 use crate::Crossing;
 use network::Edge;
 use network::Frame;
@@ -18,22 +18,12 @@ fn fraction(num: u32, den: u32) -> f64
     (num as f64) / (den as f64)
 }
 
-// How far apart two levels are.
-fn apart(a: u32, b: u32) -> u32
-    ensures { λ r. ⌜ r ≡ distance a b ⌝ }
-{
-    if a < b {
-        return b - a;
-    }
-    a - b
-}
-
 // How far along an edge from level a to level b the level v lies; one of the two is at least v, the other is less.
 fn along(v: u32, a: u32, b: u32) -> f64
     requires { ⌜ ((a < v) × (v ≤ b)) ⊎ ((b < v) × (v ≤ a)) ⌝ }
     ensures { λ r. ⌜ r ≡ fractionOf v a b ⌝ }
 {
-    fraction(apart(v, a), apart(b, a))
+    fraction(network::core::apart(v, a), network::core::apart(b, a))
 }
 
 // The crossing of an edge that is crossed.

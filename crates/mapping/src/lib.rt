@@ -6,6 +6,8 @@ ghost use Rattle.network.specs.Edges.{Checked};
 ghost use Rattle.mapping.specs.Fractions.{whichOf, fractionShown, crossingAsked};
 ghost use Rattle.mapping.specs.Places.{shownOf, mappedOf};
 ghost use Rattle.mapping.specs.Many.{numbersOf, placesOf, over, Many};
+ghost use Rattle.mapping.specs.Lent.{Lent};
+ghost use mathlib.Core.List.{_∷_, []};
 use network::Frame;
 
 mod edge;
@@ -161,4 +163,45 @@ pub fn map_points(
         return 14;
     }
     why
+}
+
+// The crossing at level v of the edge of a number, as its number and its fraction in lent room.
+pub fn put_crossing(
+    levels: &[u32],
+    frame: Frame,
+    v: u32,
+    n: u32,
+    which: &mut [u32],
+    fraction: &mut [f64],
+) -> u32
+    ensures { λ r. ⌜ Lent (now (levels .entry)) frame v n (now (which .entry)) (now (fraction .entry)) r (now (which .exit)) (now (fraction .exit)) ⌝ }
+{
+    let why = network::contour_refusal(levels, frame, v);
+    if why == 0 {
+        if 1 <= which.len() {
+            if 1 <= fraction.len() {
+                let c = edge::crossing_of(levels, frame, v, n);
+                which[0] = which_of(c);
+                fraction[0] = fraction_of(c);
+                return 0;
+            }
+        }
+        return 14;
+    }
+    why
+}
+
+// The map point of one edge, as its number and its coordinates in lent room.
+pub fn put_map_point(
+    levels: &[u32],
+    frame: Frame,
+    v: u32,
+    n: u32,
+    which: &mut [u32],
+    place: &mut [f64],
+) -> u32
+    ensures { λ r. ⌜ Many (now (levels .entry)) frame v (n ∷ []) (now (which .entry)) (now (place .entry)) r (now (which .exit)) (now (place .exit)) ⌝ }
+{
+    let edges = [n];
+    map_points(levels, frame, v, &edges, which, place)
 }

@@ -1,3 +1,4 @@
 pub mod Place
 pub mod Numbers
 pub mod Refusals
+pub mod Astride

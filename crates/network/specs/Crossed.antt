@@ -1,7 +1,7 @@
 -- Which points are in, and which edges a contour crosses: document 01, "Network and contours". Assumes nothing.
 use mathlib.Core.Bool.{Bool, true, false, not}
 use mathlib.Core.List.{List}
-use Prim.Native.Nat.{ℕ, _+_}
+use Prim.Native.Nat.{ℕ, _+_, _-_}
 use lib.Dec.{leb}
 use Rattle.network.specs.declared.Edge.{Edge}
 use Rattle.network.specs.declared.Edge.the-variants.{Horizontal, Vertical}
@@ -27,3 +27,7 @@ crossedEdge levels nx v e = crossedBy (insideOf levels nx v) e
 
 abbrev pub crossedAt : List ℕ → ℕ → ℕ → ℕ → ℕ → Bool
 crossedAt levels nx ny v n = crossedEdge levels nx v (edgeAt nx ny n)
+
+-- |a - b|: on an edge from a level a (west or south end) to a level b, num is the distance of v and a, and den that of b and a
+abbrev pub distance : ℕ → ℕ → ℕ
+distance a b = (a - b) + (b - a)

@@ -2,7 +2,7 @@
 ghost use mathlib.Core.Path.{_≡_};
 ghost use Prim.Native.Nat.{_<_};
 ghost use Rattle.network.specs.Edges.{Sides, Sized, levelAt, edges, edgeAt, numberOf, WithinEdge};
-ghost use Rattle.network.specs.Crossed.{insideOf, unlike, crossedEdge, crossedAt};
+ghost use Rattle.network.specs.Crossed.{insideOf, unlike, crossedEdge, crossedAt, distance};
 use crate::Edge;
 
 // The level of a point.
@@ -85,4 +85,14 @@ pub fn crossed_at(levels: &[u32], nx: usize, ny: usize, v: u32, n: usize) -> boo
     ensures { λ r. ⌜ r ≡ crossedAt (now (levels .entry)) nx ny v n ⌝ }
 {
     crossed_edge(levels, nx, ny, v, edge_at(nx, ny, n))
+}
+
+// How far apart two levels are.
+pub fn apart(a: u32, b: u32) -> u32
+    ensures { λ r. ⌜ r ≡ distance a b ⌝ }
+{
+    if a < b {
+        return b - a;
+    }
+    a - b
 }

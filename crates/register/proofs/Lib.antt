@@ -7,3 +7,4 @@ pub mod Readings
 pub mod Rows
 pub mod RoundTrip
 pub mod Converse
+pub mod Once

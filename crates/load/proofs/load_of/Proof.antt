@@ -14,12 +14,20 @@ use Rattle.load.proofs.load_of.Statement.{statement}
 use Rattle.load.proofs.load_of.Tie as tie
 use Rattle.load.proofs.load_of.Reads as reads
 use Rattle.load.proofs.load_of.Lts as lts
+use Rattle.level.proofs.tables.powers.Reads as powers-reads
+use Rattle.level.proofs.tables.table_a.Reads as table-a-reads
 use Rattle.load.proofs.answer_from.Reads as answer-from-reads
 use Rattle.load.proofs.tally.no_groups.Reads as no-groups-reads
 use Rattle.load.proofs.tally.tallied.Reads as tallied-reads
 
 abbrev book : tie.Start → Book
 book s = bookOf (s .args .ids .now) (s .args .groups .now) (s .args .marks .now) (s .args .levels .now)
+
+table-a-requires : tie.Need-table-a-requires
+table-a-requires c κs = search needs
+
+powers-requires : tie.Need-powers-requires
+powers-requires c κs = search needs
 
 no-groups-requires : tie.Need-no-groups-requires
 no-groups-requires c κs = search needs
@@ -30,13 +38,13 @@ tallied-requires c κs = search needs
 answer-from-requires : tie.Need-answer-from-requires
 unfolding bookShares
 answer-from-requires c κs =
-    let s = c .before .before .before .before .before .before in
+    let s = c .before .before .before .before .before .before .before .before .before .before in
     (rw (c .tallied .ensures) (rows-bounded (s .args .points) (s .args .point) (book s) (s .pre .0) (s .pre .1 .0)), s .pre .1 .1)
 
 returns : tie.Need-returns
 unfolding bookShares
 returns c =
-    let s = c .before .before .before .before .before .before .before in
+    let s = c .before .before .before .before .before .before .before .before .before .before .before in
     let ss = bookShares (s .args .points) (s .args .point) (book s) in
     c .answer-from .ensures
     ∙ ap (λ cs. loadFrom (groupAt cs) (s .args .days)) (c .before .tallied .ensures)
@@ -45,4 +53,11 @@ returns c =
 
 pub load-of-spec : {M : Type 1} → statement M
 load-of-spec =
-    tie.close (tie.spec no-groups-requires tallied-requires answer-from-requires returns)
+    tie.close
+    (tie.spec
+    table-a-requires
+    powers-requires
+    no-groups-requires
+    tallied-requires
+    answer-from-requires
+    returns)

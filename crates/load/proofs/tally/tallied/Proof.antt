@@ -17,10 +17,10 @@ use Rattle.load.proofs.tally.tallied.Lts as lts
 use Rattle.load.proofs.tally.with_row.Reads as with-row-reads
 
 abbrev Inv-loop : tie.InvT-loop
-Inv-loop ids groups marks levels points point cells₀ i₀ cells i = (i ≤ length ids) × (cells ≡ table (tally (sharesTo points point (bookOf ids groups marks levels) i)))
+Inv-loop a powers ids groups marks levels points point cells₀ i₀ cells i = (i ≤ length ids) × (cells ≡ table (tally (sharesTo points point (bookOf ids groups marks levels) i)))
 
 abbrev μ-loop : tie.MeasureT-loop
-μ-loop ids groups marks levels points point cells₀ i₀ cells i = length ids - i
+μ-loop a powers ids groups marks levels points point cells₀ i₀ cells i = length ids - i
 
 -- the function's entry, and the book there
 abbrev entry : tie.In-loop Inv-loop μ-loop → tie.Start Inv-loop μ-loop
@@ -36,7 +36,7 @@ row c =
 
 loop-holds : tie.Need-loop-holds Inv-loop μ-loop
 unfolding sharesTo
-loop-holds c = (omega arith, c .before .before .before .before .pre .0)
+loop-holds c = (omega arith, c .before .before .before .before .pre .0 .0)
 
 mul-group : tie.Need-mul-group Inv-loop μ-loop
 mul-group c = search needs
@@ -45,10 +45,10 @@ shared-slice-read-group : tie.Need-shared-slice-read-group Inv-loop μ-loop
 shared-slice-read-group c = row (c .before) .in-groups
 
 mul-at : tie.Need-mul-at Inv-loop μ-loop
-mul-at c = omega (arith, row (c .before) .in-levels, entry (c .before) .good .1 .1 .1 .1 .0)
+mul-at c = omega (arith, row (c .before) .in-levels, entry (c .before) .good .1 .1 .1 .1 .1 .1 .0)
 
 add-at : tie.Need-add-at Inv-loop μ-loop
-add-at c = omega (arith, row (c .before) .in-levels, entry (c .before) .good .1 .1 .1 .1 .0)
+add-at c = omega (arith, row (c .before) .in-levels, entry (c .before) .good .1 .1 .1 .1 .1 .1 .0)
 
 cast-g : tie.Need-cast-g Inv-loop μ-loop
 cast-g c = omega (arith, row (c .before) .group<)
@@ -84,7 +84,7 @@ shared-slice-read-with-row-2 : tie.Need-shared-slice-read-with-row-2 Inv-loop μ
 shared-slice-read-with-row-2 c = row (c .before .before .before .before) .in-marks
 
 mul-with-row-3 : tie.Need-mul-with-row-3 Inv-loop μ-loop
-mul-with-row-3 c = omega (arith, row (c .before .before .before .before) .in-levels, entry (c .before .before .before .before) .good .1 .1 .1 .1 .0)
+mul-with-row-3 c = omega (arith, row (c .before .before .before .before) .in-levels, entry (c .before .before .before .before) .good .1 .1 .1 .1 .1 .1 .0)
 
 shared-slice-read-with-row-3 : tie.Need-shared-slice-read-with-row-3 Inv-loop μ-loop
 shared-slice-read-with-row-3 c = row (c .before .before .before .before .before) .in-levels
@@ -94,7 +94,7 @@ unfolding groupAt
 with-row-requires c κs =
     let d = c .before .before .before .before .before in
     let g = getD (entry d .args .groups .now) (d .before .loop .i) 0 in
-    (subst (λ cs. Room (groupAt cs g)) (sym (d .before .loop .inv .1)) (row d .room), row d .group<, row d .level≤)
+    ((subst (λ cs. Room (groupAt cs g)) (sym (d .before .loop .inv .1)) (row d .room), row d .group<, row d .level≤), entry d .pre .0 .1)
 
 mul-next : tie.Need-mul-next Inv-loop μ-loop
 mul-next c = omega (arith, row (c .before .before .before .before .before .before) .group<)

@@ -21,8 +21,8 @@ returns : tie.Need-returns
 unfolding withRow
 returns c = rw (eq-eqb _ _ (c .if1 .taken))
 
-add-t8 : tie.Need-add-t8
-add-t8 c = search needs
+add-t10 : tie.Need-add-t10
+add-t10 c = search needs
 
 returns-2 : tie.Need-returns-2
 unfolding withRow
@@ -35,25 +35,25 @@ group-weight-requires c κs = search needs
 weighted : (c : tie.After-group-weight) → c .before .before .before .args .level + c .group-weight .result ≤ maxWeighted
 weighted c =
     let s = c .before .before .before in
-    rw (c .group-weight .ensures) (weighted-le (s .args .group) (s .args .level) (s .pre .2))
+    rw (c .group-weight .ensures) (weighted-le (s .args .group) (s .args .level) (s .pre .0 .2))
 
 add-energy : tie.Need-add-energy
 add-energy c = omega (arith, weighted c)
 
 energy-requires : tie.Need-energy-requires
-energy-requires c κs = weighted c
+energy-requires c κs = let t = c .before .before .before .pre .1 in (weighted c, t .table-a, t .powers-of-ten)
 
-add-t9 : tie.Need-add-t9
-add-t9 c = search needs
+add-t11 : tie.Need-add-t11
+add-t11 c = search needs
 
 known-energy : (c : tie.After-energy) → c .energy .result ≡ energyIn (c .before .before .before .before .args .group) (c .before .before .before .before .args .level)
 unfolding energyIn
 known-energy c = c .energy .ensures ∙ ap (λ w. energyOf (c .before .before .before .before .args .level + w)) (c .before .group-weight .ensures)
 
-add-t11 : tie.Need-add-t11
-add-t11 c =
+add-t13 : tie.Need-add-t13
+add-t13 c =
     let s = c .before .before .before .before .before .before in
-    omega (arith, known-energy (c .before .before), energy-in-small (s .args .group) (s .args .level) (s .pre .2), s .pre .0 .energy)
+    omega (arith, known-energy (c .before .before), energy-in-small (s .args .group) (s .args .level) (s .pre .0 .2), s .pre .0 .0 .energy)
 
 returns-3 : tie.Need-returns-3
 unfolding withRow
@@ -64,11 +64,11 @@ with-row-spec =
     tie.close
     (tie.spec
     returns
-    add-t8
+    add-t10
     returns-2
     group-weight-requires
     add-energy
     energy-requires
-    add-t9
     add-t11
+    add-t13
     returns-3)

@@ -7,7 +7,7 @@ use Rattle.network.specs.declared.Edge.{Edge}
 use Rattle.network.specs.Edges.{WithinEdge}
 use Rattle.network.specs.Crossed.{crossedEdge}
 use Rattle.mapping.specs.declared.Crossing.the-variants.{AlongHorizontal, AlongVertical}
-use Rattle.mapping.proofs.Astride.{astride}
+use Rattle.network.proofs.Astride.{astride}
 use borrow.Author.Needs.{needs}
 use Rattle.mapping.proofs.edge.along_edge.Statement.{statement}
 use Rattle.mapping.proofs.edge.along_edge.Tie as tie

@@ -7,7 +7,7 @@ use Rattle.network.specs.Limits.{mostSide}
 use Rattle.network.specs.Edges.{edges, WithinEdge}
 use Rattle.network.proofs.Numbers.{edge-within}
 use Rattle.mapping.specs.Places.{rowOf, colOf}
-use Rattle.mapping.proofs.Astride.{ends-small}
+use Rattle.mapping.proofs.Ends.{ends-small}
 use borrow.Author.Needs.{needs}
 use Rattle.mapping.proofs.place.locate_at.Statement.{statement}
 use Rattle.mapping.proofs.place.locate_at.Tie as tie

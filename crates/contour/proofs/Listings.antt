@@ -1,0 +1,187 @@
+-- What buffers hold while contours are listed. Assumes nothing.
+use mathlib.Core.Path.{_≡_, refl, sym, ap, _∙_, subst}
+use mathlib.Core.Bool.{Bool, true, false, _&&_, _||_, cond}
+use mathlib.Core.List.{List, [], _∷_, _++_, append-assoc}
+use Prim.Native.Nat.{ℕ, zero, suc, _+_, _-_, _≤_, _<_}
+use native.Mathlib.Numerals.{add-one}
+use native.Mathlib.Omega.{arith}
+use lib.ListN.{length, take, drop, set, length-set, length-append, length-drop}
+use lib.Seq.{drop-cons, set-at, take-at, drop-append-add, drop-drop, length-take-le}
+use lib.Dec.{ltb}
+use Rattle.network.proofs.Refusals.{both}
+use Rattle.lines.specs.Picture.{Picture}
+use Rattle.lines.specs.Crossings.{crossedAt, entersAt, nextAt, edgesIn}
+use Rattle.lines.specs.Contours.{Contour, bit, waits, waiting, follow, contourFrom, without, Listing, add, try, swept, noneListed, openListed, allListed, contoursOf, crossedTo, edgesOf, countsOf, closedOf}
+use Rattle.lines.proofs.Waiting.{clash, stays-out, length-without, waiting-without, waiting-le, follow-on, length-crossed, crossed-waits-all}
+use Rattle.lines.proofs.Sums.{edges-append, counts-append, closed-append, length-counts, length-closed}
+use Rattle.contour.specs.Answers.{front}
+use Rattle.contour.specs.Walk.{OnlyCrossed, written, Traced}
+use Rattle.contour.specs.Desk.{Desk, desk, Holds, Room, Grows, Listed, added, tried, sweeping}
+
+-- ---- the front of a buffer
+
+pub front-none : (b : List ℕ) → b ≡ front [] b
+front-none b = refl
+
+-- one number more
+pub front-set : (ns b : List ℕ) (n x : ℕ) → n ≡ length ns → n < length b → set (front ns b) n x ≡ front (ns ++ (x ∷ [])) b
+front-set ns b n x e h =
+    let l : length ns < length b = subst (λ (k : ℕ). k < length b) e h in
+    let m : length (ns ++ (x ∷ [])) ≡ suc (length ns) = length-append ns (x ∷ []) ∙ omega arith in
+    rw (m, append-assoc, e, drop-cons b (length ns) 0 l) (set-at ns _ (drop (suc (length ns)) b) x (length ns) refl)
+
+-- some numbers more
+pub front-written : (ns b cs : List ℕ) (n : ℕ) → n ≡ length ns → written (front ns b) n cs ≡ front (ns ++ cs) b
+front-written ns b cs n e =
+    let m : length (ns ++ cs) ≡ length ns + length cs = length-append ns cs in
+    let p : take n (front ns b) ≡ ns = take-at ns _ n (sym e) in
+    let q : drop (n + length cs) (front ns b) ≡ drop (length ns + length cs) b =
+    ap (λ (k : ℕ). drop (k + length cs) (front ns b)) e ∙ drop-append-add ns (drop (length ns) b) (length cs) ∙ drop-drop (length cs) (length ns) b in
+    rw (p, q, m)
+
+pub length-written : (b : List ℕ) (n : ℕ) (cs : List ℕ) → n + length cs ≤ length b → length (written b n cs) ≡ length b
+length-written b n cs h =
+    rw (length-append, length-append, length-drop, length-take-le n b (omega arith)) (omega arith)
+
+-- ---- one contour more
+
+-- what waits after a contour was taken waited before
+pub before-taken : (list ns : List ℕ) (m : ℕ) → waits (without list ns) m ≡ true → waits list m ≡ true
+before-taken list ns m h = go (waits list m) refl
+  where
+    go : (b : Bool) → waits list m ≡ b → waits list m ≡ true
+    go true e = e
+    go false e = clash h (stays-out list ns m e)
+
+module _ (g : Picture) (closes : Bool) (d : Desk) (n end : ℕ) (list' edges' : List ℕ) (r : Room g d) (w : waits (d .list) n ≡ true)
+    (t : Traced g (d .list) (d .edges) (d .at) n end list' edges') where
+  abbrev line : List ℕ
+  line = contourFrom g (d .list) n
+
+  abbrev after : Desk
+  after = desk list' edges' (set (d .counts) (d .made) (end - d .at)) (set (d .closed) (d .made) (bit closes)) end (d .made + 1)
+
+  -- its edges no longer wait, and it has one at least
+  fewer-wait : (waiting list' + length line ≡ waiting (d .list)) × (0 < length line)
+  fewer-wait = (ap (λ (l : List ℕ). waiting l + length line) (t .taken) ∙ waiting-without (nextAt g) (waiting (d .list)) (d .list) n, rw (follow-on g (d .list) n w) (omega arith))
+
+  pub count-fits : (d .made < length (d .counts)) × (d .made < length (d .closed))
+  count-fits = (omega (arith, fewer-wait .0, fewer-wait .1, r .for-counts), omega (arith, fewer-wait .0, fewer-wait .1, r .for-closed))
+
+  pub end-fits : (end ≡ d .at + length line) × (length line ≤ edgesIn g)
+  end-fits = (t .ends, omega (arith, fewer-wait .0, waiting-le (d .list), r .long))
+
+  grown-room : Room g after
+  grown-room =
+      let f = fewer-wait in
+      let l : length edges' ≡ length (d .edges) = ap length (t .listed) ∙ length-written (d .edges) (d .at) line (omega (arith, f .0, r .for-edges)) in
+      record {
+        long = ap length (t .taken) ∙ length-without (d .list) line ∙ r .long;
+        only = λ m h. r .only m (before-taken (d .list) line m (subst (λ (l : List ℕ). waits l m ≡ true) (t .taken) h));
+        for-edges = omega (arith, l, f .0, t .ends, r .for-edges);
+        for-counts = rw length-set (omega (arith, f .0, f .1, r .for-counts));
+        for-closed = rw length-set (omega (arith, f .0, f .1, r .for-closed));
+      }
+
+  grown-holds : (l : Listing) (old : Desk) → Holds l old d → Holds (added g closes n l) old after
+  grown-holds l old h =
+      let c : Contour = record { edges = line; closes = closes } in
+      let ne : length (edgesOf (l .found) ++ line) ≡ end = length-append (edgesOf (l .found)) line ∙ omega (arith, h .edge-places, t .ends) in
+      let fits = count-fits in
+      let old-counts : length (old .counts) ≡ length (d .counts) = sym (ap length (h .the-counts) ∙ front-long (countsOf (l .found)) (old .counts) (length (d .counts)) (ap length (h .the-counts))
+      (rw (length-counts (l .found)) (omega (arith, h .contours, fits .0)))) in
+      let old-closed : length (old .closed) ≡ length (d .closed) = sym (ap length (h .the-closed) ∙ front-long (closedOf (l .found)) (old .closed) (length (d .closed)) (ap length (h .the-closed))
+      (rw (length-closed (l .found)) (omega (arith, h .contours, fits .1)))) in
+      rw (← h .the-list) (record {
+        the-list = t .taken;
+        the-edges = rw (edges-append (l .found) c) (t .listed ∙ ap (λ (b : List ℕ). written b (d .at) line) (h .the-edges) ∙ front-written (edgesOf (l .found)) (old .edges) line (d .at) (h .edge-places));
+        the-counts = rw (counts-append (l .found) c, ← count) (ap (λ (b : List ℕ). set b (d .made) (end - d .at)) (h .the-counts)
+            ∙ front-set (countsOf (l .found)) (old .counts) (d .made) (end - d .at) (h .contours ∙ sym (length-counts (l .found))) (omega (arith, fits .0, old-counts)));
+        the-closed = rw (closed-append (l .found) c) (ap (λ (b : List ℕ). set b (d .made) (bit closes)) (h .the-closed)
+            ∙ front-set (closedOf (l .found)) (old .closed) (d .made) (bit closes) (h .contours ∙ sym (length-closed (l .found))) (omega (arith, fits .1, old-closed)));
+        edge-places = rw (edges-append (l .found) c) (sym ne);
+        contours = ap (λ (k : ℕ). k + 1) (h .contours) ∙ sym (length-append (l .found) (c ∷ []));
+      })
+    where
+      count : end - d .at ≡ length line
+      count = omega (arith, t .ends)
+
+      -- a buffer whose front does not fill it is as long as it was
+      front-long : (ns b : List ℕ) (k : ℕ) → k ≡ length (front ns b) → length ns < k → length (front ns b) ≡ length b
+      front-long ns b k e h = let m = length-append ns (drop (length ns) b) ∙ ap (λ (i : ℕ). length ns + i) (length-drop (length ns) b) in omega (arith, m)
+
+  pub grown : Grows g (added g closes n) d after
+  grown = record { room = grown-room; holds = grown-holds }
+
+-- ---- an edge tried
+
+module _ (g : Picture) (closes : Bool) (n : ℕ) (d : Desk) where
+  pub try-starts : (d' : Desk) → ((closes || entersAt g n) && waits (d .list) n) ≡ true → Grows g (added g closes n) d d' → Grows g (tried g closes n) d d'
+  try-starts d' t i = record { room = i .room; holds = λ l old h. subst (λ (k : Listing). Holds k old d') (sym (ap (λ (b : Bool). cond b (added g closes n l) l) (same l old h))) (i .holds l old h) }
+    where
+      same : (l : Listing) (old : Desk) → Holds l old d → ((closes || entersAt g n) && waits (l .list) n) ≡ true
+      same l old h = ap (λ (m : List ℕ). (closes || entersAt g n) && waits m n) (sym (h .the-list)) ∙ t
+
+  pub try-passes : Room g d → ((closes || entersAt g n) && waits (d .list) n) ≡ false → Grows g (tried g closes n) d d
+  try-passes r t = record { room = r; holds = λ l old h. subst (λ (k : Listing). Holds k old d) (sym (ap (λ (b : Bool). cond b (added g closes n l) l) (same l old h))) h }
+    where
+      same : (l : Listing) (old : Desk) → Holds l old d → ((closes || entersAt g n) && waits (l .list) n) ≡ false
+      same l old h = ap (λ (m : List ℕ). (closes || entersAt g n) && waits m n) (sym (h .the-list)) ∙ t
+
+-- ---- a sweep
+
+module _ (g : Picture) (closes : Bool) where
+  pub sweep-begins : (d : Desk) → Room g d → Grows g (sweeping g closes 0) d d
+  unfolding swept
+  sweep-begins d r = record { room = r; holds = λ l old h. h }
+
+  pub sweep-goes-on : (n : ℕ) (d₀ d d' : Desk) → Grows g (sweeping g closes n) d₀ d → Grows g (tried g closes n) d d' → Grows g (sweeping g closes (n + 1)) d₀ d'
+  unfolding swept
+  sweep-goes-on n d₀ d d' i j = rw add-one (record { room = j .room; holds = λ l old h. j .holds (swept g closes l n) old (i .holds l old h) })
+
+-- before anything is listed
+pub none-held : (g : Picture) (list edges counts closed : List ℕ) → list ≡ crossedTo g (edgesIn g) → Holds (noneListed g) (desk list edges counts closed 0 0) (desk list edges counts closed 0 0)
+unfolding edgesOf countsOf closedOf
+none-held g list edges counts closed h = record { the-list = h; the-edges = refl; the-counts = refl; the-closed = refl; edge-places = refl; contours = refl }
+
+-- buffers keep their lengths
+pub record Same (d₀ d : Desk) : Type 0 where
+  pub list-long : length (d .list) ≡ length (d₀ .list)
+  pub edges-long : length (d .edges) ≡ length (d₀ .edges)
+  pub counts-long : length (d .counts) ≡ length (d₀ .counts)
+  pub closed-long : length (d .closed) ≡ length (d₀ .closed)
+
+pub same-self : (d : Desk) → Same d d
+same-self d = record { list-long = refl; edges-long = refl; counts-long = refl; closed-long = refl }
+
+pub same-after : {d₀ d d' : Desk} → Same d₀ d → Same d d' → Same d₀ d'
+same-after p q = record { list-long = q .list-long ∙ p .list-long; edges-long = q .edges-long ∙ p .edges-long; counts-long = q .counts-long ∙ p .counts-long; closed-long = q .closed-long ∙ p .closed-long }
+
+-- ---- all contours
+
+-- the crossed edges wait, and there is room for every edge
+pub first-room : (g : Picture) (list edges counts closed : List ℕ) → list ≡ crossedTo g (edgesIn g) → edgesIn g ≤ length edges → edgesIn g ≤ length counts → edgesIn g ≤ length closed
+    → Room g (desk list edges counts closed 0 0)
+first-room g list edges counts closed h p q r =
+    let l : length list ≡ edgesIn g = ap length h ∙ length-crossed g (edgesIn g) in
+    record {
+      long = l;
+      only = λ m w. both (ltb m (edgesIn g)) (crossedAt g m) (sym (crossed-waits-all g (edgesIn g) m) ∙ ap (λ (x : List ℕ). waits x m) (sym h) ∙ w) .1;
+      for-edges = omega (arith, waiting-le list);
+      for-counts = omega (arith, waiting-le list);
+      for-closed = omega (arith, waiting-le list);
+    }
+
+-- once all are listed
+pub all-held : (g : Picture) (old d : Desk) → Holds (allListed g) old d → Room g d → Same old d
+    → Listed (contoursOf g) (old .edges) (old .counts) (old .closed) (d .edges) (d .counts) (d .closed) (d .at) (d .made)
+all-held g old d h r s = record {
+  the-edges = h .the-edges;
+  the-counts = h .the-counts;
+  the-closed = h .the-closed;
+  edge-places = h .edge-places;
+  contours = h .contours;
+  edges-fit = omega (arith, r .for-edges, s .edges-long);
+  counts-fit = omega (arith, r .for-counts, s .counts-long);
+  closed-fit = omega (arith, r .for-closed, s .closed-long);
+}

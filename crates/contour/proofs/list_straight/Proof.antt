@@ -1,0 +1,38 @@
+-- `contour::list_straight` meets its contract. Assumes nothing.
+use borrow.Author.Needs.{needs}
+use native.Mathlib.Omega.{arith}
+use denote.Ref.{now}
+use Rattle.network.proofs.Numbers.{edges-le}
+use Rattle.lines.specs.Picture.{Picture, picture}
+use Rattle.lines.proofs.Every.{few}
+use Rattle.contour.proofs.Handing.{straight}
+use Rattle.contour.proofs.list_straight.Statement.{statement}
+use Rattle.contour.proofs.list_straight.Tie as tie
+
+abbrev pictured : tie.Start → Picture
+pictured s = picture (now (s .args .levels)) (s .args .nx) (s .args .ny) (s .args .v)
+
+put-sizes-requires : tie.Need-put-sizes-requires
+put-sizes-requires c κs =
+    let s = c .before .before .before .before .before .before .before .before .before .before .before .before .before .before .before .before in
+    let l = c .before .before .before .before .before .before .before .list-contours .ensures in
+    let k = few (pictured s) (s .pre .0 .sides .wide) in
+    let m = edges-le (s .args .nx) (s .args .ny) (s .pre .0 .sides .narrow) (s .pre .0 .sides .low) in
+    (s .pre .1 .1 .1 .1, (omega (arith, l .edge-places, k .0), omega (arith, l .contours, k .1)))
+
+returns : tie.Need-returns
+returns c =
+    let s = c .before .before .before .before .before .before .before .before .before .before .before .before .before .before .before .before .before .before .before in
+    straight _ (now (s .args .edges)) (now (s .args .counts)) (now (s .args .closed)) (now (s .args .sizes)) _ _ _ _ _ _ (c .before .before .before .before .before .before .before .before .before .before .list-contours .ensures) (s .pre .1 .1 .1 .1) (c .before .before .put-sizes .ensures)
+
+pub list-straight-spec : {M : Type 1} → statement M
+list-straight-spec =
+    tie.close
+    (tie.spec
+    (λ c κs. search needs)
+    put-sizes-requires
+    (λ c. search needs)
+    (λ c. search needs)
+    (λ c. search needs)
+    (λ c. search needs)
+    returns)

@@ -1,0 +1,85 @@
+-- Laws of the lines before the rows. Assumes nothing.
+use Prim.Native.Nat.{ℕ, zero, suc, _+_, _-_, _≤_, _<_}
+use mathlib.Core.Path.{_≡_, refl, sym, ap, _∙_}
+use mathlib.Core.List.{List, [], _∷_, _++_, map}
+use mathlib.Core.Bool.{Bool, true, false, cond, _&&_, true≢false}
+use native.Mathlib.Omega.{arith}
+use borrow.Author.Tests.{ltb-true, ltb-false, ne-eqb}
+use lib.Dec.{ltb, eqb}
+use lib.ListN.{length, getD, take, drop, length-drop, List·getD-eq-default}
+use lib.Seq.{take-all, take-nil, length-take-le, getD-drop, drop-drop}
+use Rattle.text.specs.Line.{linesOf}
+use Rattle.text.specs.declared.number.Number.the-variants.{Got, Off}
+use Rattle.text.proofs.Digits.{either}
+use Rattle.text.proofs.Sames.{same-length}
+use Rattle.grid.specs.File.{begins, numberAfter, numberAt, namesWell, spelledIn}
+use Rattle.grid.specs.Steps.{linesAt, lineFrom, Passed, LineAt, keyRead}
+use Rattle.grid.specs.declared.head.Line.{Line}
+use Rattle.grid.specs.declared.head.Keyed.{Keyed}
+use Rattle.grid.specs.declared.head.Keyed.the-variants as keyed
+use Rattle.grid.proofs.LineLaws.{passed-at}
+
+-- a line that is shorter than a word doesn't begin with it
+pub begins-short : (word line : List ℕ) → length line < length word → begins word line ≡ false
+unfolding begins
+begins-short word line h = rw (take-all (length word) line (omega arith)) (same-length line word (λ e. omega arith))
+
+pub begins-long : (word line : List ℕ) → begins word line ≡ true → length word ≤ length line
+begins-long word line e =
+    either (ltb (length line) (length word))
+    (λ short. absurd (true≢false (sym e ∙ begins-short word line (ltb-true _ _ short))))
+    (λ long. ltb-false _ _ long)
+
+-- line k of a text, where it starts at `at`
+pub line-of : (s : List ℕ) (at k : ℕ) → linesAt s at ≡ drop k (linesOf s) → lineFrom s at ≡ getD (linesOf s) k []
+line-of s at k e = ap (λ l. getD l 0 []) e ∙ getD-drop k (linesOf s) 0 [] ∙ (let z : k + 0 ≡ k = omega arith in rw z)
+
+-- header line k read: its number, and where the next line starts
+pub record KeyStep (s key : List ℕ) (k n next : ℕ) : Type 0 where
+  pub number : numberAt key k (linesOf s) ≡ Got n
+  pub inside : next ≤ length s
+  pub rest : linesAt s next ≡ drop (k + 1) (linesOf s)
+
+module _ (s : List ℕ) (at : ℕ) (key : List ℕ) {r : Keyed} (k : ℕ) (here : linesAt s at ≡ drop k (linesOf s)) (read : keyRead s at key r) where
+  pub key-step : {n next : ℕ} → r ≡ keyed.Got n next → KeyStep s key k n next
+  key-step {n} {next} e =
+      let got : keyRead s at key (keyed.Got n next) = rw e at read in
+      record {
+        number = ap (numberAfter key) (sym (line-of s at k here)) ∙ got .0;
+        inside = got .1 .inside;
+        rest = passed-at k here (got .1);
+      }
+
+  pub key-stop : r ≡ keyed.Off → numberAt key k (linesOf s) ≡ Off
+  key-stop e =
+      let got : keyRead s at key keyed.Off = rw e at read in
+      ap (numberAfter key) (sym (line-of s at k here)) ∙ got
+
+-- a line that names no-data well has its spelling past the word and a space
+pub names-short : (line : List ℕ) → length line < 13 → namesWell line ≡ false
+unfolding namesWell
+names-short line h = rw (ne-eqb (getD line 12 0) 32 (λ e. omega (arith, List·getD-eq-default line 0 {n = 12} (omega arith))))
+
+drop-take : (k n : ℕ) (l : List ℕ) → drop k (take n l) ≡ take (n - k) (drop k l)
+drop-take zero n l = let z : n - 0 ≡ n = omega arith in rw z
+drop-take (suc k) n [] = ap (drop (suc k)) (take-nil n) ∙ sym (take-nil (n - suc k))
+drop-take (suc k) zero (x ∷ l) = let z : zero - suc k ≡ 0 = omega arith in rw z
+drop-take (suc k) (suc n) (x ∷ l) = let z : suc n - suc k ≡ n - k = omega arith in rw z (drop-take k n l)
+
+pub spelled-at : (s : List ℕ) (at : ℕ) (l : Line) → LineAt s at l → namesWell (lineFrom s at) ≡ true
+    → (at + 13 ≤ l .end) × (take (l .end - (at + 13)) (drop (at + 13) s) ≡ spelledIn (lineFrom s at))
+spelled-at s at l h well =
+    let line = lineFrom s at in
+    let end = l .end in
+    let start = h .start in
+    let within = h .within in
+    let d = length-drop at s in
+    let n : length line ≡ end - at = sym (ap length (h .line)) ∙ length-take-le (end - at) (drop at s) (omega arith) in
+    let long : 13 ≤ length line =
+    either (ltb (length line) 13)
+    (λ short. absurd (true≢false (sym well ∙ names-short line (ltb-true _ _ short))))
+    (λ long. ltb-false _ _ long) in
+    let k : end - at - 13 ≡ end - (at + 13) = omega arith in (
+      omega arith,
+      sym (ap (drop 13) (sym (h .line)) ∙ drop-take 13 (end - at) (drop at s) ∙ rw (k, drop-drop 13 at s)),
+    )

@@ -1,0 +1,164 @@
+-- Texts that are joined and come apart again: the lines of a text, the values of a row. Assumes nothing.
+use Prim.Native.Nat.{ℕ, zero, suc, _+_, _-_, _*_, _/_, _%_, _≤_, _<_}
+use mathlib.Core.Path.{_≡_, refl, sym, ap, _∙_}
+use mathlib.Core.List.{List, [], _∷_, _++_, map}
+use mathlib.Core.Bool.{Bool, true, false, cond, _&&_, not, true≢false}
+use native.Mathlib.Omega.{arith}
+use borrow.Author.Tests.{eq-eqb, ne-eqb, eqb-true, ltb-true}
+use lib.Dec.{eqb, ltb}
+use lib.ListN.{length, getD, take, drop, length-append, List·getD-append}
+use lib.Seq.{take-append-seam, drop-append-seam}
+use Rattle.refusal.proofs.Laws.{and-left, and-right}
+use Rattle.text.specs.Number.{wholeOf, levelOf, isGot, valueOf, shown, showWhole, showTwo, showLevel}
+use Rattle.text.specs.Field.{countOf, joinedBy}
+use Rattle.text.specs.Line.{onto, linesOf}
+use Rattle.text.specs.Same.{sameText}
+use Rattle.text.specs.declared.number.Number.the-variants.{Got, Off}
+use Rattle.text.proofs.Digits.{either}
+use Rattle.text.proofs.Shown.{whole-back, level-back, shown-least}
+use Rattle.text.proofs.Free.{shown-free, level-free}
+use Rattle.text.proofs.Fields.{count-append}
+use Rattle.network.specs.Limits.{mostLevel}
+use Rattle.grid.specs.Row.{all, valuesOf, given, isValue, isRow, rowGiven, levelIn, rowLevels}
+use Rattle.grid.specs.File.{unnamed, noDataWord, begins, numberAfter, names}
+use Rattle.grid.specs.Write.{keyLine, rowLine, textOf}
+use Rattle.grid.proofs.ValueLaws.{all-cons, all-none}
+
+-- ---- bytes that a text doesn't have
+
+-- the first byte of a text without d isn't d, and the rest has none either
+free-first : (d c : ℕ) (s : List ℕ) → countOf d (c ∷ s) ≡ 0 → (eqb c d ≡ false) × (countOf d s ≡ 0)
+unfolding countOf
+free-first d c s e =
+    either (eqb c d)
+    (λ yes. let z : suc (countOf d s) ≡ 0 = rw yes at e in absurd (omega arith))
+    (λ other. (other, rw other at e))
+
+-- ---- lines
+
+line-apart : (l t : List ℕ) → countOf 13 l ≡ 0 → linesOf (l ++ (13 ∷ 10 ∷ t)) ≡ l ∷ linesOf t
+unfolding linesOf
+line-apart [] t e = refl
+line-apart (c ∷ []) t e = let f = free-first 13 c [] e in rw (f .0)
+line-apart (c ∷ d ∷ l) t e = let f = free-first 13 c (d ∷ l) e in rw (f .0) (ap (onto c) (line-apart (d ∷ l) t (f .1)))
+
+-- lines without a CR, as a text, are its lines
+abbrev pub Free : List (List ℕ) → Type 0
+Free lines = (i : ℕ) → i < length lines → countOf 13 (getD lines i []) ≡ 0
+
+pub lines-apart : (lines : List (List ℕ)) → Free lines → linesOf (textOf lines) ≡ lines
+unfolding textOf linesOf
+lines-apart [] free = refl
+lines-apart (l ∷ lines) free =
+    line-apart l (textOf lines) (free 0 (omega arith)) ∙ ap (λ t. l ∷ t) (lines-apart lines (λ i h. free (suc i) (omega arith)))
+
+-- ---- values
+
+value-alone : (t : List ℕ) → countOf 32 t ≡ 0 → valuesOf t ≡ t ∷ []
+unfolding valuesOf
+value-alone [] e = refl
+value-alone (c ∷ t) e = let f = free-first 32 c t e in rw (f .0) (ap (onto c) (value-alone t (f .1)))
+
+value-apart : (t r : List ℕ) → countOf 32 t ≡ 0 → valuesOf (t ++ (32 ∷ r)) ≡ t ∷ valuesOf r
+unfolding valuesOf
+value-apart [] r e = refl
+value-apart (c ∷ t) r e = let f = free-first 32 c t e in rw (f .0) (ap (onto c) (value-apart t r (f .1)))
+
+-- the values of a row that was written
+pub values-apart : (v : ℕ) (vs : List ℕ) → valuesOf (rowLine (v ∷ vs)) ≡ map showLevel (v ∷ vs)
+unfolding rowLine joinedBy
+values-apart v [] = value-alone (showLevel v) (level-free 32 (omega arith) v)
+values-apart v (w ∷ vs) =
+    value-apart (showLevel v) (joinedBy 32 (map showLevel (w ∷ vs))) (level-free 32 (omega arith) v) ∙ ap (λ t. showLevel v ∷ t) (values-apart w vs)
+
+pub row-free : (vs : List ℕ) → countOf 13 (rowLine vs) ≡ 0
+unfolding rowLine joinedBy countOf
+row-free [] = refl
+row-free (v ∷ []) = level-free 13 (omega arith) v
+row-free (v ∷ w ∷ vs) =
+    count-append 13 (showLevel v) (32 ∷ joinedBy 32 (map showLevel (w ∷ vs))) ∙ omega (arith, level-free 13 (omega arith) v, row-free (w ∷ vs))
+
+-- ---- a text is itself, and no other
+
+pub same-self : (s : List ℕ) → sameText s s ≡ true
+unfolding sameText
+same-self [] = refl
+same-self (c ∷ s) = rw (eq-eqb c c refl) (same-self s)
+
+pub same-equal : (a b : List ℕ) → sameText a b ≡ true → a ≡ b
+unfolding sameText
+same-equal [] [] e = refl
+same-equal [] (y ∷ b) e = absurd (true≢false (sym e))
+same-equal (x ∷ a) [] e = absurd (true≢false (sym e))
+same-equal (x ∷ a) (y ∷ b) e =
+    let p = eqb-true x y (and-left (eqb x y) (sameText a b) e) in
+    let q = same-equal a b (and-right (eqb x y) (sameText a b) e) in
+    rw (p, q)
+
+-- ---- levels that were written
+
+unnamed-off : levelOf unnamed ≡ Off
+unfolding levelOf
+unnamed-off = refl
+
+pub level-given : (v : ℕ) → v ≤ mostLevel → given unnamed (showLevel v) ≡ true
+level-given v h =
+    either (sameText (showLevel v) unnamed)
+    (λ yes. let z : Off ≡ Got v = sym unnamed-off ∙ ap levelOf (sym (same-equal (showLevel v) unnamed yes)) ∙ level-back v (omega arith) in
+    let k : _≡_ {A = ℕ} 0 1 = cc in absurd (omega arith))
+    (λ other. rw other)
+
+-- what holds of each level, of a whole row
+abbrev pub Levels : List ℕ → Type 0
+Levels vs = (i : ℕ) → getD vs i 0 ≤ mostLevel
+
+pub texts-row : (vs : List ℕ) → Levels vs → all (isValue unnamed) (map showLevel vs) ≡ true
+unfolding all
+texts-row [] q = refl
+texts-row (v ∷ vs) q = rw (level-back v (omega (arith, q 0))) (texts-row vs (λ i. q (suc i)))
+
+pub texts-given : (vs : List ℕ) → Levels vs → all (given unnamed) (map showLevel vs) ≡ true
+unfolding all
+texts-given [] q = refl
+texts-given (v ∷ vs) q = rw (level-given v (q 0)) (texts-given vs (λ i. q (suc i)))
+
+pub texts-levels : (vs : List ℕ) → Levels vs → map levelIn (map showLevel vs) ≡ vs
+texts-levels [] q = refl
+texts-levels (v ∷ vs) q = rw (level-back v (omega (arith, q 0)), texts-levels vs (λ i. q (suc i)))
+
+-- ---- header lines that were written
+
+pub begins-self : (word t : List ℕ) → begins word (word ++ t) ≡ true
+unfolding begins
+begins-self word t = rw (take-append-seam word t) (same-self word)
+
+pub number-back : (key : List ℕ) (n : ℕ) → n < 10000000 → numberAfter key (keyLine key n) ≡ Got n
+unfolding numberAfter
+number-back key n h = rw (begins-self key (showWhole n), drop-append-seam key (showWhole n)) (whole-back n h)
+
+pub key-free : (key : List ℕ) (n : ℕ) → countOf 13 key ≡ 0 → countOf 13 (keyLine key n) ≡ 0
+key-free key n e = count-append 13 key (showWhole n) ∙ omega (arith, e, shown-free 13 (omega arith) 7 n)
+
+-- ---- a row doesn't name the no-data value: it begins with a digit
+
+first-digit : (k n : ℕ) → getD (shown (suc k) n) 0 0 ≤ 57
+unfolding shown
+first-digit zero n = either (ltb n 10) (λ yes. rw yes (omega (arith, ltb-true n 10 yes))) (λ no. rw no (omega arith))
+first-digit (suc k) n =
+    either (ltb n 10)
+    (λ yes. rw yes (omega (arith, ltb-true n 10 yes)))
+    (λ no. rw (no, List·getD-append (shown (suc k) (n / 10)) ((48 + n % 10) ∷ []) 0 0 (shown-least k (n / 10))) (first-digit k (n / 10)))
+
+names-other : (line : List ℕ) → getD line 0 0 ≤ 57 → names line ≡ false
+unfolding begins sameText
+names-other [] h = refl
+names-other (c ∷ line) h = rw (ne-eqb c 78 (λ e. omega arith))
+
+pub names-row : (line : List ℕ) (v : ℕ) (t : List ℕ) → line ≡ showLevel v ++ t → names line ≡ false
+names-row line v t e =
+    let whole = showWhole (v / 100) in
+    let some = shown-least 6 (v / 100) in
+    let a : getD (showLevel v) 0 0 ≡ getD whole 0 0 = List·getD-append whole (46 ∷ showTwo (v % 100)) 0 0 some in
+    let l : 1 ≤ length (showLevel v) = omega (arith, length-append whole (46 ∷ showTwo (v % 100))) in
+    let b = List·getD-append (showLevel v) t 0 0 l in
+    names-other line (omega (arith, ap (λ s. getD s 0 0) e, a, b, first-digit 6 (v / 100)))

@@ -1,0 +1,127 @@
+-- `grid::judge::judge_rows` meets its contract. The invariant: the rows passed, and what all of them were. Assumes nothing.
+use Prim.Native.Nat.{_+_, _-_, _≤_}
+use mathlib.Core.Path.{_≡_, refl, sym, ap, _∙_}
+use native.Mathlib.Omega.{arith}
+use lib.ListN.{length}
+use Rattle.grid.specs.Steps.{lineFrom, rowOf}
+use Rattle.grid.proofs.RowLaws.{RowsAt, rows-start, rows-off, rows-next, rows-on, rows-fit, rows-sound}
+use Rattle.grid.proofs.judge.judge_rows.Statement.{statement}
+use Rattle.grid.proofs.judge.judge_rows.Tie as tie
+use Rattle.grid.proofs.judge.judge_rows.Reads as reads
+use Rattle.grid.proofs.judge.judge_rows.Lts as lts
+use Rattle.grid.proofs.head.line_at.Reads as line-at-reads
+use Rattle.grid.proofs.judge.both.Reads as both-reads
+use Rattle.grid.proofs.judge.judge_row.Reads as judge-row-reads
+use borrow.Author.Needs.{needs}
+
+abbrev Inv-loop : tie.InvT-loop
+Inv-loop s from nodata frame first columns at₀ count₀ fits₀ sound₀ at count fits sound = RowsAt nodata columns first s from at count fits sound
+
+abbrev μ-loop : tie.MeasureT-loop
+μ-loop s from nodata frame first columns at₀ count₀ fits₀ sound₀ at count fits sound = length s - at
+
+cast-columns : tie.Need-cast-columns Inv-loop μ-loop
+cast-columns c = search needs
+
+loop-holds : tie.Need-loop-holds Inv-loop μ-loop
+loop-holds c = rows-start _ _ _ _ _ (c .before .before .before .pre .0)
+
+line-at-requires : tie.Need-line-at-requires Inv-loop μ-loop
+line-at-requires c κs = c .before .loop .inv .within
+
+sub-judge-row : tie.Need-sub-judge-row Inv-loop μ-loop
+sub-judge-row c = c .line-at .ensures .start
+
+part-judge-row-start : tie.Need-part-judge-row-start Inv-loop μ-loop
+part-judge-row-start c = c .line-at .ensures .start
+
+part-judge-row-end : tie.Need-part-judge-row-end Inv-loop μ-loop
+part-judge-row-end c = c .line-at .ensures .within
+
+judge-row-requires : tie.Need-judge-row-requires Inv-loop μ-loop
+judge-row-requires c κs = search needs
+
+enum-known-values : tie.Need-enum-known-values Inv-loop μ-loop
+enum-known-values c = search needs
+
+enum-told : tie.Need-enum-told Inv-loop μ-loop
+enum-told c = search needs
+
+-- what was judged is the line at `at`
+judged : (c : tie.After-judge-row Inv-loop μ-loop) → let a = c .before .before .before .before .before .before .before .before .args in
+    c .judge-row .result ≡ rowOf (a .nodata .now) (lineFrom (a .s .now) (c .before .before .before .before .loop .at))
+judged c = c .judge-row .ensures ∙ ap (rowOf _) (c .before .before .line-at .ensures .line)
+
+add-t23 : tie.Need-add-t23 Inv-loop μ-loop
+add-t23 c =
+    let i = c .before .before .before .before .before .before .loop .inv in
+    let a = c .before .before .before .before .before .before .before .before .before .before in
+    omega (arith, i .few, i .within, a .pre .2, a .good .0 .1)
+
+returns : tie.Need-returns Inv-loop μ-loop
+returns c =
+    let i = c .before .before .before .before .before .before .loop .inv in
+    (rows-off i (c .before .before .before .before .before .loop-test .taken) (sym (judged (c .before .before)) ∙ c .enum-told .given .1), omega (arith, c .before .before .before .before .before .before .before .before .before .before .pre .1))
+
+both-requires : tie.Need-both-requires Inv-loop μ-loop
+both-requires c κs = search needs
+
+both-requires-2 : tie.Need-both-requires-2 Inv-loop μ-loop
+both-requires-2 c κs = search needs
+
+add-count : tie.Need-add-count Inv-loop μ-loop
+add-count c =
+    let i = c .before .before .before .before .before .before .before .before .before .loop .inv in
+    omega (arith, i .few, i .within)
+
+loop-less : tie.Need-loop-less Inv-loop μ-loop
+loop-less c =
+    let l = c .before .before .before .before .before .before .before .line-at .ensures in
+    omega (arith, l .moves (c .before .before .before .before .before .before .before .before .loop-test .taken), l .passed .inside, c .before .before .before .before .before .before .before .before .loop-test .taken)
+
+loop-again : tie.Need-loop-again Inv-loop μ-loop
+loop-again c =
+    let i = c .before .before .before .before .before .before .before .before .before .loop .inv in
+    let l = c .before .before .before .before .before .before .before .line-at in
+    let h = c .before .before .before .before .before .before .before .before .loop-test .taken in
+    let v = c .before .before .before .values .given in
+    rw (c .before .both .ensures, c .both2 .ensures) (rows-next i h (l .result) (l .ensures) (v .0 .0) (v .0 .1 .0) (sym (judged (c .before .before .before .before .before)) ∙ v .1))
+
+cast-rows : tie.Need-cast-rows Inv-loop μ-loop
+cast-rows c = search needs
+
+both-requires-3 : tie.Need-both-requires-3 Inv-loop μ-loop
+both-requires-3 c κs = search needs
+
+returns-2 : tie.Need-returns-2 Inv-loop μ-loop
+returns-2 c =
+    let a = c .before .before .before .before .before .before .before .args in
+    let i = c .before .before .before .loop .inv in
+    let h = c .before .before .loop-test .left in
+    (rows-on i h, refl, refl, c .both3 .ensures ∙ sym (rows-fit i h (a .frame) refl), sym (rows-sound i h))
+
+pub judge-rows-spec : {M : Type 1} → statement M
+judge-rows-spec =
+    tie.close
+    (tie.spec
+    Inv-loop
+    μ-loop
+    cast-columns
+    loop-holds
+    line-at-requires
+    sub-judge-row
+    part-judge-row-start
+    part-judge-row-end
+    judge-row-requires
+    enum-known-values
+    enum-told
+    add-t23
+    returns
+    both-requires
+    both-requires-2
+    add-count
+    loop-less
+    loop-again
+    cast-rows
+    both-requires-3
+    returns-2)

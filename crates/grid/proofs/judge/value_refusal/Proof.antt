@@ -1,0 +1,58 @@
+-- `grid::judge::value_refusal` meets its contract. Assumes nothing.
+use mathlib.Core.Path.{_≡_, sym, _∙_}
+use mathlib.Core.Bool.{false}
+use Rattle.text.specs.Same.{sameText}
+use Rattle.grid.proofs.ValueLaws.{none-here, level-here, high-here, neither-here}
+use borrow.Author.Needs.{needs}
+use Rattle.grid.proofs.judge.value_refusal.Statement.{statement}
+use Rattle.grid.proofs.judge.value_refusal.Tie as tie
+use Rattle.grid.proofs.judge.value_refusal.Reads as reads
+use Rattle.grid.proofs.judge.value_refusal.Lts as lts
+use Rattle.text.proofs.number.level.Reads as level-reads
+use Rattle.text.proofs.same.same_text.Reads as same-text-reads
+
+same-text-requires : tie.Need-same-text-requires
+same-text-requires c κs = search needs
+
+returns : tie.Need-returns
+returns c = sym (none-here _ _ (sym (c .before .same-text .ensures) ∙ c .if1 .taken))
+
+level-requires : tie.Need-level-requires
+level-requires c κs = search needs
+
+enum-known-v : tie.Need-enum-known-v
+enum-known-v c = search needs
+
+returns-2 : tie.Need-returns-2
+returns-2 c =
+    let a = c .before .before .before .before .before .before .before .before .before .args in
+    let other : sameText (a .s .now) (a .nodata .now) ≡ false = sym (c .before .before .before .before .before .before .same-text .ensures) ∙ c .before .before .before .before .before .if1 .left in
+    sym (level-here _ _ _ other (sym (c .before .before .before .before .level .ensures) ∙ c .before .before .v .given .1) (c .if2 .taken))
+
+enum-told : tie.Need-enum-told
+enum-told c = search needs
+
+returns-3 : tie.Need-returns-3
+returns-3 c =
+    let a = c .before .before .before .before .before .before .before .before .before .args in
+    let other : sameText (a .s .now) (a .nodata .now) ≡ false = sym (c .before .before .before .before .before .before .same-text .ensures) ∙ c .before .before .before .before .before .if1 .left in
+    sym (high-here _ _ _ other (sym (c .before .before .before .before .level .ensures) ∙ c .before .before .v .given .1) (c .if2 .left))
+
+returns-4 : tie.Need-returns-4
+returns-4 c =
+    let a = c .before .before .before .before .before .before .before .args in
+    let other : sameText (a .s .now) (a .nodata .now) ≡ false = sym (c .before .before .before .before .same-text .ensures) ∙ c .before .before .before .if1 .left in
+    sym (neither-here _ _ other (sym (c .before .before .level .ensures) ∙ c .enum-told .given .1))
+
+pub value-refusal-spec : {M : Type 1} → statement M
+value-refusal-spec =
+    tie.close
+    (tie.spec
+    same-text-requires
+    returns
+    level-requires
+    enum-known-v
+    returns-2
+    enum-told
+    returns-3
+    returns-4)

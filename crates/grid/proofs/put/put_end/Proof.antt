@@ -1,0 +1,25 @@
+-- `grid::put::put_end` meets its contract. Assumes nothing.
+use native.Mathlib.Omega.{arith}
+use Rattle.text.proofs.Puts.{wrote-then}
+use borrow.Author.Needs.{needs}
+use Rattle.grid.proofs.put.put_end.Statement.{statement}
+use Rattle.grid.proofs.put.put_end.Tie as tie
+use Rattle.grid.proofs.put.put_end.Reads as reads
+use Rattle.grid.proofs.put.put_end.Lts as lts
+use Rattle.text.proofs.core.put_byte.Reads as put-byte-reads
+
+put-byte-requires : tie.Need-put-byte-requires
+put-byte-requires c κs = search needs
+
+put-byte-requires-2 : tie.Need-put-byte-requires-2
+put-byte-requires-2 c κs = search needs
+
+same-length : tie.Need-same-length
+same-length c = search needs
+
+returns : tie.Need-returns
+returns c =
+    wrote-then (c .before .before .before .before .before .before .before .before .before .pre) (c .before .before .before .before .before .before .put-byte .ensures) (c .before .before .put-byte2 .ensures)
+
+pub put-end-spec : {M : Type 1} → statement M
+put-end-spec = tie.close (tie.spec put-byte-requires put-byte-requires-2 same-length returns)

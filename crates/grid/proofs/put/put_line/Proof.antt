@@ -1,0 +1,47 @@
+-- `grid::put::put_line` meets its contract: the key, the number and the end, each past the other. Assumes nothing.
+use Prim.Native.Nat.{_+_, _≤_}
+use native.Mathlib.Omega.{arith}
+use lib.ListN.{length}
+use Rattle.text.specs.Number.{showWhole}
+use Rattle.text.proofs.Puts.{wrote-then}
+use Rattle.grid.specs.Write.{keyLine}
+use Rattle.grid.proofs.WriteLaws.{ended-length, key-length}
+use borrow.Author.Needs.{needs}
+use Rattle.grid.proofs.put.put_line.Statement.{statement}
+use Rattle.grid.proofs.put.put_line.Tie as tie
+use Rattle.grid.proofs.put.put_line.Reads as reads
+use Rattle.grid.proofs.put.put_line.Lts as lts
+use Rattle.grid.proofs.put.put_end.Reads as put-end-reads
+use Rattle.text.proofs.core.put_text.Reads as put-text-reads
+use Rattle.text.proofs.core.put_whole.Reads as put-whole-reads
+
+-- the room, part by part
+room : (c : tie.Start) → c .args .at + (length (c .args .key .now) + length (showWhole (c .args .n)) + 2) ≤ length (c .args .out .now)
+room c = omega (arith, c .pre .1, ended-length (keyLine (c .args .key .now) (c .args .n)), key-length (c .args .key .now) (c .args .n))
+
+put-text-requires : tie.Need-put-text-requires
+put-text-requires c κs = omega (arith, room (c .before .before .before))
+
+put-whole-requires : tie.Need-put-whole-requires
+put-whole-requires c κs =
+    let k = c .before .before .before .put-text in
+    (omega (arith, c .before .before .before .before .before .before .before .pre .0), omega (arith, room (c .before .before .before .before .before .before .before), k .ensures .place, k .kept .0))
+
+put-end-requires : tie.Need-put-end-requires
+put-end-requires c κs =
+    let k = c .before .before .before .before .before .before .before .put-text in
+    let n = c .before .before .before .put-whole in
+    omega (arith, room (c .before .before .before .before .before .before .before .before .before .before .before), k .ensures .place, k .kept .0, n .ensures .place, n .kept .0)
+
+same-length : tie.Need-same-length
+same-length c = search needs
+
+returns : tie.Need-returns
+returns c =
+    let a = c .before .before .before .before .before .before .before .before .before .before .before .before .before .before in
+    let l = key-length (a .args .key .now) (a .args .n) in
+    wrote-then (a .pre .1) (wrote-then (omega (arith, room a)) (c .before .before .before .before .before .before .before .before .before .before .put-text .ensures) (c .before .before .before .before .before .before .put-whole .ensures)) (c .before .before .put-end .ensures)
+
+pub put-line-spec : {M : Type 1} → statement M
+put-line-spec =
+    tie.close (tie.spec put-text-requires put-whole-requires put-end-requires same-length returns)

@@ -1,0 +1,33 @@
+-- `grid::put::put_row` meets its contract. Assumes nothing.
+use native.Mathlib.Omega.{arith}
+use Rattle.text.proofs.Puts.{wrote-then}
+use Rattle.grid.specs.Write.{rowLine}
+use Rattle.grid.proofs.WriteLaws.{ended-length}
+use borrow.Author.Needs.{needs}
+use Rattle.grid.proofs.put.put_row.Statement.{statement}
+use Rattle.grid.proofs.put.put_row.Tie as tie
+use Rattle.grid.proofs.put.put_row.Reads as reads
+use Rattle.grid.proofs.put.put_row.Lts as lts
+use Rattle.grid.proofs.put.put_end.Reads as put-end-reads
+use Rattle.grid.proofs.put.put_values.Reads as put-values-reads
+
+put-values-requires : tie.Need-put-values-requires
+put-values-requires c κs =
+    let a = c .before .before .before in
+    (a .pre .0, a .pre .1, omega (arith, a .pre .2, ended-length (rowLine (a .args .row .now))))
+
+put-end-requires : tie.Need-put-end-requires
+put-end-requires c κs =
+    let a = c .before .before .before .before .before .before .before in
+    let v = c .before .before .before .put-values in
+    omega (arith, a .pre .2, ended-length (rowLine (a .args .row .now)), v .ensures .place, v .kept .0)
+
+same-length : tie.Need-same-length
+same-length c = search needs
+
+returns : tie.Need-returns
+returns c =
+    wrote-then (c .before .before .before .before .before .before .before .before .before .before .pre .2) (c .before .before .before .before .before .before .put-values .ensures) (c .before .before .put-end .ensures)
+
+pub put-row-spec : {M : Type 1} → statement M
+put-row-spec = tie.close (tie.spec put-values-requires put-end-requires same-length returns)

@@ -1,0 +1,26 @@
+-- `grid::put::put_spaced` meets its contract. Assumes nothing.
+use native.Mathlib.Omega.{arith}
+use Rattle.text.proofs.Puts.{wrote-then}
+use borrow.Author.Needs.{needs}
+use Rattle.grid.proofs.put.put_spaced.Statement.{statement}
+use Rattle.grid.proofs.put.put_spaced.Tie as tie
+use Rattle.grid.proofs.put.put_spaced.Reads as reads
+use Rattle.grid.proofs.put.put_spaced.Lts as lts
+use Rattle.text.proofs.core.put_byte.Reads as put-byte-reads
+use Rattle.text.proofs.core.put_level.Reads as put-level-reads
+
+put-byte-requires : tie.Need-put-byte-requires
+put-byte-requires c κs = search needs
+
+put-level-requires : tie.Need-put-level-requires
+put-level-requires c κs = search needs
+
+same-length : tie.Need-same-length
+same-length c = search needs
+
+returns : tie.Need-returns
+returns c =
+    wrote-then (c .before .before .before .before .before .before .before .before .before .pre .1) (c .before .before .before .before .before .before .put-byte .ensures) (c .before .before .put-level .ensures)
+
+pub put-spaced-spec : {M : Type 1} → statement M
+put-spaced-spec = tie.close (tie.spec put-byte-requires put-level-requires same-length returns)

@@ -1,0 +1,110 @@
+-- `grid::put::put_values` meets its contract. The invariant: what is written, and what is left to write. Assumes nothing.
+use Prim.Native.Nat.{ℕ, _+_, _-_, _*_, _≤_, _<_}
+use mathlib.Core.Path.{_≡_, refl, sym, ap, _∙_}
+use mathlib.Core.List.{List, _∷_, _++_}
+use native.Mathlib.Omega.{arith}
+use borrow.Author.Needs.{needs}
+use lib.ListN.{length, getD, drop, length-append}
+use Rattle.text.specs.Number.{showLevel}
+use Rattle.text.specs.Put.{Wrote}
+use Rattle.text.proofs.Puts.{wrote-then}
+use Rattle.grid.specs.Write.{rowLine}
+use Rattle.grid.proofs.WriteLaws.{Writing, writing-start, writing-room, writing-more, writing-end, spacedOf, spaced-more, spaced-none, row-first}
+use Rattle.grid.proofs.put.put_values.Statement.{statement}
+use Rattle.grid.proofs.put.put_values.Tie as tie
+use Rattle.grid.proofs.put.put_values.Reads as reads
+use Rattle.grid.proofs.put.put_values.Lts as lts
+use Rattle.grid.proofs.put.put_spaced.Reads as put-spaced-reads
+use Rattle.text.proofs.core.put_level.Reads as put-level-reads
+
+abbrev Inv-loop : tie.InvT-loop
+Inv-loop out₀ from row at₀ i₀ out at i =
+    Writing out₀ at₀ (spacedOf (drop 1 row)) out at (spacedOf (drop i row)) × (1 ≤ i) × (i ≤ length row) × (length out ≡ length out₀)
+
+abbrev μ-loop : tie.MeasureT-loop
+μ-loop out₀ from row at₀ i₀ out at i = length row - i
+
+shared-slice-read-put-level : tie.Need-shared-slice-read-put-level Inv-loop μ-loop
+shared-slice-read-put-level c = omega (arith, c .before .before .before .before .pre .0)
+
+put-level-requires : tie.Need-put-level-requires Inv-loop μ-loop
+put-level-requires c κs =
+    let a = c .before .before .before .before in
+    let row = a .args .row .now in
+    (omega (arith, a .pre .1 0), omega (arith, a .pre .2, ap length (row-first row (a .pre .0)), length-append (showLevel (getD row 0 0)) (spacedOf (drop 1 row))))
+
+loop-holds : tie.Need-loop-holds Inv-loop μ-loop
+loop-holds c = (writing-start _ _ _, omega arith, c .before .before .before .before .before .before .before .pre .0, refl)
+
+-- past the first level there is room for the others
+started : (c : tie.After-slice-known2 Inv-loop μ-loop) → c .before .before .put-level .result + length (spacedOf (drop 1 (c .before .before .before .before .before .before .before .args .row .now))) ≤ length (c .before .before .put-level .last .0)
+started c =
+    let a = c .before .before .before .before .before .before .before in
+    let row = a .args .row .now in
+    let p = c .before .before .put-level in
+    omega (arith, a .pre .2, ap length (row-first row (a .pre .0)), length-append (showLevel (getD row 0 0)) (spacedOf (drop 1 row)), p .ensures .place, p .kept .0)
+
+-- what is left begins with the next space and level
+next : (c : tie.In-loop Inv-loop μ-loop) → let a = c .before .before .before .before .before .before .before .before .before .args in let l = c .before .loop in let p = c .before .before .before .before .put-level in
+    Writing (p .last .0) (p .result) (spacedOf (drop 1 (a .row .now))) (l .out) (l .at) ((32 ∷ showLevel (getD (a .row .now) (l .i) 0)) ++ spacedOf (drop (l .i + 1) (a .row .now)))
+next c = rw (← spaced-more (c .before .before .before .before .before .before .before .before .before .args .row .now) (c .before .loop .i) (c .loop-test .taken)) (c .before .loop .inv .0)
+
+mul-put-spaced : tie.Need-mul-put-spaced Inv-loop μ-loop
+mul-put-spaced c = search needs
+
+shared-slice-read-put-spaced : tie.Need-shared-slice-read-put-spaced Inv-loop μ-loop
+shared-slice-read-put-spaced c = search needs
+
+put-spaced-requires : tie.Need-put-spaced-requires Inv-loop μ-loop
+put-spaced-requires c κs =
+    let a = c .before .before .before .before .before .before .before .before .before .before .before in
+    let l = c .before .before .before .loop in
+    let piece : List ℕ = 32 ∷ showLevel (getD (a .args .row .now) (l .i) 0) in
+    (a .pre .1 (l .i), omega (arith, writing-room (next (c .before .before)) (started (c .before .before .before .before)) .0, length-append piece (spacedOf (drop (l .i + 1) (a .args .row .now)))))
+
+add-i : tie.Need-add-i Inv-loop μ-loop
+add-i c = search needs
+
+loop-less : tie.Need-loop-less Inv-loop μ-loop
+loop-less c = search needs
+
+loop-again : tie.Need-loop-again Inv-loop μ-loop
+loop-again c =
+    let a = c .before .before .before .before .before .before .before .before .before .before .before .before .before .before .args in
+    let l = c .before .before .before .before .before .before .loop in
+    let piece : List ℕ = 32 ∷ showLevel (getD (a .row .now) (l .i) 0) in (
+      writing-more piece (spacedOf (drop (l .i + 1) (a .row .now))) (next (c .before .before .before .before .before)) (started (c .before .before .before .before .before .before .before)) (c .before .before .put-spaced .ensures),
+      omega arith,
+      omega (arith, c .before .before .before .before .before .loop-test .taken),
+      c .before .before .put-spaced .kept .0 ∙ l .inv .3,
+    )
+
+same-length : tie.Need-same-length Inv-loop μ-loop
+same-length c = c .before .loop .inv .3 ∙ c .before .before .before .before .put-level .kept .0
+
+returns : tie.Need-returns Inv-loop μ-loop
+returns c =
+    let a = c .before .before .before .before .before .before .before .before .before in
+    let row = a .args .row .now in
+    let l = c .before .loop in
+    let first = row-first row (a .pre .0) in
+    let rest = writing-end (rw (spaced-none row (l .i) (c .loop-test .left)) at (l .inv .0)) in
+    rw first (wrote-then (omega (arith, a .pre .2, ap length first)) (c .before .before .before .before .put-level .ensures) rest)
+
+pub put-values-spec : {M : Type 1} → statement M
+put-values-spec =
+    tie.close
+    (tie.spec
+    Inv-loop
+    μ-loop
+    shared-slice-read-put-level
+    put-level-requires
+    loop-holds
+    mul-put-spaced
+    shared-slice-read-put-spaced
+    put-spaced-requires
+    add-i
+    loop-less
+    loop-again
+    same-length
+    returns)

@@ -1,0 +1,128 @@
+-- `grid::read::read_network` meets its contract: off the layout, refused for its shape, too little room, or read. Assumes nothing.
+use Prim.Native.Nat.{_≤_, _*_}
+use mathlib.Core.Path.{_≡_, refl, subst, sym, ap, _∙_}
+use native.Mathlib.Omega.{arith}
+use lib.ListN.{length}
+use Rattle.text.specs.Line.{linesOf}
+use Rattle.grid.specs.File.{faultLine, rowsOf}
+use Rattle.grid.specs.Row.{levelsOf}
+use Rattle.grid.specs.Read.{over, numbersOf}
+use Rattle.grid.specs.Steps.{fileRead, Judged, shapeRefusal}
+use Rattle.grid.specs.declared.judge.File.the-variants.{On}
+use Rattle.grid.proofs.ReadLaws.{off-layout, shape-refused, rows-ready, product-small, no-header, no-levels, roomy-both, refused-outcome, read-outcome}
+use borrow.Author.Needs.{needs}
+use Rattle.grid.proofs.read.read_network.Statement.{statement}
+use Rattle.grid.proofs.read.read_network.Tie as tie
+use Rattle.grid.proofs.read.read_network.Reads as reads
+use Rattle.grid.proofs.read.read_network.Lts as lts
+use Rattle.grid.proofs.judge.judge.Reads as judge-reads
+use Rattle.grid.proofs.read.shape_refusal.Reads as shape-refusal-reads
+use Rattle.grid.proofs.store.store_frame.Reads as store-frame-reads
+use Rattle.grid.proofs.store.store_rows.Reads as store-rows-reads
+
+-- the text is on its layout, and how it was judged
+file : (c : tie.After-known-told) → let g = c .before .frame .given .0 in
+    fileRead (c .before .before .before .before .before .before .before .args .text .now) (On (g .0) (g .1 .0) (g .1 .1 .0) (g .1 .1 .1 .0))
+file c = subst (fileRead _) (c .before .frame .given .1) (c .before .before .before .judge .ensures)
+
+-- past the test of its shape
+none : (c : tie.Else1) → let g = c .before .before .before .frame .given .0 in shapeRefusal (g .0) (g .1 .1 .0) (g .1 .1 .1 .0) ≡ 0
+none c = sym (c .before .shape-refusal .ensures) ∙ c .if1 .left
+
+judge-requires : tie.Need-judge-requires
+judge-requires c κs = search needs
+
+enum-known-frame : tie.Need-enum-known-frame
+enum-known-frame c = search needs
+
+enum-told : tie.Need-enum-told
+enum-told c = search needs
+
+returns : tie.Need-returns
+returns c =
+    let a = c .before .before .before .before .before .before .args in
+    let f = subst (fileRead (a .text .now)) (c .enum-told .given .1) (c .before .before .judge .ensures) in
+    refused-outcome (a .text .now) (a .header .now) (a .levels .now) 17 (off-layout (a .text .now) _ _ _ (f .0) (f .1)) (λ z. omega arith)
+
+shape-refusal-requires : tie.Need-shape-refusal-requires
+shape-refusal-requires c κs = search needs
+
+returns-2 : tie.Need-returns-2
+returns-2 c =
+    let a = c .before .before .before .before .before .before .before .before .before .args in
+    let f = file (c .before .before) in
+    refused-outcome (a .text .now) (a .header .now) (a .levels .now) (c .before .shape-refusal .result)
+    (shape-refused (a .text .now) _ _ _ _ (f .0) (f .1) _ _ (c .before .shape-refusal .result) (c .before .shape-refusal .ensures) (c .if1 .taken))
+    (c .if1 .taken)
+
+cast-columns : tie.Need-cast-columns
+cast-columns c = search needs
+
+cast-rows : tie.Need-cast-rows
+cast-rows c = search needs
+
+returns-3 : tie.Need-returns-3
+returns-3 c =
+    let a = c .before .before .before .before .before .before .before .before .before .before .before .before .args in
+    let f = file (c .before .before .before .before .before) in
+    refused-outcome (a .text .now) (a .header .now) (a .levels .now) 14
+    (no-header (a .text .now) _ _ _ _ (f .0) (f .1) (none (c .before .before .before)) _ _ (c .if2 .taken))
+    (λ z. omega arith)
+
+mul-if3 : tie.Need-mul-if3
+mul-if3 c =
+    let f = file (c .before .before .before .before .before) in
+    omega (arith, product-small _ _ _ _ _ (f .0) (f .1) (none (c .before .before .before)))
+
+returns-4 : tie.Need-returns-4
+returns-4 c =
+    let a = c .before .before .before .before .before .before .before .before .before .before .before .before .before .args in
+    let f = file (c .before .before .before .before .before .before) in
+    refused-outcome (a .text .now) (a .header .now) (a .levels .now) 14
+    (no-levels (a .text .now) _ _ _ _ (f .0) (f .1) (none (c .before .before .before .before)) _ _ (c .before .if2 .left) (c .if3 .taken))
+    (λ z. omega arith)
+
+store-frame-requires : tie.Need-store-frame-requires
+store-frame-requires c κs = search needs
+
+store-rows-requires : tie.Need-store-rows-requires
+store-rows-requires c κs =
+    let f = file (c .before .before .before .before .before .before .before .before .before .before .before) in
+    (rows-ready _ _ _ _ _ (f .0) (f .1) (none (c .before .before .before .before .before .before .before .before .before)), c .before .before .before .before .before .if3 .left)
+
+same-length : tie.Need-same-length
+same-length c = search needs
+
+same-length-2 : tie.Need-same-length-2
+same-length-2 c = search needs
+
+returns-5 : tie.Need-returns-5
+returns-5 c =
+    let a = c .before .before .before .before .before .before .before .before .before .before .before .before .before .before .before .before .before .before .before .before .before .args in
+    let f = file (c .before .before .before .before .before .before .before .before .before .before .before .before .before .before) in
+    let o = read-outcome (a .text .now) (a .header .now) (a .levels .now) (roomy-both (a .text .now) _ _ _ _ (f .0) (f .1) (none (c .before .before .before .before .before .before .before .before .before .before .before .before)) _ _ (c .before .before .before .before .before .before .before .before .before .if2 .left) (c .before .before .before .before .before .before .before .before .if3 .left)) in (
+      o .0,
+      c .before .before .before .before .before .before .store-frame .ensures ∙ ap (λ x. over (numbersOf x) (a .header .now)) (f .1 .frame) ∙ o .1,
+      c .before .before .store-rows .ensures ∙ ap (λ l. over (levelsOf l) (a .levels .now)) (f .1 .rows) ∙ o .2,
+    )
+
+pub read-network-spec : {M : Type 1} → statement M
+read-network-spec =
+    tie.close
+    (tie.spec
+    judge-requires
+    enum-known-frame
+    enum-told
+    returns
+    shape-refusal-requires
+    returns-2
+    cast-columns
+    cast-rows
+    returns-3
+    mul-if3
+    returns-4
+    store-frame-requires
+    store-rows-requires
+    same-length
+    same-length-2
+    returns-5)

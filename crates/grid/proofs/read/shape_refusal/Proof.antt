@@ -1,0 +1,54 @@
+-- `grid::read::shape_refusal` meets its contract: one test after the other. Assumes nothing.
+use mathlib.Core.Path.{_≡_, sym, _∙_}
+use mathlib.Core.Bool.{true, false}
+use borrow.Author.Tests.{not-true, not-false}
+use Rattle.network.specs.Refusals.{sided, placed}
+use borrow.Author.Needs.{needs}
+use Rattle.grid.proofs.read.shape_refusal.Statement.{statement}
+use Rattle.grid.proofs.read.shape_refusal.Tie as tie
+use Rattle.grid.proofs.read.shape_refusal.Reads as reads
+use Rattle.grid.proofs.read.shape_refusal.Lts as lts
+use Rattle.network.proofs.is_placed.Reads as is-placed-reads
+use Rattle.network.proofs.is_sided.Reads as is-sided-reads
+
+returns : tie.Need-returns
+returns c = let unfit = not-true (c .before .args .fits) (c .if1 .taken) in rw unfit
+
+is-sided-requires : tie.Need-is-sided-requires
+is-sided-requires c κs = search needs
+
+returns-2 : tie.Need-returns-2
+returns-2 c =
+    let fits = not-false (c .before .before .before .args .fits) (c .before .before .if1 .left) in
+    let out : sided (c .before .before .before .args .frame) ≡ false = sym (c .before .is-sided .ensures) ∙ not-true _ (c .if2 .taken) in
+    rw (fits, out)
+
+is-placed-requires : tie.Need-is-placed-requires
+is-placed-requires c κs = search needs
+
+-- past the tests of the rows and of the sides
+past : (c : tie.Else2) → let a = c .before .before .before .args in (a .fits ≡ true) × (sided (a .frame) ≡ true)
+past c = (not-false _ (c .before .before .if1 .left), sym (c .before .is-sided .ensures) ∙ not-false _ (c .if2 .left))
+
+returns-3 : tie.Need-returns-3
+returns-3 c =
+    let p = past (c .before .before) in
+    let out : placed (c .before .before .before .before .before .args .frame) ≡ false = sym (c .before .is-placed .ensures) ∙ not-true _ (c .if3 .taken) in
+    rw (p .0, p .1, out)
+
+returns-4 : tie.Need-returns-4
+returns-4 c =
+    let p = past (c .before .before .before) in
+    let inside : placed (c .before .before .before .before .before .before .args .frame) ≡ true = sym (c .before .before .is-placed .ensures) ∙ not-false _ (c .before .if3 .left) in
+    rw (p .0, p .1, inside, c .if4 .taken)
+
+returns-5 : tie.Need-returns-5
+returns-5 c =
+    let p = past (c .before .before .before) in
+    let inside : placed (c .before .before .before .before .before .before .args .frame) ≡ true = sym (c .before .before .is-placed .ensures) ∙ not-false _ (c .before .if3 .left) in
+    rw (p .0, p .1, inside, c .if4 .left)
+
+pub shape-refusal-spec : {M : Type 1} → statement M
+shape-refusal-spec =
+    tie.close
+    (tie.spec returns is-sided-requires returns-2 is-placed-requires returns-3 returns-4 returns-5)

@@ -1,0 +1,44 @@
+-- `grid::size::text_size` meets its contract. Assumes nothing.
+use Prim.Native.Nat.{_≤_}
+use Rattle.grid.proofs.WriteLaws.{near, network-size, head-most, levels-most, points-most}
+use native.Mathlib.Omega.{arith}
+use borrow.Author.Needs.{needs}
+use Rattle.grid.proofs.size.text_size.Statement.{statement}
+use Rattle.grid.proofs.size.text_size.Tie as tie
+use Rattle.grid.proofs.size.text_size.Reads as reads
+use Rattle.grid.proofs.size.text_size.Lts as lts
+use Rattle.grid.proofs.size.head_size.Reads as head-size-reads
+use Rattle.grid.proofs.size.levels_size.Reads as levels-size-reads
+
+head-size-requires : tie.Need-head-size-requires
+head-size-requires c κs = near _ _ (c .before .pre)
+
+levels-size-requires : tie.Need-levels-size-requires
+levels-size-requires c κs =
+    let p = c .before .before .pre in
+    (points-most _ _ _ (p .sized), p .quiet)
+
+-- the sizes are small
+most : (c : tie.After-levels-size) → (c .before .head-size .result ≤ 86) × (c .levels-size .result ≤ 458752)
+most c =
+    let s = c .before .before .before in
+    (omega (arith, c .before .head-size .ensures, head-most (s .args .frame) (near _ _ (s .pre))), omega (arith, c .levels-size .ensures, levels-most _ _ (s .pre)))
+
+add-result : tie.Need-add-result
+add-result c = omega (arith, most c)
+
+cast-result : tie.Need-cast-result
+cast-result c = search needs
+
+add-result-2 : tie.Need-add-result-2
+add-result-2 c = omega (arith, most (c .before), c .before .before .before .before .pre .sized .sides .low)
+
+returns : tie.Need-returns
+returns c =
+    let s = c .before .before .before .before in
+    omega (arith, network-size (s .args .levels .now) (s .args .frame) (s .pre), c .before .before .head-size .ensures, c .before .levels-size .ensures)
+
+pub text-size-spec : {M : Type 1} → statement M
+text-size-spec =
+    tie.close
+    (tie.spec head-size-requires levels-size-requires add-result cast-result add-result-2 returns)

@@ -1,0 +1,86 @@
+-- `grid::write::write_network` meets its contract: refused as a network, too little room, or written. Assumes nothing.
+use Prim.Native.Nat.{_≤_}
+use mathlib.Core.Path.{_≡_, sym, ap, _∙_}
+use mathlib.Core.List.{[], _∷_}
+use native.Mathlib.Omega.{arith}
+use lib.ListN.{length}
+use Rattle.network.specs.Refusals.{networkRefusal}
+use Rattle.network.proofs.Refusals.{not-refused}
+use Rattle.grid.specs.Read.{over}
+use Rattle.grid.specs.Write.{showNetwork}
+use Rattle.grid.proofs.WriteLaws.{network-refused, text-refused, size-refused, written, wrote-over, set-over, network-most}
+use borrow.Author.Needs.{needs}
+use Rattle.grid.proofs.write.write_network.Statement.{statement}
+use Rattle.grid.proofs.write.write_network.Tie as tie
+use Rattle.grid.proofs.write.write_network.Reads as reads
+use Rattle.grid.proofs.write.write_network.Lts as lts
+use Rattle.grid.proofs.put.put_network.Reads as put-network-reads
+use Rattle.grid.proofs.size.text_size.Reads as text-size-reads
+use Rattle.network.proofs.refusal.Reads as refusal-reads
+
+-- past the first test the network can be written
+none : (c : tie.Else1) → let a = c .before .before .before .before .before .args in networkRefusal (a .levels .now) (a .frame) ≡ 0
+none c = sym (c .before .refusal .ensures) ∙ c .if1 .left
+
+refusal-requires : tie.Need-refusal-requires
+refusal-requires c κs = search needs
+
+returns : tie.Need-returns
+returns c =
+    let a = c .before .before .before .before .before .args in
+    network-refused (a .levels .now) (a .frame) (a .text .now) (a .size .now) (c .before .refusal .result) (c .before .refusal .ensures) (c .if1 .taken)
+
+text-size-requires : tie.Need-text-size-requires
+text-size-requires c κs = not-refused _ _ (none c)
+
+returns-2 : tie.Need-returns-2
+returns-2 c =
+    let a = c .before .before .before .before .before .before .before .args in
+    text-refused (a .levels .now) (a .frame) (a .text .now) (a .size .now) (none (c .before .before)) (omega (arith, c .if2 .taken, c .before .text-size .ensures))
+
+returns-3 : tie.Need-returns-3
+returns-3 c =
+    let a = c .before .before .before .before .before .before .before .before .args in
+    size-refused (a .levels .now) (a .frame) (a .text .now) (a .size .now) (none (c .before .before .before)) (omega (arith, c .before .if2 .left, c .before .before .text-size .ensures)) (c .if3 .taken)
+
+put-network-requires : tie.Need-put-network-requires
+put-network-requires c κs =
+    (not-refused _ _ (none (c .before .before .before .before)), omega (arith, c .before .before .if2 .left, c .before .before .before .text-size .ensures))
+
+cast-size : tie.Need-cast-size
+cast-size c =
+    let a = c .before .before .before .before .before .before .before .before .before .before .before .before .args in
+    omega (arith, c .before .before .before .before .before .before .text-size .ensures, network-most (a .levels .now) (a .frame) (not-refused (a .levels .now) (a .frame) (none (c .before .before .before .before .before .before .before))))
+
+slice-write-size : tie.Need-slice-write-size
+slice-write-size c = search needs
+
+same-length : tie.Need-same-length
+same-length c = search needs
+
+same-length-2 : tie.Need-same-length-2
+same-length-2 c = search needs
+
+returns-4 : tie.Need-returns-4
+returns-4 c =
+    let a = c .before .before .before .before .before .before .before .before .before .before .before .before .args in
+    let n = c .before .before .before .before .before .before .text-size in
+    let room = c .before .before .before .before .if3 .left in
+    let o = written (a .levels .now) (a .frame) (a .text .now) (a .size .now) (none (c .before .before .before .before .before .before .before)) (omega (arith, c .before .before .before .before .before .if2 .left, n .ensures)) room in
+    (o .0, wrote-over (c .before .before .put-network .ensures) ∙ o .1, set-over (a .size .now) (n .result) room ∙ ap (λ x. over (x ∷ []) (a .size .now)) (n .ensures) ∙ o .2)
+
+pub write-network-spec : {M : Type 1} → statement M
+write-network-spec =
+    tie.close
+    (tie.spec
+    refusal-requires
+    returns
+    text-size-requires
+    returns-2
+    returns-3
+    put-network-requires
+    cast-size
+    slice-write-size
+    same-length
+    same-length-2
+    returns-4)

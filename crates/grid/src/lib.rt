@@ -1,0 +1,8 @@
+// Network files in Esri ASCII grid form, read and written. Document 01, "Files and the report program".
+mod head;
+mod judge;
+mod put;
+pub mod read;
+mod size;
+mod store;
+pub mod write;

@@ -1,0 +1,26 @@
+-- `journal::making::enter_from` meets its contract. Assumes nothing.
+use borrow.Author.Needs.{needs}
+use Rattle.journal.proofs.making.enter_from.Statement.{statement}
+use Rattle.journal.proofs.making.enter_from.Tie as tie
+
+enter-requires : tie.Need-enter-requires
+enter-requires c κs = c .before .before .before .before .before .before .before .before .before .before .before .before .before .before .pre .0
+
+returns : tie.Need-returns
+returns c = c .before .before .before .before .before .before .before .before .enter .ensures
+
+pub enter-from-spec : {M : Type 1} → statement M
+enter-from-spec =
+    tie.close
+    (tie.spec
+    (λ c. search needs)
+    (λ c. search needs)
+    (λ c. search needs)
+    (λ c. search needs)
+    (λ c. search needs)
+    enter-requires
+    (λ c. search needs)
+    (λ c. search needs)
+    (λ c. search needs)
+    (λ c. search needs)
+    returns)

@@ -1,0 +1,33 @@
+-- `journal::making::supply_from` meets its contract. Assumes nothing.
+use mathlib.Core.Path.{_≡_}
+use Prim.Native.Nat.{_+_, _-_}
+use native.Mathlib.Omega.{arith}
+use lib.ListN.{getD}
+use borrow.Author.Needs.{needs}
+use Rattle.journal.proofs.making.supply_from.Statement.{statement}
+use Rattle.journal.proofs.making.supply_from.Tie as tie
+
+supply-requires : tie.Need-supply-requires
+supply-requires c κs = c .before .before .before .before .before .before .before .before .before .before .pre .0
+
+returns : tie.Need-returns
+returns c =
+    let n = getD (c .before .before .before .before .before .before .before .before .before .before .before .before .before .before .before .args .rest .now) 2 0 in
+    let e : 3 + n - 3 ≡ n = omega arith in
+    rw e at (c .before .before .before .before .supply .ensures)
+
+pub supply-from-spec : {M : Type 1} → statement M
+supply-from-spec =
+    tie.close
+    (tie.spec
+    (λ c. search needs)
+    (λ c. search needs)
+    (λ c. search needs)
+    (λ c. search needs)
+    (λ c. search needs)
+    (λ c. search needs)
+    (λ c. search needs)
+    supply-requires
+    (λ c. search needs)
+    (λ c. search needs)
+    returns)

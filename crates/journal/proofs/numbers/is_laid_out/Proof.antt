@@ -1,0 +1,65 @@
+-- `journal::numbers::is_laid_out` meets its contract. Assumes nothing.
+use mathlib.Core.Path.{_≡_, refl, sym, _∙_}
+use mathlib.Core.Logic.{inl, inr}
+use Prim.Native.Nat.{_-_, _≤_}
+use native.Mathlib.Omega.{arith}
+use lib.ListN.{length, drop, length-drop}
+use borrow.Author.Needs.{needs}
+use Rattle.journal.specs.Journal.{laidOut}
+use Rattle.journal.proofs.Reading.{Step, step-tested, laid-cut, nothing-left}
+use Rattle.journal.proofs.numbers.is_laid_out.Statement.{statement}
+use Rattle.journal.proofs.numbers.is_laid_out.Tie as tie
+
+abbrev Inv-loop : tie.InvT-loop
+Inv-loop journal at₀ at = (at ≤ length journal) × (laidOut journal ≡ laidOut (drop at journal))
+
+abbrev μ-loop : tie.MeasureT-loop
+μ-loop journal at₀ at = length journal - at
+
+mul-width-of : tie.Need-mul-width-of Inv-loop μ-loop
+mul-width-of c = let g = c .before .before .before .good in omega arith
+
+returns : tie.Need-returns Inv-loop μ-loop
+returns c = sym (c .before .before .before .before .loop .inv .1 ∙ laid-cut _ _ _ (c .before .width-of .ensures) (c .before .before .before .loop-test .taken) (inl (c .if1 .taken)))
+
+returns-2 : tie.Need-returns-2 Inv-loop μ-loop
+returns-2 c = sym (c .before .before .before .before .before .loop .inv .1 ∙ laid-cut _ _ _ (c .before .before .width-of .ensures) (c .before .before .before .before .loop-test .taken) (inr (c .if2 .taken)))
+
+-- past the tests the call is whole
+step : (c : tie.Else2 Inv-loop μ-loop) → Step (c .before .before .before .before .before .before .before .args .journal .now) (c .before .before .before .before .before .loop .at) (c .before .before .width-of .result)
+step c = step-tested _ _ _ (c .before .before .width-of .ensures) (c .before .before .before .before .loop-test .taken) (c .before .if1 .left) (c .if2 .left)
+
+add-at : tie.Need-add-at Inv-loop μ-loop
+add-at c = let s = step c .fits in omega arith
+
+loop-less : tie.Need-loop-less Inv-loop μ-loop
+loop-less c = let s = step c in omega (arith, s .some, s .fits)
+
+loop-again : tie.Need-loop-again Inv-loop μ-loop
+loop-again c = (step c .fits, c .before .before .before .before .before .loop .inv .1 ∙ step c .laid)
+
+returns-3 : tie.Need-returns-3 Inv-loop μ-loop
+returns-3 c =
+    let j = c .before .before .before .args .journal .now in
+    let l = length-drop (c .before .loop .at) j in
+    sym (c .before .loop .inv .1 ∙ nothing-left (drop (c .before .loop .at) j) (omega arith) .0)
+
+pub is-laid-out-spec : {M : Type 1} → statement M
+is-laid-out-spec =
+    tie.close
+    (tie.spec
+    Inv-loop
+    μ-loop
+    (λ c. search needs)
+    mul-width-of
+    (λ c. search needs)
+    (λ c. search needs)
+    (λ c. search needs)
+    (λ c κs. search needs)
+    returns
+    (λ c. search needs)
+    returns-2
+    add-at
+    loop-less
+    loop-again
+    returns-3)

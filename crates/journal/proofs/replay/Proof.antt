@@ -1,0 +1,33 @@
+-- `journal::replay` meets its contract: 16, 9 or 14 and nothing changed, or all calls made. Assumes nothing.
+use mathlib.Core.Path.{_≡_, sym, _∙_}
+use borrow.Author.Needs.{needs}
+use Rattle.journal.proofs.Replaying.{replay-ready, replay-refused, replay-done}
+use Rattle.journal.proofs.replay.Statement.{statement}
+use Rattle.journal.proofs.replay.Tie as tie
+
+returns : tie.Need-returns
+returns c = replay-refused (c .before .replay-refusal .ensures) (c .if1 .taken)
+
+run-requires : tie.Need-run-requires
+run-requires c κs = replay-ready _ _ _ _ (sym (c .before .before .before .before .before .before .replay-refusal .ensures) ∙ c .before .before .before .before .before .if1 .left)
+
+returns-2 : tie.Need-returns-2
+returns-2 c = replay-done (sym (c .before .before .before .before .before .before .before .before .before .before .before .before .before .before .before .before .before .replay-refusal .ensures) ∙ c .before .before .before .before .before .before .before .before .before .before .before .before .before .before .before .before .if1 .left) (c .before .before .before .before .before .before .before .before .before .before .run .ensures .0) (c .before .before .before .before .before .before .before .before .before .before .run .ensures .1)
+
+pub replay-spec : {M : Type 1} → statement M
+replay-spec =
+    tie.close
+    (tie.spec
+    (λ c κs. search needs)
+    (λ c. search needs)
+    (λ c. search needs)
+    (λ c. search needs)
+    (λ c. search needs)
+    returns
+    run-requires
+    (λ c. search needs)
+    (λ c. search needs)
+    (λ c. search needs)
+    (λ c. search needs)
+    (λ c. search needs)
+    returns-2)

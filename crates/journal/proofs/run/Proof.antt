@@ -1,0 +1,96 @@
+-- `journal::run` meets its contract: the calls made so far and those still to come give what the whole journal gives. Assumes nothing.
+use mathlib.Core.Path.{_≡_, refl, sym, ap, _∙_}
+use Prim.Native.Nat.{_-_, _≤_, _<_}
+use native.Mathlib.Omega.{arith}
+use lib.ListN.{length, length-set}
+use denote.Ref.{now}
+use borrow.Author.Needs.{needs}
+use Rattle.book.specs.Columns.{bookOf}
+use Rattle.journal.specs.Journal.{callsOf}
+use Rattle.journal.proofs.Reading.{Step, step-laid}
+use Rattle.journal.proofs.Replaying.{Replaying, replay-starts, replay-more, replay-ends, next, all, length-all}
+use Rattle.journal.proofs.run.Statement.{statement}
+use Rattle.journal.proofs.run.Tie as tie
+
+abbrev Inv-loop : tie.InvT-loop
+Inv-loop ids₀ groups₀ marks₀ levels₀ points journal answers₀ at₀ made₀ ids groups marks levels answers at made =
+    Replaying points (bookOf ids₀ groups₀ marks₀ levels₀) journal answers₀ at made (bookOf ids groups marks levels) answers
+    × ((length ids ≡ length ids₀) × ((length groups ≡ length groups₀) × ((length marks ≡ length marks₀) × ((length levels ≡ length levels₀) × (length answers ≡ length answers₀)))))
+
+abbrev μ-loop : tie.MeasureT-loop
+μ-loop ids₀ groups₀ marks₀ levels₀ points journal answers₀ at₀ made₀ ids groups marks levels answers at made = length journal - at
+
+loop-holds : tie.Need-loop-holds Inv-loop μ-loop
+loop-holds c = (replay-starts _ _ _ _ (c .before .before .before .before .before .before .pre .0) (c .before .before .before .before .before .before .pre .1 .0), (refl, (refl, (refl, (refl, refl)))))
+
+mul-width-of : tie.Need-mul-width-of Inv-loop μ-loop
+mul-width-of c = let g = c .before .before .before .before .before .before .before .before .good in omega arith
+
+-- the call at `at` is whole
+step : (c : tie.After-width-of Inv-loop μ-loop) → Step (c .before .before .before .before .before .before .before .before .before .before .args .journal .now) (c .before .before .before .loop .at) (c .width-of .result)
+step c = step-laid _ _ _ (c .width-of .ensures) (c .before .before .loop-test .taken) (c .before .before .before .loop .inv .0 .laid)
+
+-- there is an answer's room for it
+space : (c : tie.After-width-of Inv-loop μ-loop) → length (all (c .before .before .before .before .before .before .before .before .before .before .args .points) (bookOf (now (c .before .before .before .before .before .before .before .before .before .before .args .ids)) (now (c .before .before .before .before .before .before .before .before .before .before .args .groups)) (now (c .before .before .before .before .before .before .before .before .before .before .args .marks)) (now (c .before .before .before .before .before .before .before .before .before .before .args .levels))) (c .before .before .before .before .before .before .before .before .before .before .args .journal .now)) ≤ length (now (c .before .before .before .before .before .before .before .before .before .before .args .answers))
+space c = omega (arith, length-all (c .before .before .before .before .before .before .before .before .before .before .args .points) (bookOf (now (c .before .before .before .before .before .before .before .before .before .before .args .ids)) (now (c .before .before .before .before .before .before .before .before .before .before .args .groups)) (now (c .before .before .before .before .before .before .before .before .before .before .args .marks)) (now (c .before .before .before .before .before .before .before .before .before .before .args .levels))) (callsOf (c .before .before .before .before .before .before .before .before .before .before .args .journal .now)), c .before .before .before .before .before .before .before .before .before .before .pre .1 .1)
+
+below : (c : tie.After-width-of Inv-loop μ-loop) → c .before .before .before .loop .made < length (c .before .before .before .loop .answers)
+below c = omega (arith, next (c .before .before .before .loop .inv .0) (step c) .inside, space c, c .before .before .before .loop .inv .1)
+
+mul-make-call : tie.Need-mul-make-call Inv-loop μ-loop
+mul-make-call c = let g = c .before .before .before .before .before .before .before .before .before .before .before .before .before .before .good in let t = c .before .before .before .before .before .before .loop-test .taken in omega arith
+
+make-call-requires : tie.Need-make-call-requires Inv-loop μ-loop
+make-call-requires c κs = (c .before .before .before .before .before .before .before .before .loop .inv .0 .sound=, step (c .before .before .before .before .before) .whole=)
+
+mul-answers : tie.Need-mul-answers Inv-loop μ-loop
+mul-answers c = let g = c .before .before .before .before .before .before .before .before .before .before .before .before .before .before .before .before .before .before .before .before .before .before .before .before .good in let b = below (c .before .before .before .before .before .before .before .before .before .before .before .before .before .before) in let e = c .before .before .before .before .before .before .before .before .before .before .before .before .before .before .before .before .before .loop .inv .1 in omega arith
+
+slice-write-answers : tie.Need-slice-write-answers Inv-loop μ-loop
+slice-write-answers c = let b = below (c .before .before .before .before .before .before .before .before .before .before .before .before .before .before) in omega arith
+
+add-made : tie.Need-add-made Inv-loop μ-loop
+add-made c = let g = c .before .before .before .before .before .before .before .before .before .before .before .before .before .before .before .before .before .before .before .before .before .before .before .before .good in let b = below (c .before .before .before .before .before .before .before .before .before .before .before .before .before .before) in let e = c .before .before .before .before .before .before .before .before .before .before .before .before .before .before .before .before .before .loop .inv .1 in omega arith
+
+add-at : tie.Need-add-at Inv-loop μ-loop
+add-at c = let g = c .before .before .before .before .before .before .before .before .before .before .before .before .before .before .before .before .before .before .before .before .before .before .before .before .good in let s = step (c .before .before .before .before .before .before .before .before .before .before .before .before .before .before) .fits in omega arith
+
+loop-less : tie.Need-loop-less Inv-loop μ-loop
+loop-less c = let s = step (c .before .before .before .before .before .before .before .before .before .before .before .before .before .before) in omega (arith, s .some, s .fits)
+
+loop-again : tie.Need-loop-again Inv-loop μ-loop
+loop-again c =
+    (replay-more (c .before .before .before .before .before .before .before .before .before .before .before .before .before .before .before .before .before .loop .inv .0) (step (c .before .before .before .before .before .before .before .before .before .before .before .before .before .before)) (space (c .before .before .before .before .before .before .before .before .before .before .before .before .before .before)) (c .before .before .before .before .before .before .before .before .make-call .ensures), (search needs, (search needs, (search needs, (search needs, simp length-set (omega (arith, c .before .before .before .before .before .before .before .before .before .before .before .before .before .before .before .before .before .loop .inv .1)))))))
+
+returns : tie.Need-returns Inv-loop μ-loop
+returns c = replay-ends (c .before .loop .inv .0) (c .loop-test .left)
+
+pub run-spec : {M : Type 1} → statement M
+run-spec =
+    tie.close
+    (tie.spec
+    Inv-loop
+    μ-loop
+    loop-holds
+    mul-width-of
+    (λ c. search needs)
+    (λ c. search needs)
+    (λ c. search needs)
+    (λ c κs. search needs)
+    mul-make-call
+    (λ c. search needs)
+    (λ c. search needs)
+    (λ c. search needs)
+    make-call-requires
+    mul-answers
+    slice-write-answers
+    add-made
+    add-at
+    loop-less
+    loop-again
+    (λ c. search needs)
+    (λ c. search needs)
+    (λ c. search needs)
+    (λ c. search needs)
+    (λ c. search needs)
+    returns)

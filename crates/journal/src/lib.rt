@@ -1,0 +1,87 @@
+// Replays a journal: a whole sequence of calls, given as numbers, on lent columns, with each call's answer written to a lent slice. Soundness is checked once.
+mod making;
+mod numbers;
+
+use book::soundness::is_sound;
+use making::make_call;
+use numbers::count_calls;
+use numbers::is_laid_out;
+use numbers::width_of;
+ghost use mathlib.Core.Path.{_≡_};
+ghost use mathlib.Core.Bool.{true};
+ghost use Prim.Native.Nat.{_≤_};
+ghost use lib.ListN.{length};
+ghost use Rattle.book.specs.Columns.{bookOf, sound};
+ghost use Rattle.book.specs.History.{booked, answered};
+ghost use Rattle.journal.specs.Journal.{laidOut, callsOf, madeFor, written, replayRefusal, Replayed};
+
+// 16, then 9, then 14, or 0.
+fn replay_refusal(
+    ids: &[u32],
+    groups: &[u32],
+    marks: &[u32],
+    levels: &[u32],
+    points: usize,
+    journal: &[u32],
+    room: usize,
+) -> u32
+    ensures { λ r. ⌜ r ≡ replayRefusal points (bookOf (now (ids .entry)) (now (groups .entry)) (now (marks .entry)) (now (levels .entry))) (now (journal .entry)) room ⌝ }
+{
+    if !is_laid_out(journal) {
+        return 16;
+    }
+    if !is_sound(ids, groups, marks, levels, points) {
+        return 9;
+    }
+    if room < count_calls(journal) {
+        return 14;
+    }
+    0
+}
+
+// Makes every call of a journal on the layout, on a sound book, with room for every answer.
+fn run(
+    ids: &mut [u32],
+    groups: &mut [u32],
+    marks: &mut [u32],
+    levels: &mut [u32],
+    points: usize,
+    journal: &[u32],
+    answers: &mut [u32],
+)
+    requires { ⌜ sound points (bookOf (now ids) (now groups) (now marks) (now levels)) ≡ true ⌝ }
+    requires { ⌜ laidOut (now journal) ≡ true ⌝ }
+    requires { ⌜ length (callsOf (now journal)) ≤ length (now answers) ⌝ }
+    ensures { λ _. ⌜ bookOf (now (ids .exit)) (now (groups .exit)) (now (marks .exit)) (now (levels .exit)) ≡ booked (bookOf (now (ids .entry)) (now (groups .entry)) (now (marks .entry)) (now (levels .entry))) (madeFor points (callsOf (now (journal .entry)))) ⌝ }
+    ensures { λ _. ⌜ now (answers .exit) ≡ written (answered (bookOf (now (ids .entry)) (now (groups .entry)) (now (marks .entry)) (now (levels .entry))) (madeFor points (callsOf (now (journal .entry))))) (now (answers .entry)) ⌝ }
+{
+    let mut at = 0;
+    let mut made = 0;
+    while at < journal.len() {
+        let width = width_of(&journal[at..]);
+        let answer = make_call(ids, groups, marks, levels, points, &journal[at..]);
+        answers[made] = answer;
+        made += 1;
+        at += width;
+    }
+}
+
+// Replays a journal: the columns and the answers become those of the sequence of calls.
+pub fn replay(
+    ids: &mut [u32],
+    groups: &mut [u32],
+    marks: &mut [u32],
+    levels: &mut [u32],
+    points: usize,
+    journal: &[u32],
+    answers: &mut [u32],
+) -> u32
+    ensures { λ r. ⌜ Replayed points (bookOf (now (ids .entry)) (now (groups .entry)) (now (marks .entry)) (now (levels .entry))) (now (journal .entry)) (now (answers .entry)) r (bookOf (now (ids .exit)) (now (groups .exit)) (now (marks .exit)) (now (levels .exit))) (now (answers .exit)) ⌝ }
+{
+    let refused = replay_refusal(ids, groups, marks, levels, points, journal, answers.len());
+    if refused != 0 {
+        return refused;
+    }
+    run(ids, groups, marks, levels, points, journal, answers);
+    0
+}

@@ -1,0 +1,113 @@
+-- `wkt::core::print_part` meets its contract. Assumes nothing.
+use mathlib.Core.Path.{_≡_, refl, sym, ap, subst, _∙_}
+use mathlib.Core.Logic.{inl, inr}
+use mathlib.Core.List.{List, _++_}
+use Prim.Native.Nat.{ℕ, _+_, _≤_}
+use native.Mathlib.Omega.{arith}
+use lib.ListN.{length}
+use lib.Seq.{length-take-le}
+use denote.Ref.{now}
+use borrow.Author.Needs.{needs}
+use Rattle.text.specs.Put.{Wrote}
+use Rattle.text.proofs.Puts.{length-wrote, wrote-front, wrote-fits}
+use Rattle.wkt.specs.declared.Cursor.{Cursor}
+use Rattle.wkt.specs.Parts.{Reached, leftOf, pieceOf, nextOf}
+use Rattle.wkt.proofs.Lengths.{piece-short}
+use Rattle.wkt.proofs.Steps.{ahead, Goes, goes}
+use Rattle.wkt.proofs.Rooms.{Come, come-more}
+use Rattle.wkt.proofs.core.print_part.Statement.{statement}
+use Rattle.wkt.proofs.core.print_part.Tie as tie
+
+abbrev Inv-loop : tie.InvT-loop
+Inv-loop levels frame v edges counts closed room₀ piece₀ at₀ size₀ room piece at size = Come levels frame v edges counts closed at₀ room₀ room piece at size
+
+abbrev μ-loop : tie.MeasureT-loop
+μ-loop levels frame v edges counts closed room₀ piece₀ at₀ size₀ room piece at size = ahead edges counts at
+
+-- what the step did: the piece in front of its buffer, and the cursor moved on
+stepped : (c : tie.After-put-step Inv-loop μ-loop) → let a = c .before .before .before .before .before .before .before .before .before .before .args in
+    Goes (now (a .levels)) (a .frame) (a .v) (now (a .edges)) (now (a .counts)) (now (a .closed)) (c .before .before .before .before .loop .at) (c .put-step .result .next) (pieceOf (now (a .levels)) (a .frame) (a .v) (now (a .edges)) (now (a .counts)) (now (a .closed)) (c .before .before .before .before .loop .at))
+stepped c =
+    let s = c .before .before .before .before .before .before .before .before .before .before in
+    let a = s .args in
+    let l = c .before .before .before .before .loop in
+    subst (λ (n : Cursor). Goes (now (a .levels)) (a .frame) (a .v) (now (a .edges)) (now (a .counts)) (now (a .closed)) (l .at) n (pieceOf (now (a .levels)) (a .frame) (a .v) (now (a .edges)) (now (a .counts)) (now (a .closed)) (l .at))) (sym (c .put-step .ensures .0)) (goes (now (a .levels)) (a .frame) (a .v) (now (a .edges)) (now (a .counts)) (now (a .closed)) (s .pre .0) (l .at) (l .inv .reached) (c .before .before .if1 .taken))
+
+whole : (c : tie.After-put-step Inv-loop μ-loop) → length (c .put-step .last .1 .1 .1 .1 .1 .1 .1 .0) ≡ 64
+whole c =
+    let a = c .before .before .before .before .before .before .before .before .before .before .args in
+    let l = c .before .before .before .before .loop in
+    length-wrote (omega (arith, l .inv .whole, piece-short (now (a .levels)) (a .frame) (a .v) (now (a .edges)) (now (a .counts)) (now (a .closed)) (l .at))) (c .put-step .ensures .1) ∙ l .inv .whole
+
+loop-holds : tie.Need-loop-holds Inv-loop μ-loop
+loop-holds c = record { reached = c .before .before .before .before .before .pre .1; whole = search needs; long = refl; fits = search needs; joined = refl; kept = refl }
+
+slice-aggregate-put-step : tie.Need-slice-aggregate-put-step Inv-loop μ-loop
+slice-aggregate-put-step c = search needs
+
+put-step-requires : tie.Need-put-step-requires Inv-loop μ-loop
+put-step-requires c κs = ((c .before .before .before .before .before .before .before .before .before .pre .0, c .before .before .before .loop .inv .reached), (c .before .if1 .taken, omega (arith, c .before .before .before .loop .inv .whole)))
+
+sub-if2 : tie.Need-sub-if2 Inv-loop μ-loop
+sub-if2 c = omega (arith, c .before .before .before .before .before .loop .inv .fits, c .before .before .before .before .before .loop .inv .long)
+
+same-length : tie.Need-same-length Inv-loop μ-loop
+same-length c = search needs
+
+returns : tie.Need-returns Inv-loop μ-loop
+returns c =
+    let i = c .before .before .before .before .before .before .loop .inv in
+    record { joined = i .joined; kept = i .kept; fits = i .fits; reached = i .reached; stopped = inr (omega (arith, c .if2 .taken, c .before .before .put-step .ensures .1 .place, i .long, i .fits)) }
+
+array-share-prefix-piece : tie.Need-array-share-prefix-piece Inv-loop μ-loop
+array-share-prefix-piece c = wrote-fits (c .before .before .before .put-step .ensures .1)
+
+slice-aggregate-put-text : tie.Need-slice-aggregate-put-text Inv-loop μ-loop
+slice-aggregate-put-text c = sym (length-take-le _ _ (wrote-fits (c .before .before .before .before .put-step .ensures .1)))
+
+put-text-requires : tie.Need-put-text-requires Inv-loop μ-loop
+put-text-requires c κs =
+    let i = c .before .before .before .before .before .before .before .before .loop .inv in
+    let w = c .before .before .before .before .put-step .ensures .1 in
+    omega (arith, ap length (wrote-front w), w .place, c .before .before .if2 .left, i .fits, i .long)
+
+loop-less : tie.Need-loop-less Inv-loop μ-loop
+loop-less c = stepped (c .before .before .before .before .before .before .before .before) .nearer
+
+loop-again : tie.Need-loop-again Inv-loop μ-loop
+loop-again c =
+    let a = c .before .before .before .before .before .before .before .before .before .before .before .before .before .before .before .before .before .before .args in
+    let l = c .before .before .before .before .before .before .before .before .before .before .before .before .loop in
+    let w = c .before .before .before .before .before .before .before .before .put-step .ensures .1 in
+    let fits : l .size + length (pieceOf (now (a .levels)) (a .frame) (a .v) (now (a .edges)) (now (a .counts)) (now (a .closed)) (l .at)) ≤ length (l .room) = omega (arith, w .place, c .before .before .before .before .before .before .if2 .left, l .inv .fits, l .inv .long) in
+    come-more (now (a .levels)) (a .frame) (a .v) (now (a .edges)) (now (a .counts)) (now (a .closed)) (a .from) (now (a .room)) (l .room) (l .piece) (l .at) (l .size) (c .before .before .before .before .before .before .before .before .put-step .result .next) (c .before .before .before .before .before .before .before .before .put-step .last .1 .1 .1 .1 .1 .1 .1 .0) (pieceOf (now (a .levels)) (a .frame) (a .v) (now (a .edges)) (now (a .counts)) (now (a .closed)) (l .at)) (c .before .before .before .put-text .last .0) (c .before .before .before .put-text .result)
+    (l .inv) (stepped (c .before .before .before .before .before .before .before .before) .text) (stepped (c .before .before .before .before .before .before .before .before) .reached) (whole (c .before .before .before .before .before .before .before .before)) fits
+    (subst (λ (t : List ℕ). Wrote (l .room) (l .size) t (c .before .before .before .put-text .last .0) (c .before .before .before .put-text .result)) (wrote-front w) (c .before .before .before .put-text .ensures))
+
+same-length-2 : tie.Need-same-length-2 Inv-loop μ-loop
+same-length-2 c = search needs
+
+returns-2 : tie.Need-returns-2 Inv-loop μ-loop
+returns-2 c =
+    let i = c .before .before .loop .inv in
+    record { joined = i .joined; kept = i .kept; fits = i .fits; reached = i .reached; stopped = inl (c .if1 .left) }
+
+pub print-part-spec : {M : Type 1} → statement M
+print-part-spec =
+    tie.close
+    (tie.spec
+    Inv-loop
+    μ-loop
+    loop-holds
+    slice-aggregate-put-step
+    put-step-requires
+    sub-if2
+    same-length
+    returns
+    array-share-prefix-piece
+    slice-aggregate-put-text
+    put-text-requires
+    loop-less
+    loop-again
+    same-length-2
+    returns-2)

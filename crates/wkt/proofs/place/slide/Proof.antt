@@ -1,0 +1,23 @@
+-- `wkt::place::slide` meets its contract. Assumes nothing.
+use mathlib.Core.Path.{_∙_}
+use Rattle.network.proofs.Astride.{num-den}
+use borrow.Author.Needs.{needs}
+use Rattle.wkt.proofs.place.slide.Statement.{statement}
+use Rattle.wkt.proofs.place.slide.Tie as tie
+
+apart-requires : tie.Need-apart-requires
+apart-requires c κs = search needs
+
+apart-requires-2 : tie.Need-apart-requires-2
+apart-requires-2 c κs = search needs
+
+offset-requires : tie.Need-offset-requires
+offset-requires c κs =
+    let s = c .before .before in
+    (s .pre .1, rw (c .before .apart .ensures, c .apart2 .ensures) (num-den (s .args .v) (s .args .a) (s .args .b) (s .pre .0)))
+
+returns : tie.Need-returns
+returns c = c .offset .ensures ∙ rw (c .before .before .apart .ensures, c .before .apart2 .ensures)
+
+pub slide-spec : {M : Type 1} → statement M
+slide-spec = tie.close (tie.spec apart-requires apart-requires-2 offset-requires returns)

@@ -1,0 +1,5 @@
+pub mod Places
+pub mod Text
+pub mod Parts
+pub mod Runs
+pub mod Calls
