@@ -1,5 +1,6 @@
 // The bytes as they come: limits.csv whole, and the register through a buffer of fixed size.
 use libc::STDIN_FILENO;
+ghost use mathlib.Core.Path.{_≡_};
 ghost use Prim.Native.Nat.{_+_, _≤_};
 ghost use lib.ListN.{length};
 ghost use Rattle.io.specs.Counts.{Counts};

@@ -29,11 +29,11 @@ pub fn report(
         b"point,level,limit,verdict,computed,missing\r\n",
     );
     let limit = limits.limits;
-    let mut point = 0;
-    while point < points && point < 8 {
-        let load = load::load_at(ids, groups, marks, levels, points, point, days);
-        point_line(point as u64 + 1, load, limit[point]);
-        point += 1;
+    for point in 0..8 {
+        if point < points {
+            let load = load::load_at(ids, groups, marks, levels, points, point, days);
+            point_line(point as u64 + 1, load, limit[point]);
+        }
     }
 }
 
