@@ -5,4 +5,3 @@ pub mod Borders
 pub mod Buffers
 pub mod Rows
 pub mod Handing
-pub mod Worked
