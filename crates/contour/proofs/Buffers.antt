@@ -1,14 +1,14 @@
 -- Buffers filled from the front, one number at a time. Assumes nothing.
 use mathlib.Core.Path.{_≡_, refl, sym, ap, _∙_, subst}
 use mathlib.Core.Bool.{Bool, true, _&&_}
-use mathlib.Core.List.{List, [], _∷_, _++_, append-assoc, append-nil}
+use mathlib.Core.List.{List, [], _∷_, _++_, append-assoc}
 use Prim.Native.Nat.{ℕ, suc, _+_, _-_, _≤_, _<_}
 use native.Mathlib.Numerals.{add-one}
 use native.Mathlib.Omega.{arith}
 use borrow.Author.Tests.{leb-true}
 use lib.Dec.{leb}
 use lib.ListN.{length, getD, take, drop, set}
-use lib.Seq.{drop-cons, take-suc, set-at, length-take-le, drop-length}
+use lib.Seq.{drop-cons, take-suc, set-at, length-take-le}
 use Rattle.network.proofs.Refusals.{both}
 use Rattle.lines.specs.Picture.{Picture}
 use Rattle.lines.specs.Crossings.{crossedAt}
@@ -31,9 +31,6 @@ crossed-more g d n x h e =
 pub crossed-none : (g : Picture) (d : List ℕ) → d ≡ crossedTo g 0 ++ drop 0 d
 unfolding crossedTo
 crossed-none g d = refl
-
-pub crossed-all : (g : Picture) (d l : List ℕ) (n : ℕ) → n ≡ length d → l ≡ crossedTo g n ++ drop n d → l ≡ crossedTo g n
-crossed-all g d l n e h = h ∙ rw (e, drop-length, append-nil)
 
 -- two numbers at the front
 pub front-two : (b : List ℕ) (x y : ℕ) → 2 ≤ length b → set (set b 0 x) 1 y ≡ front (x ∷ y ∷ []) b

@@ -9,7 +9,7 @@ use lib.ListN.{length, take}
 use lib.Seq.{take-at}
 use Rattle.lines.specs.Contours.{Contour, edgesOf, countsOf, closedOf}
 use Rattle.lines.proofs.Sums.{length-counts, length-closed}
-use Rattle.contour.specs.Answers.{front, fits, handedOut, contoursOut, Leaves}
+use Rattle.contour.specs.Answers.{Outcome, front, fits, handedOut, contoursOut, Leaves}
 use Rattle.contour.specs.Desk.{Listed}
 
 -- into the caller's buffers, which had room
@@ -32,3 +32,7 @@ apart cs e₀ c₀ d₀ all-edges all-counts all-closed at made l r e c d s e' c
     let q : take made all-counts ≡ countsOf cs = ap (take made) (l .the-counts) ∙ take-at (countsOf cs) _ made (length-counts cs ∙ sym (l .contours)) in
     let o : take made all-closed ≡ closedOf cs = ap (take made) (l .the-closed) ∙ take-at (closedOf cs) _ made (length-closed cs ∙ sym (l .contours)) in
     rw (← p, ← q, ← o) h
+
+-- two outcomes that satisfy the contract are equal: the answer and each buffer
+pub same-outcome : {o : Outcome} {r r' : ℕ} {e c d s e' c' d' s' : List ℕ} → Leaves o r e c d s → Leaves o r' e' c' d' s' → (r ≡ r') × ((e ≡ e') × ((c ≡ c') × ((d ≡ d') × (s ≡ s'))))
+same-outcome p q = (p .answers ∙ sym (q .answers), (p .the-edges ∙ sym (q .the-edges), (p .the-counts ∙ sym (q .the-counts), (p .the-closed ∙ sym (q .the-closed), p .the-sizes ∙ sym (q .the-sizes)))))

@@ -4,6 +4,7 @@ use mathlib.Core.Bool.{Bool, true, false, _&&_, _||_, cond}
 use mathlib.Core.List.{List, [], _∷_, _++_, append-assoc}
 use Prim.Native.Nat.{ℕ, zero, suc, _+_, _-_, _≤_, _<_}
 use native.Mathlib.Numerals.{add-one}
+use native.Mathlib.Nat.{add-zero, add-suc}
 use native.Mathlib.Omega.{arith}
 use lib.ListN.{length, take, drop, set, length-set, length-append, length-drop}
 use lib.Seq.{drop-cons, set-at, take-at, drop-append-add, drop-drop, length-take-le}
@@ -16,7 +17,7 @@ use Rattle.lines.proofs.Waiting.{clash, stays-out, length-without, waiting-with
 use Rattle.lines.proofs.Sums.{edges-append, counts-append, closed-append, length-counts, length-closed}
 use Rattle.contour.specs.Answers.{front}
 use Rattle.contour.specs.Walk.{OnlyCrossed, written, Traced}
-use Rattle.contour.specs.Desk.{Desk, desk, Holds, Room, Grows, Listed, added, tried, sweeping}
+use Rattle.contour.specs.Desk.{Desk, desk, Holds, Room, Grows, Sweeps, Listed, added, tried}
 
 -- ---- the front of a buffer
 
@@ -131,13 +132,53 @@ module _ (g : Picture) (closes : Bool) (n : ℕ) (d : Desk) where
 -- ---- a sweep
 
 module _ (g : Picture) (closes : Bool) where
-  pub sweep-begins : (d : Desk) → Room g d → Grows g (sweeping g closes 0) d d
-  unfolding swept
-  sweep-begins d r = record { room = r; holds = λ l old h. h }
+  pub sweep-begins : (n : ℕ) (d : Desk) → Room g d → Sweeps g closes n n d d
+  sweep-begins n d r = record { room = r; holds = λ l old h. h }
 
-  pub sweep-goes-on : (n : ℕ) (d₀ d d' : Desk) → Grows g (sweeping g closes n) d₀ d → Grows g (tried g closes n) d d' → Grows g (sweeping g closes (n + 1)) d₀ d'
+  pub sweep-goes-on : (from n : ℕ) (d₀ d d' : Desk) → Sweeps g closes from n d₀ d → Grows g (tried g closes n) d d' → Sweeps g closes from (n + 1) d₀ d'
   unfolding swept
-  sweep-goes-on n d₀ d d' i j = rw add-one (record { room = j .room; holds = λ l old h. j .holds (swept g closes l n) old (i .holds l old h) })
+  sweep-goes-on from n d₀ d d' i j = rw add-one (record { room = j .room; holds = λ l old h. j .holds (swept g closes l n) old (i .holds l old h) })
+
+  pub sweep-joins : (from n to : ℕ) (d₀ d d' : Desk) → Sweeps g closes from n d₀ d → Sweeps g closes n to d d' → Sweeps g closes from to d₀ d'
+  sweep-joins from n to d₀ d d' i j = record { room = j .room; holds = λ l old h. j .holds l old (i .holds l old h) }
+
+-- edges that don't wait may be passed over
+pub none-wait : (g : Picture) (closes : Bool) (l : Listing) (n k : ℕ) → ((m : ℕ) → n ≤ m → m < n + k → waits (swept g closes l n .list) m ≡ false) → swept g closes l (n + k) ≡ swept g closes l n
+unfolding swept
+none-wait g closes l n zero h = ap (swept g closes l) (add-zero n)
+none-wait g closes l n (suc k) h =
+    let i : swept g closes l (n + k) ≡ swept g closes l n = none-wait g closes l n k (λ m p q. h m p (omega arith)) in
+    ap (swept g closes l) (add-suc n k) ∙ ap (λ (x : Listing). try g closes x (n + k)) i
+    ∙ ap (λ (b : Bool). cond b (added g closes (n + k) (swept g closes l n)) (swept g closes l n)) (ap (λ (b : Bool). (closes || entersAt g (n + k)) && b) (h (n + k) (omega arith) (omega arith)) ∙ and-false (closes || entersAt g (n + k)))
+  where
+    and-false : (a : Bool) → (a && false) ≡ false
+    and-false true = refl
+    and-false false = refl
+
+pub sweep-waits : (g : Picture) (closes : Bool) (from n to : ℕ) (d₀ d : Desk) → n ≤ to → ((m : ℕ) → n ≤ m → m < to → waits (d .list) m ≡ false) → Sweeps g closes from n d₀ d → Sweeps g closes from to d₀ d
+sweep-waits g closes from n to d₀ d h f i =
+    let e : n + (to - n) ≡ to = omega arith in
+    record {
+      room = i .room;
+      holds = λ l old k.
+          let j = i .holds l old k in
+          subst (λ (x : Listing). Holds x old d) (sym (none-wait g closes l n (to - n) (λ m p q. ap (λ (x : List ℕ). waits x m) (sym (j .the-list)) ∙ f m p (omega (arith, e)))) ∙ ap (swept g closes l) e) j;
+    }
+
+-- edges where no contour enters may be passed over
+pub none-enter : (g : Picture) (l : Listing) (n k : ℕ) → ((m : ℕ) → n ≤ m → m < n + k → entersAt g m ≡ false) → swept g false l (n + k) ≡ swept g false l n
+unfolding swept
+none-enter g l n zero h = ap (swept g false l) (add-zero n)
+none-enter g l n (suc k) h =
+    rw (add-suc n k, h (n + k) (omega arith) (omega arith)) (none-enter g l n k (λ m p q. h m p (omega arith)))
+
+pub sweep-skips : (g : Picture) (from n to : ℕ) (d₀ d : Desk) → n ≤ to → ((m : ℕ) → n ≤ m → m < to → entersAt g m ≡ false) → Sweeps g false from n d₀ d → Sweeps g false from to d₀ d
+sweep-skips g from n to d₀ d h f i =
+    let e : n + (to - n) ≡ to = omega arith in
+    record {
+      room = i .room;
+      holds = λ l old k. subst (λ (x : Listing). Holds x old d) (sym (none-enter g l n (to - n) (λ m p q. f m p (omega (arith, e)))) ∙ ap (swept g false l) e) (i .holds l old k);
+    }
 
 -- before anything is listed
 pub none-held : (g : Picture) (list edges counts closed : List ℕ) → list ≡ crossedTo g (edgesIn g) → Holds (noneListed g) (desk list edges counts closed 0 0) (desk list edges counts closed 0 0)

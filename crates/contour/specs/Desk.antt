@@ -1,12 +1,12 @@
 -- The buffers while contours are listed, and what they hold. Assumes nothing.
 use mathlib.Core.Path.{_≡_}
-use mathlib.Core.Bool.{Bool}
+use mathlib.Core.Bool.{Bool, false}
 use mathlib.Core.List.{List}
-use Prim.Native.Nat.{ℕ, _+_, _≤_}
+use Prim.Native.Nat.{ℕ, _+_, _≤_, _<_}
 use lib.ListN.{length}
 use Rattle.lines.specs.Picture.{Picture}
 use Rattle.lines.specs.Crossings.{edgesIn}
-use Rattle.lines.specs.Contours.{Contour, Listing, waiting, contourFrom, add, try, swept, edgesOf, countsOf, closedOf}
+use Rattle.lines.specs.Contours.{Contour, Listing, waits, waiting, contourFrom, add, try, swept, edgesOf, countsOf, closedOf}
 use Rattle.contour.specs.Answers.{front}
 use Rattle.contour.specs.Walk.{OnlyCrossed}
 
@@ -44,15 +44,23 @@ pub record Grows (g : Picture) (f : Listing → Listing) (d d' : Desk) : Type 0 
   pub room : Room g d'
   pub holds : (l : Listing) (old : Desk) → Holds l old d → Holds (f l) old d'
 
--- such changes: the contour from n added, an edge tried, all edges below n tried
+-- such changes: the contour from n added, an edge tried
 abbrev pub added : Picture → Bool → ℕ → Listing → Listing
 added g closes n l = add closes l (contourFrom g (l .list) n)
 
 abbrev pub tried : Picture → Bool → ℕ → Listing → Listing
 tried g closes n l = try g closes l n
 
-abbrev pub sweeping : Picture → Bool → ℕ → Listing → Listing
-sweeping g closes n l = swept g closes l n
+-- the edges from one number to before another were tried: what the edges below the first gave became what those below the second give
+pub record Sweeps (g : Picture) (closes : Bool) (from to : ℕ) (d d' : Desk) : Type 0 where
+  pub room : Room g d'
+  pub holds : (l : Listing) (old : Desk) → Holds (swept g closes l from) old d → Holds (swept g closes l to) old d'
+
+-- none of the edges from `from` to before r waits
+pub record FirstWaiting (list : List ℕ) (from last r : ℕ) : Type 0 where
+  pub low : from ≤ r
+  pub high : r ≤ last
+  pub none : (m : ℕ) → from ≤ m → m < r → waits list m ≡ false
 
 -- these contours were listed at the fronts of buffers, which had room for them
 pub record Listed (cs : List Contour) (edges counts closed edges' counts' closed' : List ℕ) (at made : ℕ) : Type 0 where

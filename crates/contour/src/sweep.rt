@@ -1,13 +1,14 @@
 // Contours listed one after the other, each from the edge where it starts.
 ghost use mathlib.Core.Path.{_≡_};
-ghost use mathlib.Core.Bool.{_&&_, _||_, true};
-ghost use Prim.Native.Nat.{_<_, _≤_};
+ghost use mathlib.Core.Bool.{_&&_, _||_, true, false};
+ghost use Prim.Native.Nat.{_+_, _-_, _<_, _≤_};
 ghost use lib.ListN.{length};
-ghost use Rattle.network.specs.Edges.{Sides, Sized, WithinEdge, edges as edgeCount};
+ghost use Rattle.network.specs.Edges.{Sized, WithinEdge, numberOf, edges as edgeCount};
+ghost use Rattle.network.specs.declared.Edge.the-variants.{Vertical};
 ghost use Rattle.lines.specs.Picture.{picture};
 ghost use Rattle.lines.specs.Crossings.{firstIn, acrossOf, aheadOf, edgeOf, isOutside, entersAt};
 ghost use Rattle.lines.specs.Contours.{bit, waits, crossedTo, allListed};
-ghost use Rattle.contour.specs.Desk.{desk, Room, Grows, Holds, added, tried, sweeping};
+ghost use Rattle.contour.specs.Desk.{desk, Room, Grows, Sweeps, FirstWaiting, Holds, added, tried};
 use crate::core::Progress;
 use crate::walk;
 use crate::walk::Stand;
@@ -83,8 +84,8 @@ fn starts_here(
     requires { ⌜ Sized (now levels) nx ny × (n < edgeCount nx ny) ⌝ }
     ensures { λ r. ⌜ r ≡ ((closes || entersAt (picture (now (levels .entry)) nx ny v) n) && waits (now (list .entry)) n) ⌝ }
 {
-    if may_start(levels, nx, ny, v, closes, n) {
-        return walk::still_waits(list, n);
+    if walk::still_waits(list, n) {
+        return may_start(levels, nx, ny, v, closes, n);
     }
     false
 }
@@ -170,13 +171,118 @@ fn try_edge(
     so_far
 }
 
-// Tries each edge in turn as the start of a contour: of an open one, or, once those are listed, of a closed one.
-fn sweep_edges(
+// The first edge from `from` on that waits, or `last` where none before that does.
+fn first_waiting(list: &[u8], from: usize, last: usize) -> usize
+    requires { ⌜ (from ≤ last) × (last < length (now list)) ⌝ }
+    ensures { λ r. ⌜ FirstWaiting (now (list .entry)) from last r ⌝ }
+{
+    let mut n = from;
+    while n < last {
+        if list[n] == 1 {
+            return n;
+        }
+        n += 1;
+    }
+    n
+}
+
+// Tries the edges from one number to before another as starts of contours, those that don't wait passed over.
+fn sweep_range(
     levels: &[u32],
     nx: usize,
     ny: usize,
     v: u32,
     closes: bool,
+    from: usize,
+    to: usize,
+    list: &mut [u8],
+    edges: &mut [u32],
+    counts: &mut [u32],
+    closed: &mut [u32],
+    before: Progress,
+) -> Progress
+    requires { ⌜ Sized (now levels) nx ny × ((from ≤ to) × ((to ≤ edgeCount nx ny)
+        × Room (picture (now levels) nx ny v) (desk (now list) (now edges) (now counts) (now closed) (before .edges) (before .contours)))) ⌝ }
+    ensures { λ r. ⌜ Sweeps (picture (now (levels .entry)) nx ny v) closes from to
+        (desk (now (list .entry)) (now (edges .entry)) (now (counts .entry)) (now (closed .entry)) (before .edges) (before .contours))
+        (desk (now (list .exit)) (now (edges .exit)) (now (counts .exit)) (now (closed .exit)) (r .edges) (r .contours)) ⌝ }
+{
+    let mut so_far = before;
+    let mut n = from;
+    while n < to {
+        let here = first_waiting(list, n, to - 1);
+        so_far = try_edge(
+            levels,
+            nx,
+            ny,
+            v,
+            closes,
+            here,
+            list,
+            edges,
+            counts,
+            closed,
+            so_far,
+        );
+        n = here + 1;
+    }
+    so_far
+}
+
+// Tries the first and the last edge of those from a row up to the next as starts of open contours: the others are not on the border.
+fn sweep_ends(
+    levels: &[u32],
+    nx: usize,
+    ny: usize,
+    v: u32,
+    row: usize,
+    list: &mut [u8],
+    edges: &mut [u32],
+    counts: &mut [u32],
+    closed: &mut [u32],
+    before: Progress,
+) -> Progress
+    requires { ⌜ Sized (now levels) nx ny × ((row + 1 < ny)
+        × Room (picture (now levels) nx ny v) (desk (now list) (now edges) (now counts) (now closed) (before .edges) (before .contours))) ⌝ }
+    ensures { λ r. ⌜ Sweeps (picture (now (levels .entry)) nx ny v) false (numberOf nx ny (Vertical row 0)) (numberOf nx ny (Vertical (row + 1) 0))
+        (desk (now (list .entry)) (now (edges .entry)) (now (counts .entry)) (now (closed .entry)) (before .edges) (before .contours))
+        (desk (now (list .exit)) (now (edges .exit)) (now (counts .exit)) (now (closed .exit)) (r .edges) (r .contours)) ⌝ }
+{
+    let west = ny * (nx - 1) + row * nx;
+    let first = try_edge(
+        levels,
+        nx,
+        ny,
+        v,
+        false,
+        west,
+        list,
+        edges,
+        counts,
+        closed,
+        before,
+    );
+    try_edge(
+        levels,
+        nx,
+        ny,
+        v,
+        false,
+        west + (nx - 1),
+        list,
+        edges,
+        counts,
+        closed,
+        first,
+    )
+}
+
+// The same for all rows: the west and the east border.
+fn sweep_sides(
+    levels: &[u32],
+    nx: usize,
+    ny: usize,
+    v: u32,
     list: &mut [u8],
     edges: &mut [u32],
     counts: &mut [u32],
@@ -185,30 +291,88 @@ fn sweep_edges(
 ) -> Progress
     requires { ⌜ Sized (now levels) nx ny
         × Room (picture (now levels) nx ny v) (desk (now list) (now edges) (now counts) (now closed) (before .edges) (before .contours)) ⌝ }
-    ensures { λ r. ⌜ Grows (picture (now (levels .entry)) nx ny v) (sweeping (picture (now (levels .entry)) nx ny v) closes (edgeCount nx ny))
+    ensures { λ r. ⌜ Sweeps (picture (now (levels .entry)) nx ny v) false (numberOf nx ny (Vertical 0 0)) (numberOf nx ny (Vertical (ny - 1) 0))
         (desk (now (list .entry)) (now (edges .entry)) (now (counts .entry)) (now (closed .entry)) (before .edges) (before .contours))
         (desk (now (list .exit)) (now (edges .exit)) (now (counts .exit)) (now (closed .exit)) (r .edges) (r .contours)) ⌝ }
 {
-    let total = network::core::edge_count(nx, ny);
     let mut so_far = before;
-    let mut n = 0;
-    while n < total {
-        so_far = try_edge(
-            levels,
-            nx,
-            ny,
-            v,
-            closes,
-            n,
-            list,
-            edges,
-            counts,
-            closed,
-            so_far,
-        );
-        n += 1;
+    let mut row = 0;
+    while row + 1 < ny {
+        so_far = sweep_ends(levels, nx, ny, v, row, list, edges, counts, closed, so_far);
+        row += 1;
     }
     so_far
+}
+
+// Tries the edges along the rows as starts of open contours: of these the south and the north row are on the border.
+fn sweep_rows(
+    levels: &[u32],
+    nx: usize,
+    ny: usize,
+    v: u32,
+    list: &mut [u8],
+    edges: &mut [u32],
+    counts: &mut [u32],
+    closed: &mut [u32],
+    none: Progress,
+) -> Progress
+    requires { ⌜ Sized (now levels) nx ny
+        × Room (picture (now levels) nx ny v) (desk (now list) (now edges) (now counts) (now closed) (none .edges) (none .contours)) ⌝ }
+    ensures { λ r. ⌜ Sweeps (picture (now (levels .entry)) nx ny v) false 0 (numberOf nx ny (Vertical 0 0))
+        (desk (now (list .entry)) (now (edges .entry)) (now (counts .entry)) (now (closed .entry)) (none .edges) (none .contours))
+        (desk (now (list .exit)) (now (edges .exit)) (now (counts .exit)) (now (closed .exit)) (r .edges) (r .contours)) ⌝ }
+{
+    let wide = nx - 1;
+    let south = sweep_range(
+        levels,
+        nx,
+        ny,
+        v,
+        false,
+        0,
+        wide,
+        list,
+        edges,
+        counts,
+        closed,
+        none,
+    );
+    sweep_range(
+        levels,
+        nx,
+        ny,
+        v,
+        false,
+        (ny - 1) * wide,
+        ny * wide,
+        list,
+        edges,
+        counts,
+        closed,
+        south,
+    )
+}
+
+// Lists the open contours, which start on the border.
+fn list_open(
+    levels: &[u32],
+    nx: usize,
+    ny: usize,
+    v: u32,
+    list: &mut [u8],
+    edges: &mut [u32],
+    counts: &mut [u32],
+    closed: &mut [u32],
+    none: Progress,
+) -> Progress
+    requires { ⌜ Sized (now levels) nx ny
+        × Room (picture (now levels) nx ny v) (desk (now list) (now edges) (now counts) (now closed) (none .edges) (none .contours)) ⌝ }
+    ensures { λ r. ⌜ Sweeps (picture (now (levels .entry)) nx ny v) false 0 (edgeCount nx ny)
+        (desk (now (list .entry)) (now (edges .entry)) (now (counts .entry)) (now (closed .entry)) (none .edges) (none .contours))
+        (desk (now (list .exit)) (now (edges .exit)) (now (counts .exit)) (now (closed .exit)) (r .edges) (r .contours)) ⌝ }
+{
+    let along = sweep_rows(levels, nx, ny, v, list, edges, counts, closed, none);
+    sweep_sides(levels, nx, ny, v, list, edges, counts, closed, along)
 }
 
 // Lists the open contours and then the closed ones, where the crossed edges wait.
@@ -233,6 +397,20 @@ pub(crate) fn list_all(
         edges: 0,
         contours: 0,
     };
-    let open = sweep_edges(levels, nx, ny, v, false, list, edges, counts, closed, none);
-    sweep_edges(levels, nx, ny, v, true, list, edges, counts, closed, open)
+    let open = list_open(levels, nx, ny, v, list, edges, counts, closed, none);
+    let total = network::core::edge_count(nx, ny);
+    sweep_range(
+        levels,
+        nx,
+        ny,
+        v,
+        true,
+        0,
+        total,
+        list,
+        edges,
+        counts,
+        closed,
+        open,
+    )
 }

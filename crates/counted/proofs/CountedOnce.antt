@@ -25,7 +25,7 @@ use Rattle.counted.specs.Tally.{sumOf, tally, listFrom}
 use Rattle.counted.specs.Factors.{sumTo, scaledBy, known, unknown, knownSum, unknownSum, groupFactor, generalFactor}
 use Rattle.counted.specs.Load.{countsOf, scaledEnergy, scaledSum, totalOf, daysFit, noneComputed, loadRefusal, answer, refusedLoad, loadOf, bookLoad}
 use Rattle.counted.specs.Verdict.{verdictRefusal, judged, judgedOf, bookVerdict}
-use Rattle.counted.specs.Afresh.{listLoad, listVerdict, someComputed, computedIn, missingIn, energyOfGroup, countsAt, CountsEach}
+use Rattle.counted.specs.Afresh.{listLoad, listVerdict, someComputed, computedIn, missingIn, energyOfGroup, countsAt, CountsEach, EachCountedOnce}
 use Rattle.counted.proofs.SumLaws.{sum-ext}
 use Rattle.counted.proofs.FactorLaws.{known-same, general-same, weights-all}
 use Rattle.counted.proofs.TallyLaws.{counts, AllGrouped, counted-all, all-standing, some-known}
@@ -112,32 +112,31 @@ module _ (p pt n : ℕ) (cs : List Made) where
       go true false e = same _ _
       go true true e = ap (k true) (history-shares p pt n cs (ltb-true pt p e))
 
-  -- (b) load and verdict are those worked afresh
-  pub load-afresh : (days : ℕ) → bookLoad p pt (booked (emptyBook p n) cs) days ≡ listLoad p n pt (movements p n cs) days
+  load-afresh : (days : ℕ) → bookLoad p pt book days ≡ listLoad p n pt (movements p n cs) days
   unfolding bookLoad listLoad loadOf loadRefusal
   load-afresh days = afresh (λ t ss. loadOf t ss days) (λ xs ys. refl)
 
-  pub verdict-afresh : (days limit : ℕ)
-      → bookVerdict p pt (booked (emptyBook p n) cs) days limit ≡ listVerdict p n pt (movements p n cs) days limit
+  verdict-afresh : (days limit : ℕ) → bookVerdict p pt book days limit ≡ listVerdict p n pt (movements p n cs) days limit
   unfolding bookVerdict listVerdict judgedOf judged verdictRefusal
   verdict-afresh days limit = afresh (λ t ss. judgedOf t ss days limit) (λ xs ys. refl)
 
-  -- (a) and (c) a load that is not refused counts every movement once
-  pub counted-once : (days : ℕ) → bookLoad p pt (booked (emptyBook p n) cs) days .refused ≡ 0
-      → CountsEach (bookLoad p pt (booked (emptyBook p n) cs) days) pt (movements p n cs)
+  counts-each : (days : ℕ) → bookLoad p pt book days .refused ≡ 0 → CountsEach (bookLoad p pt book days) pt (movements p n cs)
   unfolding listLoad
-  counted-once days z =
+  counts-each days z =
       let ss = sharesOf pt (movements p n cs) in
       let fits = sizesFit p n && ltb pt p in
       let e = load-afresh days ∙ load-answered fits ss days (rw (load-afresh days) at z) in
       subst (λ (a : Load). CountsEach a pt (movements p n cs)) (sym e) (answer-counts pt (movements p n cs) days (history-grouped p pt n cs))
 
-  -- and where one is computed, it is not refused
-  pub never-dropped : (days : ℕ) → sizesFit p n ≡ true → pt < p → daysFit days ≡ true → someComputed (movements p n cs) ≡ true
-      → bookLoad p pt (booked (emptyBook p n) cs) days .refused ≡ 0
+  never-refused : (days : ℕ) → sizesFit p n ≡ true → pt < p → daysFit days ≡ true → someComputed (movements p n cs) ≡ true
+      → bookLoad p pt book days .refused ≡ 0
   unfolding listLoad loadOf loadRefusal noneComputed answer
-  never-dropped days sizes there fit some =
+  never-refused days sizes there fit some =
       rw (load-afresh days, sizes, lt-ltb pt p there, fit, shares-computed pt (movements p n cs), some) refl
+
+  pub counted-once : (days : ℕ) → EachCountedOnce p n pt cs days
+  counted-once days =
+      record { afresh = load-afresh days; verdict = verdict-afresh days; answered = never-refused days; counts = counts-each days }
 
 -- a book with no movement: total 0, and below zero
 pub no-movement : (days : ℕ) → daysFit days ≡ true → loadOf true [] days ≡ refusedLoad 0

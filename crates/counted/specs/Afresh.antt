@@ -10,15 +10,15 @@ use Rattle.level.specs.Energy.{energyOf}
 use Rattle.movement.specs.Limits.{groupCount}
 use Rattle.movement.specs.Period.{weightOf}
 use Rattle.movement.specs.Group.{groupPeriod}
-use Rattle.book.specs.History.{Held, Movement, sizesFit, hasLevels}
+use Rattle.book.specs.History.{Held, Movement, sizesFit, hasLevels, Made, emptyBook, booked, movements}
 use Rattle.book.specs.History.Held.{none, holds}
 use Rattle.counted.specs.declared.Counts.{Counts}
 use Rattle.counted.specs.declared.Load.{Load}
 use Rattle.counted.specs.declared.Judged.{Judged}
 use Rattle.counted.specs.Shares.{sharesOf}
 use Rattle.counted.specs.Factors.{Fraction, whole, times, plus, Equal, sumTo, scaledBy, groupFactor, generalFactor}
-use Rattle.counted.specs.Load.{loadOf}
-use Rattle.counted.specs.Verdict.{judgedOf}
+use Rattle.counted.specs.Load.{daysFit, loadOf, bookLoad}
+use Rattle.counted.specs.Verdict.{judgedOf, bookVerdict}
 
 -- the load and the verdict at point pt of movements in a book of n rows and p points
 unfoldable pub listLoad : (p n pt : ℕ) → List Movement → (days : ℕ) → Load
@@ -77,3 +77,15 @@ pub record CountsEach (a : Load) (pt : ℕ) (ms : List Movement) : Type 0 where
   -- and its total is their energy times those very factors, each product rounded down
   pub energy : a .total
       ≡ scaledBy (generalFactor (countsAt a)) (sumTo (λ g. scaledBy (groupFactor (countsAt a g)) (energyOfGroup pt g ms)) groupCount)
+
+-- Demand 3, after any calls cs, refused ones included, on an empty book of n rows and p points
+pub record EachCountedOnce (p n pt : ℕ) (cs : List Made) (days : ℕ) : Type 0 where
+  -- load and verdict are those worked afresh from the list of movements
+  pub afresh : bookLoad p pt (booked (emptyBook p n) cs) days ≡ listLoad p n pt (movements p n cs) days
+  pub verdict : (limit : ℕ) → bookVerdict p pt (booked (emptyBook p n) cs) days limit ≡ listVerdict p n pt (movements p n cs) days limit
+  -- where one is computed, the load is not refused
+  pub answered : sizesFit p n ≡ true → pt < p → daysFit days ≡ true → someComputed (movements p n cs) ≡ true
+      → bookLoad p pt (booked (emptyBook p n) cs) days .refused ≡ 0
+  -- and one that is not refused counts each movement
+  pub counts : bookLoad p pt (booked (emptyBook p n) cs) days .refused ≡ 0
+      → CountsEach (bookLoad p pt (booked (emptyBook p n) cs) days) pt (movements p n cs)

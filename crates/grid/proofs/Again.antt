@@ -1,17 +1,17 @@
 -- The other way round: a text that is read, and doesn't name the no-data value, gives, written again, the same lines, each with its
 -- CRLF; so a text that ends in CRLF gives the same bytes. Assumes nothing.
-use Prim.Native.Nat.{ℕ, zero, suc, _+_, _-_, _*_, _≤_, _<_}
+use Prim.Native.Nat.{ℕ, zero, suc, _+_, _*_, _≤_}
 use mathlib.Core.Path.{_≡_, refl, sym, ap, _∙_}
 use mathlib.Core.List.{List, [], _∷_, _++_, map}
-use mathlib.Core.Bool.{Bool, true, false, cond, _&&_, _||_, not, and-false, true≢false}
-use native.Mathlib.Nat.{suc-mul, zero-mul, mul-le-mul-right}
+use mathlib.Core.Bool.{Bool, true, false, _&&_, _||_, and-false, true≢false}
+use native.Mathlib.Nat.{suc-mul}
 use native.Mathlib.Omega.{arith}
-use borrow.Author.Tests.{eqb-true, eqb-false, leb-true, ltb-true, ltb-false, not-true, not-false}
+use borrow.Author.Tests.{eqb-true, ltb-true, ltb-false, not-true}
 use lib.Dec.{eqb, leb, ltb}
-use lib.ListN.{length, getD, take, drop, length-append, length-drop, take-append-drop, List·getD-eq-default}
-use lib.Seq.{take-append-seam, drop-append-seam, drop-append-le, take-append-le, take-all, drop-at}
+use lib.ListN.{length, getD, take, drop, length-drop, take-append-drop}
+use lib.Seq.{drop-append-le, take-append-le, take-all, drop-at}
 use Rattle.refusal.proofs.Laws.{and-left, and-right, refuse-none}
-use Rattle.text.specs.Number.{wholeOf, levelOf, isGot, valueOf, showWhole, showLevel}
+use Rattle.text.specs.Number.{wholeOf, levelOf, isGot, valueOf, showLevel}
 use Rattle.text.specs.Field.{joinedBy}
 use Rattle.text.specs.Line.{onto, linesOf}
 use Rattle.text.specs.Same.{sameText}
@@ -25,9 +25,9 @@ use Rattle.refusal.specs.Range.{allWithin}
 use Rattle.network.specs.Limits.{mostLevel}
 use Rattle.network.specs.Refusals.{sided, placed, filled, checked}
 use Rattle.grid.specs.Row.{all, valuesOf, given, isValue, isRow, hasValues, rowGiven, levelIn, rowLevels, levelsOf}
-use Rattle.grid.specs.File.{ncols, nrows, xllcenter, yllcenter, cellsize, unnamed, begins, numberAfter, numberAt, names, sixth, headOn, namedOn, frameOf, noDataOf, rowsOf, firstOff, faultLine, rowsFit}
+use Rattle.grid.specs.File.{ncols, nrows, xllcenter, yllcenter, cellsize, unnamed, begins, numberAfter, names, sixth, headOn, namedOn, frameOf, noDataOf, rowsOf, firstOff, faultLine, rowsFit}
 use Rattle.grid.specs.Read.{headerSize, textFrame, textLevels, linesRefusal, readRefusal}
-use Rattle.grid.specs.Write.{keyLine, headLines, rowLine, rowAt, rowLines, textOf, networkLines, showNetwork}
+use Rattle.grid.specs.Write.{keyLine, headLines, rowLine, rowLines, textOf, networkLines, showNetwork}
 use Rattle.grid.proofs.ValueLaws.{all-cons}
 use Rattle.grid.proofs.StoreLaws.{length-levels, levels-length}
 use Rattle.grid.proofs.FileLaws.{off-append, off-keep}

@@ -1,12 +1,12 @@
 -- A network that can be written, written and read again, is the same network. Assumes nothing.
-use Prim.Native.Nat.{ℕ, zero, suc, _+_, _-_, _*_, _≤_, _<_}
+use Prim.Native.Nat.{ℕ, zero, suc, _+_, _*_, _≤_}
 use mathlib.Core.Path.{_≡_, refl, sym, ap, _∙_}
-use mathlib.Core.List.{List, [], _∷_, _++_, map}
-use mathlib.Core.Bool.{Bool, true, false, cond, _&&_}
-use native.Mathlib.Nat.{suc-mul, zero-mul, mul-le-mul-right}
+use mathlib.Core.List.{List, [], _∷_, map}
+use mathlib.Core.Bool.{Bool, true, false}
+use native.Mathlib.Nat.{suc-mul, zero-mul}
 use native.Mathlib.Omega.{arith}
 use borrow.Author.Tests.{eq-eqb, eqb-true, eqb-false, le-leb}
-use lib.Dec.{eqb, leb}
+use lib.Dec.{eqb}
 use lib.ListN.{length, getD, take, drop, length-drop, length-map}
 use lib.Seq.{take-add, take-all, take-at, length-take-le}
 use Rattle.text.specs.Number.{showLevel}
@@ -15,14 +15,14 @@ use Rattle.text.specs.Line.{linesOf}
 use Rattle.text.specs.declared.number.Number.the-variants.{Got}
 use Rattle.text.proofs.Digits.{either}
 use Rattle.refusal.proofs.Laws.{and-left, and-right}
-use Rattle.network.specs.Edges.{Checked, Sized}
+use Rattle.network.specs.Edges.{Checked}
 use Rattle.network.specs.Refusals.{networkRefusal}
 use Rattle.network.specs.declared.Frame.{Frame}
 use Rattle.network.proofs.Refusals.{not-refused, checked-on, checked-off}
 use Rattle.grid.specs.Row.{all, valuesOf, isRow, hasValues, rowGiven, rowLevels, levelsOf}
 use Rattle.grid.specs.File.{ncols, nrows, xllcenter, yllcenter, cellsize, numberAt, unnamed, names, sixth, headOn, namedOn, frameOf, noDataOf, rowsOf, firstOff, faultLine, rowsFit}
 use Rattle.grid.specs.Read.{over, numbersOf, headerSize, textFrame, textLevels, linesRefusal, readRefusal, headerAfter, levelsAfter}
-use Rattle.grid.specs.Write.{headLines, rowLine, rowAt, rowLines, textOf, networkLines, showNetwork, writeRefusal, textAfter, sizeAfter}
+use Rattle.grid.specs.Write.{rowLine, rowAt, rowLines, networkLines, showNetwork, writeRefusal, textAfter, sizeAfter}
 use Rattle.grid.specs.Steps.{Quiet, Near}
 use Rattle.grid.proofs.FileLaws.{off-append}
 use Rattle.grid.proofs.WriteLaws.{near, quiet-part, row-first}

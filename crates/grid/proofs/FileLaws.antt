@@ -1,18 +1,18 @@
 -- A whole text: what follows the header, and the two together. Assumes nothing.
-use Prim.Native.Nat.{ℕ, suc, _+_, _-_, _≤_, _<_}
-use mathlib.Core.Path.{_≡_, refl, sym, ap, _∙_}
+use Prim.Native.Nat.{ℕ, suc, _+_, _≤_}
+use mathlib.Core.Path.{_≡_, sym, ap, _∙_}
 use mathlib.Core.List.{List, [], _∷_, _++_, map}
 use mathlib.Core.Bool.{Bool, true, false, cond}
-use native.Mathlib.Nat.{add-assoc, add-zero}
+use native.Mathlib.Nat.{add-zero}
 use native.Mathlib.Omega.{arith}
-use lib.ListN.{length, getD, take, drop}
+use lib.ListN.{length, drop}
 use lib.Seq.{drop-drop}
 use Rattle.network.specs.declared.Frame.{Frame}
 use Rattle.text.specs.Line.{linesOf}
 use Rattle.text.proofs.Digits.{either}
 use Rattle.grid.specs.Row.{all, isRow}
 use Rattle.grid.specs.File.{names, namesWell, spelledIn, unnamed, sixth, headOn, frameOf, noDataOf, namedOn, rowsOf, firstOff, faultLine, rowsFit}
-use Rattle.grid.specs.Steps.{linesAt, lineFrom, Passed, rowSound, rowsRead, bodyOn, bodyRows, bodyNoData, bodyRead, Judged, fileRead}
+use Rattle.grid.specs.Steps.{linesAt, lineFrom, Passed, rowSound, rowsRead, bodyOn, bodyRows, bodyNoData, bodyRead, fileRead}
 use Rattle.grid.specs.declared.judge.File.{File}
 use Rattle.grid.specs.declared.judge.File.the-variants.{On, Off}
 use Rattle.grid.proofs.HeadLaws.{line-of}

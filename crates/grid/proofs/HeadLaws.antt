@@ -1,11 +1,11 @@
 -- Laws of the lines before the rows. Assumes nothing.
 use Prim.Native.Nat.{ℕ, zero, suc, _+_, _-_, _≤_, _<_}
-use mathlib.Core.Path.{_≡_, refl, sym, ap, _∙_}
-use mathlib.Core.List.{List, [], _∷_, _++_, map}
-use mathlib.Core.Bool.{Bool, true, false, cond, _&&_, true≢false}
+use mathlib.Core.Path.{_≡_, sym, ap, _∙_}
+use mathlib.Core.List.{List, [], _∷_}
+use mathlib.Core.Bool.{true, false, true≢false}
 use native.Mathlib.Omega.{arith}
 use borrow.Author.Tests.{ltb-true, ltb-false, ne-eqb}
-use lib.Dec.{ltb, eqb}
+use lib.Dec.{ltb}
 use lib.ListN.{length, getD, take, drop, length-drop, List·getD-eq-default}
 use lib.Seq.{take-all, take-nil, length-take-le, getD-drop, drop-drop}
 use Rattle.text.specs.Line.{linesOf}
@@ -13,7 +13,7 @@ use Rattle.text.specs.declared.number.Number.the-variants.{Got, Off}
 use Rattle.text.proofs.Digits.{either}
 use Rattle.text.proofs.Sames.{same-length}
 use Rattle.grid.specs.File.{begins, numberAfter, numberAt, namesWell, spelledIn}
-use Rattle.grid.specs.Steps.{linesAt, lineFrom, Passed, LineAt, keyRead}
+use Rattle.grid.specs.Steps.{linesAt, lineFrom, LineAt, keyRead}
 use Rattle.grid.specs.declared.head.Line.{Line}
 use Rattle.grid.specs.declared.head.Keyed.{Keyed}
 use Rattle.grid.specs.declared.head.Keyed.the-variants as keyed

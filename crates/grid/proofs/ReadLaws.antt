@@ -1,8 +1,8 @@
 -- What a text is refused with, from how it was judged. Assumes nothing.
-use Prim.Native.Nat.{ℕ, _+_, _*_, _≤_, _<_}
+use Prim.Native.Nat.{ℕ, _*_, _≤_, _<_}
 use mathlib.Core.Path.{_≡_, refl, sym, ap, _∙_}
 use mathlib.Core.List.{List, [], _∷_, _++_, map}
-use mathlib.Core.Bool.{Bool, true, false, cond, _&&_, not}
+use mathlib.Core.Bool.{Bool, true, false, cond, _&&_}
 use native.Mathlib.Nat.{mul-le-mul}
 use native.Mathlib.Omega.{arith}
 use borrow.Author.Tests.{eqb-true, eq-eqb, ne-eqb, leb-true, le-leb, lt-leb}
@@ -16,10 +16,9 @@ use Rattle.network.specs.declared.Frame.{Frame}
 use Rattle.text.specs.Line.{linesOf}
 use Rattle.refusal.proofs.Laws.{and-left, and-right}
 use Rattle.grid.specs.Row.{all, valuesOf, given, hasValues, rowGiven, levelIn, rowLevels, levelsOf}
-use Rattle.grid.specs.File.{frameOf, noDataOf, rowsOf, faultLine, rowsFit}
+use Rattle.grid.specs.File.{noDataOf, rowsOf, faultLine, rowsFit}
 use Rattle.grid.specs.Read.{over, numbersOf, headerSize, textFrame, textLevels, linesRefusal, readRefusal, headerAfter, levelsAfter}
 use Rattle.grid.specs.Steps.{isSound, rowSound, Judged, Rows, shapeRefusal}
-use Rattle.grid.proofs.ValueLaws.{all-cons}
 use Rattle.grid.proofs.StoreLaws.{levels-length}
 
 -- ---- sound values: given, and no level too high

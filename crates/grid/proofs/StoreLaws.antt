@@ -2,9 +2,8 @@
 use Prim.Native.Nat.{ℕ, suc, _+_, _-_, _*_, _≤_, _<_}
 use mathlib.Core.Path.{_≡_, refl, sym, ap, _∙_}
 use mathlib.Core.List.{List, [], _∷_, _++_, map, append-assoc}
-use mathlib.Core.Bool.{Bool, true, false, _&&_}
-use native.Mathlib.Nat.{add-zero, suc-mul, zero-mul}
-use native.Mathlib.Numerals.{add-one}
+use mathlib.Core.Bool.{true, _&&_}
+use native.Mathlib.Nat.{suc-mul, zero-mul, mul-le-mul-right}
 use native.Mathlib.Omega.{arith}
 use borrow.Author.Tests.{eqb-true}
 use lib.ListN.{length, getD, take, drop, length-append, length-drop, length-map}
@@ -80,6 +79,10 @@ over-put a b old h =
     ap (drop (length a)) (append-assoc (take (length a) old) b (drop (length a + length b) old)) ∙ drop-at (take (length a) old) (b ++ drop (length a + length b) old) (length a) l in
     append-assoc a b (drop (length (a ++ b)) old) ∙ rw (d, length-append a b)
 
+-- one row among so many has its place and its room
+pub place-room : (n columns rows room : ℕ) → n < rows → rows * columns ≤ room → n * columns + columns ≤ room
+place-room n columns rows room h l = omega (arith, suc-mul n columns, mul-le-mul-right columns h)
+
 -- a walk along rows: so many left
 module _ (s : List ℕ) (at columns left : ℕ) (w : Rows s at columns left) (h : at < length s) where
   row-here : (hasValues columns (lineFrom s at) && all (hasValues columns) (drop 1 (linesAt s at))) ≡ true
@@ -101,8 +104,7 @@ module _ (s : List ℕ) (at columns left : ℕ) (w : Rows s at columns left) (h 
     each = ap (all (hasValues columns)) (line .passed .rest) ∙ rest-each;
   }
 
-  -- the place of this row's levels, and the room for them
-  pub place-here : (left - 1) * columns + columns ≡ left * columns
+  place-here : (left - 1) * columns + columns ≡ left * columns
   place-here =
       let e = left-here in
       let n = length (drop 1 (linesAt s at)) in

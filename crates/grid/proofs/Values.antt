@@ -1,15 +1,15 @@
 -- Texts that are joined and come apart again: the lines of a text, the values of a row. Assumes nothing.
-use Prim.Native.Nat.{ℕ, zero, suc, _+_, _-_, _*_, _/_, _%_, _≤_, _<_}
+use Prim.Native.Nat.{ℕ, zero, suc, _+_, _/_, _%_, _≤_, _<_}
 use mathlib.Core.Path.{_≡_, refl, sym, ap, _∙_}
 use mathlib.Core.List.{List, [], _∷_, _++_, map}
-use mathlib.Core.Bool.{Bool, true, false, cond, _&&_, not, true≢false}
+use mathlib.Core.Bool.{true, false, true≢false}
 use native.Mathlib.Omega.{arith}
 use borrow.Author.Tests.{eq-eqb, ne-eqb, eqb-true, ltb-true}
 use lib.Dec.{eqb, ltb}
-use lib.ListN.{length, getD, take, drop, length-append, List·getD-append}
+use lib.ListN.{length, getD, length-append, List·getD-append}
 use lib.Seq.{take-append-seam, drop-append-seam}
 use Rattle.refusal.proofs.Laws.{and-left, and-right}
-use Rattle.text.specs.Number.{wholeOf, levelOf, isGot, valueOf, shown, showWhole, showTwo, showLevel}
+use Rattle.text.specs.Number.{levelOf, shown, showWhole, showTwo, showLevel}
 use Rattle.text.specs.Field.{countOf, joinedBy}
 use Rattle.text.specs.Line.{onto, linesOf}
 use Rattle.text.specs.Same.{sameText}
@@ -19,10 +19,9 @@ use Rattle.text.proofs.Shown.{whole-back, level-back, shown-least}
 use Rattle.text.proofs.Free.{shown-free, level-free}
 use Rattle.text.proofs.Fields.{count-append}
 use Rattle.network.specs.Limits.{mostLevel}
-use Rattle.grid.specs.Row.{all, valuesOf, given, isValue, isRow, rowGiven, levelIn, rowLevels}
-use Rattle.grid.specs.File.{unnamed, noDataWord, begins, numberAfter, names}
+use Rattle.grid.specs.Row.{all, valuesOf, given, isValue, levelIn}
+use Rattle.grid.specs.File.{unnamed, begins, numberAfter, names}
 use Rattle.grid.specs.Write.{keyLine, rowLine, textOf}
-use Rattle.grid.proofs.ValueLaws.{all-cons, all-none}
 
 -- ---- bytes that a text doesn't have
 

@@ -2,13 +2,13 @@
 use Prim.Native.Nat.{ℕ, zero, suc, _+_, _-_, _*_, _/_, _%_, _≤_, _<_}
 use mathlib.Core.Path.{_≡_, refl, sym, ap, _∙_}
 use mathlib.Core.List.{List, [], _∷_, _++_, map, append-assoc, append-nil}
-use native.Mathlib.Nat.{suc-mul, zero-mul, mul-le-mul, mul-le-mul-right, add-zero, zero-add}
+use native.Mathlib.Nat.{suc-mul, zero-mul, mul-le-mul, mul-le-mul-right, zero-add}
 use native.Mathlib.Numerals.{add-one}
 use native.Mathlib.Omega.{arith}
 use borrow.Author.Tests.{ltb-true, ltb-false, le-leb, lt-leb, eq-eqb, ne-eqb}
 use lib.Dec.{ltb}
 use lib.ListN.{length, getD, take, drop, set, length-append, length-drop, drop-of-length-le, List·getD-eq-default}
-use lib.Seq.{take-add, take-all, take-length, length-take-le, drop-cons, getD-take, getD-drop}
+use lib.Seq.{take-add, take-all, length-take-le, drop-cons, getD-take, getD-drop}
 use Rattle.text.specs.Number.{showWhole, showTwo, showLevel}
 use Rattle.text.specs.Field.{joinedBy}
 use Rattle.text.specs.Put.{put, Wrote}
@@ -20,7 +20,7 @@ use Rattle.network.specs.Limits.{mostLevel, mostOrigin}
 use Rattle.network.specs.Refusals.{networkRefusal}
 use Rattle.network.proofs.Refusals.{checked-on, checked-off}
 use Rattle.network.specs.declared.Frame.{Frame}
-use Rattle.grid.specs.Write.{keyLine, headLines, rowLine, rowAt, rowLines, textOf, networkLines, showNetwork, writeRefusal, textAfter, sizeAfter}
+use Rattle.grid.specs.Write.{keyLine, headLines, rowLine, rowAt, rowLines, textOf, showNetwork, writeRefusal, textAfter, sizeAfter}
 use Rattle.grid.specs.Read.{over}
 use Rattle.grid.specs.Steps.{sizesOf, Quiet, Near, ended, sideLines, placeLines}
 

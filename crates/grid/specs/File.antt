@@ -8,7 +8,7 @@ use lib.Dec.{eqb}
 use Rattle.text.specs.Number.{wholeOf, levelOf, isGot, valueOf}
 use Rattle.text.specs.Same.{sameText}
 use Rattle.text.specs.declared.number.Number.{Number}
-use Rattle.text.specs.declared.number.Number.the-variants.{Got, Off}
+use Rattle.text.specs.declared.number.Number.the-variants.{Off}
 use Rattle.network.specs.declared.Frame.{Frame}
 use Rattle.grid.specs.Row.{all, isRow, hasValues}
 
@@ -80,8 +80,11 @@ spelledIn line = drop (length noDataWord + 1) line
 abbrev pub unsigned : List ℕ → List ℕ
 unsigned t = cond (eqb (getD t 0 0) 45) (drop 1 t) t
 
+abbrev pub isNumber : List ℕ → Bool
+isNumber t = isGot (wholeOf t) || isGot (levelOf t)
+
 abbrev pub isSpelling : List ℕ → Bool
-isSpelling t = isGot (wholeOf (unsigned t)) || isGot (levelOf (unsigned t))
+isSpelling t = isNumber (unsigned t)
 
 unfoldable pub namesWell : List ℕ → Bool
 namesWell line = eqb (getD line (length noDataWord) 0) 32 && isSpelling (spelledIn line)

@@ -2,10 +2,10 @@
 use Prim.Native.Nat.{ℕ, _+_, _-_, _≤_, _<_}
 use mathlib.Core.Path.{_≡_}
 use mathlib.Core.List.{List, [], _∷_, _++_, map}
-use mathlib.Core.Bool.{Bool, true, false, cond, _&&_, _||_, not}
+use mathlib.Core.Bool.{Bool, true, false, cond, _&&_}
 use lib.ListN.{length, getD, take, drop}
-use lib.Dec.{eqb, leb}
-use Rattle.text.specs.Number.{wholeOf, levelOf, isGot, showLevel}
+use lib.Dec.{leb}
+use Rattle.text.specs.Number.{showLevel}
 use Rattle.text.specs.Line.{linesOf}
 use Rattle.text.specs.declared.number.Number.the-variants as number
 use Rattle.refusal.specs.Refuse.{refuse}
@@ -13,7 +13,7 @@ use Rattle.network.specs.Limits.{mostLevel, mostOrigin}
 use Rattle.network.specs.Refusals.{sided, placed}
 use Rattle.network.specs.declared.Frame.{Frame}
 use Rattle.grid.specs.Row.{all, valuesOf, given, isValue, isRow, hasValues, levelIn}
-use Rattle.grid.specs.File.{ncols, nrows, xllcenter, yllcenter, cellsize, unnamed, numberAfter, names, namesWell, spelledIn, headOn, frameOf, sixth, noDataOf, namedOn, rowsOf, firstOff, faultLine, rowsFit}
+use Rattle.grid.specs.File.{ncols, nrows, xllcenter, yllcenter, cellsize, unnamed, numberAfter, names, namesWell, spelledIn, headOn, frameOf, noDataOf, rowsOf, firstOff, faultLine, rowsFit}
 use Rattle.grid.specs.Write.{keyLine}
 use Rattle.grid.specs.declared.head.Line.{Line}
 use Rattle.grid.specs.declared.head.Keyed.{Keyed}
@@ -56,10 +56,6 @@ keyRead s at key keyed.Off = numberAfter key (lineFrom s at) ≡ number.Off
 abbrev pub headRead : List ℕ → Head → Type 0
 headRead s (head.Got f at) = (firstOff 1 (headOn (linesOf s)) ≡ 0) × (frameOf (linesOf s) ≡ f) × (at ≤ length s) × (linesAt s at ≡ drop 5 (linesOf s))
 headRead s (head.Off n) = (firstOff 1 (headOn (linesOf s)) ≡ n) × (1 ≤ n)
-
--- a whole number or a level
-abbrev pub isNumber : List ℕ → Bool
-isNumber t = isGot (wholeOf t) || isGot (levelOf t)
 
 -- the line at `at` as one that may name the no-data value
 abbrev pub noDataRead : List ℕ → ℕ → NoData → Type 0

@@ -6,11 +6,10 @@ use text::number::level;
 use text::number::whole;
 use text::same::same_text;
 ghost use mathlib.Core.Path.{_≡_};
-ghost use mathlib.Core.Bool.{_&&_};
 ghost use Prim.Native.Nat.{_≤_};
 ghost use lib.ListN.{length};
-ghost use Rattle.grid.specs.File.{begins, numberAfter, isSpelling, namesWell};
-ghost use Rattle.grid.specs.Steps.{LineAt, keyRead, headRead, isNumber, noDataRead};
+ghost use Rattle.grid.specs.File.{begins, numberAfter, isNumber, isSpelling, namesWell};
+ghost use Rattle.grid.specs.Steps.{LineAt, keyRead, headRead, noDataRead};
 
 // Where a line ends, and where the next one starts.
 pub struct Line {

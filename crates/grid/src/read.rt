@@ -7,7 +7,6 @@ use network::Frame;
 use network::is_placed;
 use network::is_sided;
 ghost use mathlib.Core.Path.{_≡_};
-ghost use Prim.Native.Nat.{_≤_};
 ghost use lib.ListN.{length};
 ghost use Rattle.text.specs.Line.{linesOf};
 ghost use Rattle.grid.specs.File.{faultLine};

@@ -1,11 +1,11 @@
 // How many bytes a network's text has, worked out before any of it is written.
 use network::Frame;
 ghost use mathlib.Core.Path.{_≡_};
-ghost use Prim.Native.Nat.{_≤_};
+ghost use Prim.Native.Nat.{_*_, _≤_};
 ghost use lib.ListN.{length};
 ghost use Rattle.text.specs.Number.{showWhole, showLevel};
 ghost use Rattle.network.specs.Edges.{Checked};
-ghost use Rattle.network.specs.Limits.{mostLevel, mostOrigin};
+ghost use Rattle.network.specs.Limits.{mostLevel, mostOrigin, mostSide};
 ghost use Rattle.grid.specs.Write.{headLines, textOf, showNetwork};
 ghost use Rattle.grid.specs.Steps.{sizesOf, Quiet, Near};
 
@@ -25,7 +25,7 @@ fn level_size(v: u32) -> usize
 
 // The bytes of levels, each with the byte that follows it.
 fn levels_size(levels: &[u32]) -> usize
-    requires { ⌜ (length (now levels) ≤ 65536) × Quiet (now levels) ⌝ }
+    requires { ⌜ (length (now levels) ≤ mostSide * mostSide) × Quiet (now levels) ⌝ }
     ensures { λ r. ⌜ r ≡ sizesOf (now (levels .entry)) ⌝ }
 {
     let mut total = 0;

@@ -5,10 +5,8 @@ use text::core::field_end;
 use text::number::Number;
 use text::number::level;
 ghost use mathlib.Core.Path.{_≡_};
-ghost use mathlib.Core.Bool.{true};
-ghost use mathlib.Core.List.{_++_};
-ghost use Prim.Native.Nat.{_+_, _*_, _≤_};
-ghost use lib.ListN.{length, drop};
+ghost use Prim.Native.Nat.{_+_, _-_, _*_, _≤_};
+ghost use lib.ListN.{length};
 ghost use Rattle.text.specs.Put.{put};
 ghost use Rattle.grid.specs.Row.{valuesOf, levelIn, rowLevels, levelsOf};
 ghost use Rattle.grid.specs.Read.{numbersOf, over};
@@ -42,6 +40,14 @@ fn store_row(s: &[u8], out: &mut [u32], to: usize)
     }
 }
 
+// How many of the rows lie south of one, which is counted from 1 in the north.
+fn rows_south(row: usize, rows: usize) -> usize
+    requires { ⌜ (1 ≤ row) × (row ≤ rows) ⌝ }
+    ensures { λ r. ⌜ r ≡ rows - row ⌝ }
+{
+    rows - row
+}
+
 // Stores the levels of all rows from `from` on, each of `columns` values, the last row first.
 pub(crate) fn store_rows(s: &[u8], from: usize, columns: usize, rows: usize, out: &mut [u32])
     requires { ⌜ Rows (now s) from columns rows × (rows * columns ≤ length (now out)) ⌝ }
@@ -53,7 +59,8 @@ pub(crate) fn store_rows(s: &[u8], from: usize, columns: usize, rows: usize, out
         let line = line_at(s, at);
         let end = line.end;
         row += 1;
-        store_row(&s[at..end], out, (rows - row) * columns);
+        let south = rows_south(row, rows);
+        store_row(&s[at..end], out, south * columns);
         at = line.next;
     }
 }

@@ -331,10 +331,18 @@ fn written() {
     numbers(&size);
     io::write_all(STDOUT_FILENO, &text);
     io::write_all(STDOUT_FILENO, b"\n");
-    network(
-        b"and read again",
-        b"ncols 3\r\nnrows 2\r\nxllcenter 1000\r\nyllcenter 0\r\ncellsize 100\r\n0.00 0.99 0.04\r\n5.01 10.02 150.00\r\n",
-    );
+    read_again(&text, count(size[0]));
+}
+
+fn count(x: u32) -> usize {
+    x as usize
+}
+
+// Reads the front of a text.
+fn read_again(text: &[u8], n: usize) {
+    if n <= text.len() {
+        network(b"and read again", &text[0..n]);
+    }
 }
 
 // Writes levels of two by two points.

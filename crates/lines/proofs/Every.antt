@@ -32,7 +32,7 @@ swept-occurs g closes l (suc k) n = go (swept g closes l k) ((closes || entersAt
     go s false = refl
 
 module _ (g : Picture) (wide : 2 ≤ g .nx) where
-  abbrev Closed : List ℕ → Type 0
+  abbrev pub Closed : List ℕ → Type 0
   Closed list = Settled (edgesIn g) (crossedAt g) (nextAt g) (prevAt g) (leads-at g wide) list
 
   -- the start of a contour no longer waits
@@ -61,8 +61,8 @@ module _ (g : Picture) (wide : 2 ≤ g .nx) where
 
   -- ---- a line that enters over the border ends at the border
 
-  open-one : (list : List ℕ) (k : ℕ) → Closed list → entersAt g k ≡ true → waits list k ≡ true → Sound g false (contourFrom g list k) × Closed (without list (contourFrom g list k))
-  open-one list k c h f =
+  pub open-ends-at-border : (list : List ℕ) (k : ℕ) → Closed list → entersAt g k ≡ true → waits list k ≡ true → Sound g false (contourFrom g list k) × Closed (without list (contourFrom g list k))
+  open-ends-at-border list k c h f =
       let b : k < edgesIn g = subst (λ (i : ℕ). k < i) (c .long) (waits-lt list k f) in
       let x : crossedAt g k ≡ true = both (crossedAt g k) _ h .0 in
       let o : edgesIn g ≤ prevAt g k = enters-outside g wide k b h in
@@ -81,9 +81,9 @@ module _ (g : Picture) (wide : 2 ≤ g .nx) where
 
   -- ---- a line that does not enter over the border comes back to its start
 
-  closed-one : (list : List ℕ) (k : ℕ) → Closed list → ((m : ℕ) → m < edgesIn g → entersAt g m ≡ true → waits list m ≡ false) → ((m : ℕ) → m < k → waits list m ≡ false)
+  pub closed-comes-back : (list : List ℕ) (k : ℕ) → Closed list → ((m : ℕ) → m < edgesIn g → entersAt g m ≡ true → waits list m ≡ false) → ((m : ℕ) → m < k → waits list m ≡ false)
       → crossedAt g k ≡ true → waits list k ≡ true → Sound g true (contourFrom g list k) × Closed (without list (contourFrom g list k))
-  closed-one list k c enters passed x f =
+  closed-comes-back list k c enters passed x f =
       let b : k < edgesIn g = subst (λ (i : ℕ). k < i) (c .long) (waits-lt list k f) in
       let e = comes-back (edgesIn g) (crossedAt g) (nextAt g) (prevAt g) (leads-at g wide) (comes-at g wide) list k c b x f inner in
       let r = returned (edgesIn g) (crossedAt g) (nextAt g) (prevAt g) (leads-at g wide) k list _ (e .end) (e .walk) (e .stopped) (e .kept) in
@@ -116,8 +116,8 @@ module _ (g : Picture) (wide : 2 ≤ g .nx) where
 
   one : (closes : Bool) (l : Listing) (k : ℕ) → State closes l k → (closes || entersAt g k) ≡ true → waits (l .list) k ≡ true
       → Sound g closes (contourFrom g (l .list) k) × Closed (without (l .list) (contourFrom g (l .list) k))
-  one true l k i h f = closed-one (l .list) k (i .settled) (i .entering refl) (λ m b. i .passed m b refl) (i .crossing k f) f
-  one false l k i h f = open-one (l .list) k (i .settled) h f
+  one true l k i h f = closed-comes-back (l .list) k (i .settled) (i .entering refl) (λ m b. i .passed m b refl) (i .crossing k f) f
+  one false l k i h f = open-ends-at-border (l .list) k (i .settled) h f
 
   step : (closes : Bool) (l : Listing) (k : ℕ) → State closes l k → State closes (try g closes l k) (suc k)
   step closes l k i = go (closes || entersAt g k) (waits (l .list) k) refl refl

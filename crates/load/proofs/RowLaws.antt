@@ -10,7 +10,7 @@ use native.Mathlib.Omega.{arith}
 use lib.ListN.{length, getD, take, drop, length-append}
 use lib.Seq.{getD-take, getD-drop, drop-drop}
 use lib.Dec.{eqb, leb, ltb, lit≤}
-use borrow.Author.Tests.{leb-true, ltb-true, eqb-true}
+use borrow.Author.Tests.{leb-true, ltb-true, eqb-true, eq-eqb, ne-eqb}
 use Rattle.level.specs.Limits.{maxWeighted, maxMovements, maxEnergy}
 use Rattle.level.proofs.EnergyLaws.{energy-le}
 use Rattle.movement.specs.Limits.{maxLevel, maxIdentity, groupCount}
@@ -30,6 +30,21 @@ use Rattle.counted.proofs.SumLaws.{sum-ext}
 use Rattle.counted.proofs.TallyLaws.{sum-append, AllGrouped, grouped-append, counted-le}
 use Rattle.load.specs.Steps.{Room, Bounded, withRow}
 use Rattle.load.proofs.CellLaws.{at-table, put-table}
+
+-- A group with one row more, by identity and mark
+
+module _ (c : Group) (x g m l : ℕ) where
+  pub row-unused : x ≡ 0 → c ≡ withRow c x g m l
+  unfolding withRow
+  row-unused e = rw (eq-eqb x 0 e) refl
+
+  pub row-missing : (x ≡ 0 → ⊥) → m ≡ 0 → groupWith (c .computed) (c .missing + 1) (c .energy) ≡ withRow c x g m l
+  unfolding withRow
+  row-missing n e = rw (ne-eqb x 0 n, eq-eqb m 0 e) refl
+
+  pub row-computed : (e : ℕ) → (x ≡ 0 → ⊥) → (m ≡ 0 → ⊥) → e ≡ energyIn g l → groupWith (c .computed + 1) (c .missing) (c .energy + e) ≡ withRow c x g m l
+  unfolding withRow
+  row-computed e n k q = rw (ne-eqb x 0 n, ne-eqb m 0 k, q) refl
 
 -- One share more
 

@@ -1,20 +1,19 @@
 -- Laws of a row's columns, over the column: its text reads back, has no comma and at most eight bytes, and a field that was
 -- read is the text of its value. Assumes nothing.
-use Prim.Native.Nat.{ℕ, zero, suc, _+_, _≤_, _<_}
+use Prim.Native.Nat.{ℕ, zero, suc, _≤_, _<_}
 use mathlib.Core.Path.{_≡_, refl, sym, ap, _∙_}
-use mathlib.Core.List.{List, [], _∷_}
-use mathlib.Core.Bool.{Bool, true, false, cond, _&&_}
+use mathlib.Core.List.{List, []}
+use mathlib.Core.Bool.{false, _&&_}
 use native.Mathlib.Omega.{arith}
-use borrow.Author.Tests.{le-leb, lt-leb, eq-eqb, ne-eqb, leb-true, leb-false, eqb-true, eqb-false}
-use lib.ListN.{length, length-append}
+use borrow.Author.Tests.{le-leb, lt-leb, eq-eqb, ne-eqb, leb-true, eqb-true, eqb-false}
+use lib.ListN.{length}
 use lib.Dec.{leb, eqb}
 use Rattle.refusal.proofs.Laws.{and-left, and-right}
-use Rattle.text.specs.Number.{levelOf, showWhole, showLevel, showTwo}
+use Rattle.text.specs.Number.{levelOf, showLevel}
 use Rattle.text.specs.Field.{countOf}
-use Rattle.text.specs.declared.number.Number.{Number}
-use Rattle.text.specs.declared.number.Number.the-variants.{Got, Off}
+use Rattle.text.specs.declared.number.Number.the-variants.{Got}
 use Rattle.text.proofs.Digits.{either, whole-small}
-use Rattle.text.proofs.Shown.{whole-back, level-back, shown-width, shown-least, level-most, level-least}
+use Rattle.text.proofs.Shown.{whole-back, level-back, shown-width, level-most, level-least}
 use Rattle.text.proofs.Exact.{whole-exact, level-exact, level-small}
 use Rattle.text.proofs.Free.{shown-free, level-free}
 use Rattle.register.specs.Cell.{levelOrBlank, rowCell, limitsCell, blankCell, shownCell, cellText, topOf}

@@ -2,13 +2,12 @@
 use Prim.Native.Nat.{ℕ, zero, suc, _+_, _-_, _≤_, _<_}
 use mathlib.Core.Path.{_≡_, refl, sym, ap, _∙_}
 use mathlib.Core.List.{List, [], _∷_, _++_}
-use mathlib.Core.Bool.{Bool, true, false, cond, _&&_}
+use mathlib.Core.Bool.{true, _&&_}
 use native.Mathlib.Omega.{arith}
-use borrow.Author.Tests.{le-leb, lt-leb, leb-true, leb-false, eq-eqb, ne-eqb, eqb-true, eqb-false}
-use lib.ListN.{length, getD, take, drop, replicate, length-append, List·getD-append}
-use lib.Seq.{take-at, length-take-le, getD-take}
+use borrow.Author.Tests.{le-leb, leb-true, leb-false, eq-eqb, eqb-true, eqb-false}
+use lib.ListN.{length, getD, take, replicate, length-append, List·getD-append}
+use lib.Seq.{length-take-le, getD-take}
 use lib.Dec.{leb, eqb}
-use Rattle.refusal.specs.Refuse.{refuse}
 use Rattle.refusal.specs.Range.{allWithin}
 use Rattle.refusal.proofs.Laws.{and-left, and-right, refuse-none}
 use Rattle.refusal.proofs.Ranges.{within-at}
@@ -23,11 +22,10 @@ use Rattle.text.specs.declared.number.Number.the-variants.{Got, Off}
 use Rattle.text.proofs.Digits.{either}
 use Rattle.text.proofs.Fields.{fields-joined}
 use Rattle.text.proofs.Indices.{every-each, many-zero, many-full, listing-at, listing-same, length-listing}
-use Rattle.register.specs.Cell.{cellAt, gotAt, valueAt, blankAt, blankCell, cellText, cellsOf, gotCells}
-use Rattle.register.specs.Row.{pointsFit, eightFrom, fieldsOf, rowLayout, cellsLayout, layoutOf, offLayout, faultOf, rowRefusal, answerNumber, answerValues, fieldList, RowRead}
-use Rattle.register.specs.Write.{columns, textAt, showLine, showRow, zeroWhereBlank, rowLevelsFit, writeFault, writeRefusal, writtenNumber, writtenValues, RowWritten}
+use Rattle.register.specs.Cell.{cellAt, gotAt, valueAt, blankAt, cellText, cellsOf}
+use Rattle.register.specs.Row.{eightFrom, fieldsOf, rowLayout, cellsLayout, layoutOf, faultOf, rowRefusal, answerNumber, RowRead}
+use Rattle.register.specs.Write.{columns, textAt, showLine, showRow, zeroWhereBlank, rowLevelsFit, writeFault, writeRefusal, writtenNumber, RowWritten}
 use Rattle.register.specs.declared.cell.Table.the-variants.{Register}
-use Rattle.register.specs.declared.row.Fields.{Fields}
 use Rattle.register.specs.declared.row.Layout.{Layout}
 use Rattle.register.specs.declared.row.Answer.{Answer}
 use Rattle.register.specs.declared.write.Written.{Written}
@@ -36,12 +34,12 @@ use Rattle.register.proofs.Writes.{column-level}
 use Rattle.register.proofs.Rows.{row-none, layout-points}
 
 -- a row on its layout: how many fields it has, that each was read, and what its levels leave blank
-record OnLayout (n : ℕ) (s : List ℕ) (l : Layout) (mark : ℕ) : Type 0 where
-  count : countOf 44 s + 1 ≡ 5 + n
-  got : every (gotAt Register s) (5 + n) ≡ true
-  blanks : (i : ℕ) → i < n → blankAt s i ≡ eqb mark 0
-  most : mark ≤ 1
-  row : l ≡ rowLayout (listing (valueAt Register s) (5 + n) ++ replicate (13 - (5 + n)) 0) mark
+pub record OnLayout (n : ℕ) (s : List ℕ) (l : Layout) (mark : ℕ) : Type 0 where
+  pub count : countOf 44 s + 1 ≡ 5 + n
+  pub got : every (gotAt Register s) (5 + n) ≡ true
+  pub blanks : (i : ℕ) → i < n → blankAt s i ≡ eqb mark 0
+  pub most : mark ≤ 1
+  pub row : l ≡ rowLayout (listing (valueAt Register s) (5 + n) ++ replicate (13 - (5 + n)) 0) mark
 
 -- a line whose layout is not refused is one of the two
 on-layout : (n : ℕ) (s : List ℕ) → cellsLayout n (cellsOf Register (5 + n) s) .refusal ≡ 0
@@ -62,7 +60,7 @@ on-layout n s e =
     (λ few. let z : _≡_ {A = ℕ} 16 0 = rw (fine, some, few) at e in absurd (omega arith))))
     (λ bad. let z : _≡_ {A = ℕ} 16 0 = rw bad at e in absurd (omega arith))
 
-got-value : (r : Number) → isGot r ≡ true → r ≡ Got (valueOf r)
+pub got-value : (r : Number) → isGot r ≡ true → r ≡ Got (valueOf r)
 got-value (Got n) e = refl
 got-value Off e = let z : _≡_ {A = ℕ} 0 1 = cc in absurd (omega arith)
 
@@ -190,7 +188,7 @@ module _ (n : ℕ) (s : List ℕ) (e : layoutOf n s .refusal ≡ 0) where
   unfolding layoutOf
   opened = rw (le-leb 1 n (points .0), le-leb n 8 (points .1))
 
-  marked : (mark : ℕ) × OnLayout n (bareLine s) (layoutOf n s) mark
+  pub marked : (mark : ℕ) × OnLayout n (bareLine s) (layoutOf n s) mark
   marked = rw opened (on-layout n (bareLine s) (rw opened at e))
 
 -- a row that is read by its layout is, written again, the same bytes with its CRLF

@@ -8,3 +8,5 @@ pub mod Rows
 pub mod RoundTrip
 pub mod Converse
 pub mod Once
+pub mod Longest
+pub mod LimitsFront

@@ -1,7 +1,7 @@
 -- Two outcomes of one call are equal: an answer's number and values are the answer. Assumes nothing.
 use Prim.Native.Nat.{ℕ}
-use mathlib.Core.Path.{_≡_, refl, sym, ap, _∙_}
-use mathlib.Core.List.{List, [], _∷_}
+use mathlib.Core.Path.{_≡_, sym, ap, _∙_}
+use mathlib.Core.List.{List}
 use native.Mathlib.Omega.{arith}
 use Rattle.register.specs.Row.{answerNumber, answerValues, fieldList, RowRead}
 use Rattle.register.specs.Write.{writtenNumber, writtenValues, RowWritten}

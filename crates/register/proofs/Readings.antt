@@ -1,11 +1,11 @@
 -- Laws of a line's cells as they are read, one after the other. Assumes nothing.
-use Prim.Native.Nat.{ℕ, zero, suc, _+_, _-_, _≤_, _<_}
-use mathlib.Core.Path.{_≡_, refl, sym, ap, _∙_}
-use mathlib.Core.List.{List, [], _∷_, _++_}
-use mathlib.Core.Bool.{Bool, true, false, cond, _&&_, and-false}
+use Prim.Native.Nat.{ℕ, _+_, _-_, _≤_}
+use mathlib.Core.Path.{_≡_}
+use mathlib.Core.List.{List, _++_}
+use mathlib.Core.Bool.{Bool, true, false, cond, and-false}
 use native.Mathlib.Omega.{arith}
-use borrow.Author.Tests.{le-leb, lt-leb, leb-true, leb-false, eqb-true, ne-eqb}
-use lib.ListN.{length, replicate}
+use borrow.Author.Tests.{leb-true, leb-false, eqb-true, ne-eqb}
+use lib.ListN.{replicate}
 use lib.Dec.{leb, eqb}
 use Rattle.text.specs.Field.{countOf, fieldOf}
 use Rattle.text.specs.Index.{every, many, listing}

@@ -2,19 +2,18 @@
 use Prim.Native.Nat.{ℕ, zero, suc, _+_, _-_, _≤_, _<_}
 use mathlib.Core.Path.{_≡_, refl, sym, ap, _∙_}
 use mathlib.Core.List.{List, [], _∷_, _++_}
-use mathlib.Core.Bool.{Bool, true, false, cond, _&&_}
+use mathlib.Core.Bool.{true}
 use native.Mathlib.Omega.{arith}
 use borrow.Author.Tests.{le-leb, eq-eqb, ne-eqb, eqb-true, eqb-false}
 use lib.ListN.{length, getD, take, drop, replicate, length-append, length-replicate}
 use lib.Seq.{take-at}
 use lib.Dec.{leb, eqb}
-use Rattle.refusal.specs.Refuse.{refuse}
 use Rattle.refusal.specs.Range.{allWithin}
 use Rattle.refusal.proofs.Laws.{and-left, and-right}
 use Rattle.refusal.proofs.Ranges.{within-at}
 use Rattle.text.specs.Number.{isGot, valueOf}
-use Rattle.text.specs.Field.{countOf, fieldOf, joinedBy}
-use Rattle.text.specs.Index.{every, many, listing}
+use Rattle.text.specs.Field.{countOf, fieldOf}
+use Rattle.text.specs.Index.{many, listing}
 use Rattle.text.specs.Put.{put}
 use Rattle.text.specs.declared.number.Number.the-variants.{Got}
 use Rattle.text.proofs.Digits.{either}
@@ -22,7 +21,7 @@ use Rattle.text.proofs.Fields.{Free, join-field, join-count-all}
 use Rattle.text.proofs.Indices.{every-all, many-no, many-all, listing-at, listing-of, length-listing}
 use Rattle.text.proofs.Lines.{bare-back}
 use Rattle.text.proofs.Shown.{level-least}
-use Rattle.register.specs.Cell.{rowCell, cellAt, gotAt, valueAt, blankAt, cellText, cellsOf, gotCells, topOf}
+use Rattle.register.specs.Cell.{rowCell, cellAt, gotAt, valueAt, blankAt, cellText, cellsOf, gotCells}
 use Rattle.register.specs.Row.{eightFrom, rowLayout, cellsLayout, layoutOf, faultOf, rowRefusal, answerNumber, answerValues, fieldList, RowRead}
 use Rattle.register.specs.Write.{columns, textAt, showLine, showRow, writeFault, writeRefusal, writtenNumber, RowWritten}
 use Rattle.register.specs.declared.cell.Table.the-variants.{Register}

@@ -2,8 +2,7 @@
 use Prim.Native.Nat.{ℕ, zero, suc, _+_, _-_, _≤_, _<_}
 use mathlib.Core.Path.{_≡_, refl, sym, ap, _∙_}
 use mathlib.Core.List.{List, [], _∷_, _++_}
-use mathlib.Core.Bool.{Bool, true, cond, _&&_}
-use native.Mathlib.Numerals.{add-one}
+use mathlib.Core.Bool.{true, cond, _&&_}
 use native.Mathlib.Omega.{arith}
 use borrow.Author.Tests.{leb-true, ltb-true, eqb-true, eq-eqb, ne-eqb}
 use lib.ListN.{length, getD}
@@ -11,6 +10,7 @@ use lib.Dec.{leb, ltb, eqb}
 use Rattle.refusal.specs.Range.{allWithin}
 use Rattle.refusal.proofs.Laws.{and-left, and-right, refuse-none}
 use Rattle.refusal.proofs.Ranges.{within-at}
+use Rattle.movement.specs.Limits.{maxIdentity}
 use Rattle.movement.specs.Rules.{fieldsFit, identityFits, levelsFit}
 use Rattle.movement.specs.Aircraft.{massFits, aircraftNumbered}
 use Rattle.text.specs.Field.{joinedBy}
@@ -99,7 +99,7 @@ fault-fine n f levels e =
     }
 
 -- each of its values has a text
-below : (f : Fields) (levels : List ℕ) → f .identity ≤ 99999 → f .ty < 3 → f .mass ≤ 1000000 → f .kind < 2 → f .time < 86400 → allWithin 12000 levels ≡ true → (k : ℕ) → k < 5 + length levels → getD (columns f levels) k 0 < topOf k
+below : (f : Fields) (levels : List ℕ) → f .identity ≤ maxIdentity → f .ty < 3 → f .mass ≤ 1000000 → f .kind < 2 → f .time < 86400 → allWithin 12000 levels ≡ true → (k : ℕ) → k < 5 + length levels → getD (columns f levels) k 0 < topOf k
 unfolding topOf
 below f levels i t m k s w zero h = omega arith
 below f levels i t m k s w (suc zero) h = t
@@ -118,7 +118,7 @@ fine-writable {n} {f} {levels} fine =
     let four = and-left (a && b && (c && d)) (massFits (aircraftNumbered (f .ty)) (f .mass)) (fine .fields) in
     let front = and-left (a && b) (c && d) four in
     let back = and-right (a && b) (c && d) four in
-    let identity = leb-true (f .identity) 99999 (and-right (leb 1 (f .identity)) (leb (f .identity) 99999) (fine .identity)) in
+    let identity = leb-true (f .identity) maxIdentity (and-right (leb 1 (f .identity)) (leb (f .identity) maxIdentity) (fine .identity)) in
     record { few = omega (arith, fine .size, fine .points-most); below = below f levels identity (ltb-true (f .ty) 3 (and-left a b front)) (leb-true (f .mass) 1000000 (and-right c d back)) (ltb-true (f .kind) 2 (and-right a b front)) (ltb-true (f .time) 86400 (and-left c d back)) (fine .within) }
 
 -- the comma before a column is at most one byte

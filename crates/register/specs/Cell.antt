@@ -1,15 +1,15 @@
 -- The fields of a line, column by column. A register's row is id,type,mtow,kind,time,l1..ln; the second line of limits.csv is
 -- days,p1..pn. A comma is 44.
-use Prim.Native.Nat.{ℕ, zero, suc, _+_, _-_, _<_}
-use mathlib.Core.List.{List, [], _∷_, _++_}
+use Prim.Native.Nat.{ℕ, zero, suc, _+_, _-_}
+use mathlib.Core.List.{List, [], _++_}
 use mathlib.Core.Bool.{Bool, true, false, cond, _&&_}
-use lib.ListN.{length, getD, replicate}
+use lib.ListN.{length, replicate}
 use lib.Dec.{leb, eqb}
 use Rattle.text.specs.Number.{wholeOf, levelOf, isGot, valueOf, showWhole, showLevel}
 use Rattle.text.specs.Field.{countOf, fieldOf}
 use Rattle.text.specs.Index.{every, many, listing}
 use Rattle.text.specs.declared.number.Number.{Number}
-use Rattle.text.specs.declared.number.Number.the-variants.{Got, Off}
+use Rattle.text.specs.declared.number.Number.the-variants.{Got}
 use Rattle.register.specs.Clock.{timeOf, showTime}
 use Rattle.register.specs.Letter.{typeLetters, kindLetters, letterOf, showLetter}
 use Rattle.register.specs.declared.cell.Table.{Table}

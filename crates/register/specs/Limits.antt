@@ -1,6 +1,6 @@
 -- limits.csv as a whole text: document 01, "Files and the report program".
 use Prim.Native.Nat.{ℕ, _+_}
-use mathlib.Core.List.{List, [], _∷_}
+use mathlib.Core.List.{List, []}
 use mathlib.Core.Bool.{cond, _&&_}
 use lib.ListN.{length, getD, replicate}
 use lib.Dec.{leb}
@@ -13,7 +13,6 @@ use Rattle.register.specs.Cell.{cellsOf}
 use Rattle.register.specs.Row.{eightFrom}
 use Rattle.register.specs.Header.{headerOf, limitsHeader}
 use Rattle.register.specs.declared.cell.Table.the-variants as table
-use Rattle.register.specs.declared.cell.Cells.{Cells}
 use Rattle.register.specs.declared.limits.Limits.{Limits}
 
 -- a refusal and its line

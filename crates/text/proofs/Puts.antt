@@ -1,12 +1,12 @@
 -- Laws of text written into a buffer. Assumes nothing.
-use Prim.Native.Nat.{ℕ, suc, _+_, _≤_, _<_}
-use mathlib.Core.Path.{_≡_, refl, sym, ap, _∙_}
+use Prim.Native.Nat.{ℕ, _+_, _≤_, _<_}
+use mathlib.Core.Path.{_≡_, sym, ap, _∙_}
 use mathlib.Core.List.{List, [], _∷_, _++_, append-assoc, append-nil}
-use native.Mathlib.Nat.{add-assoc, add-zero, zero-add}
+use native.Mathlib.Nat.{add-assoc, add-zero}
 use native.Mathlib.Numerals.{add-one}
 use native.Mathlib.Omega.{arith}
 use lib.ListN.{length, getD, take, drop, set, length-append, length-take, length-drop, take-append-drop}
-use lib.Seq.{set-split, take-at, append-snoc, drop-append-add, length-take-le, drop-drop, paste-suc, take-suc}
+use lib.Seq.{set-split, take-at, append-snoc, drop-append-add, length-take-le, drop-drop, take-suc}
 use Rattle.text.specs.Put.{put, Wrote}
 use Rattle.text.specs.Index.{listing}
 use Rattle.text.proofs.Indices.{listing-more, length-listing}
@@ -48,13 +48,6 @@ wrote-then {s} {at} {a} {b} {m} {e} {i} {j} h u v =
 -- a write keeps the buffer's length
 pub length-wrote : {s : List ℕ} {at : ℕ} {t e : List ℕ} {i : ℕ} → at + length t ≤ length s → Wrote s at t e i → length e ≡ length s
 length-wrote {s} {at} {t} h w = ap length (w .bytes) ∙ length-put s at t h
-
--- a turn of a loop that copies from the front
-pub copy-more : (d s : List ℕ) (j : ℕ) → j < length d → j < length s
-    → set (take j s ++ drop j d) j (getD s j 0) ≡ take (j + 1) s ++ drop (j + 1) d
-copy-more d s j hd hs =
-    let e = paste-suc d 0 s j 0 (omega arith) hs in
-    rw (add-one j) (simp zero-add at e)
 
 -- nothing written
 pub wrote-none : (s : List ℕ) (at : ℕ) → Wrote s at [] s at

@@ -2,11 +2,11 @@
 use Prim.Native.Nat.{ℕ, zero, suc, _+_, _-_, _*_, _/_, _%_, _<_, _≤_, _^_}
 use mathlib.Core.Path.{_≡_, refl, sym, ap, _∙_}
 use mathlib.Core.List.{List, [], _∷_, _++_}
-use mathlib.Core.Bool.{Bool, true, false, cond, _&&_, not, and-false}
+use mathlib.Core.Bool.{false, _&&_, and-false}
 use native.Mathlib.Nat.{pow-suc, pow-zero}
 use native.Mathlib.Omega.{arith}
-use borrow.Author.Tests.{le-leb, lt-ltb, le-ltb, ltb-true, ltb-false, ne-eqb, eq-eqb}
-use lib.ListN.{length, getD, take, drop, length-append, List·getD-append}
+use borrow.Author.Tests.{le-leb, lt-ltb, le-ltb, ltb-true, ltb-false, ne-eqb}
+use lib.ListN.{length, getD, length-append, List·getD-append}
 use lib.Seq.{take-append-seam, drop-append-add, getD-append-seam}
 use lib.Dec.{ltb, eqb}
 use Rattle.text.specs.Number.{isDigit, digitsOf, wholeOf, levelOf, joined, shown, showWhole, showTwo, showLevel}

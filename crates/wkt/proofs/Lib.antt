@@ -5,4 +5,3 @@ pub mod Rooms
 pub mod Contours
 pub mod Joined
 pub mod Printing
-pub mod Worked

@@ -3,7 +3,7 @@ use mathlib.Core.Path.{_≡_}
 use mathlib.Core.Bool.{true, cond}
 use mathlib.Core.List.{List, [], _∷_, _++_}
 use mathlib.Core.Logic.{_⊎_}
-use Prim.Native.Nat.{ℕ, _+_, _≤_, _<_}
+use Prim.Native.Nat.{ℕ, zero, suc, _+_, _≤_, _<_}
 use lib.Dec.{ltb, eqb}
 use lib.ListN.{length, getD, take, drop}
 use Rattle.network.specs.declared.Frame.{Frame}
@@ -80,11 +80,25 @@ nextOf counts closed c =
     (cond (eqb (c .point) (pointsAt counts closed c)) (record { line = c .line + 1; start = c .start + getD counts (c .line) 0; point = 0 })
     (record { line = c .line; start = c .start; point = c .point + 1 }))
 
--- A part: the text left at the first cursor is what the part holds and then what is left at the next one. The room past it keeps its bytes,
--- and it ends only at the text's end or where the next piece has no room.
+-- the cursor some steps on, and what those steps print
+unfoldable pub walk : List ℕ → List ℕ → ℕ → Cursor → Cursor
+walk counts closed zero c = c
+walk counts closed (suc n) c = nextOf counts closed (walk counts closed n c)
+
+unfoldable pub pieces : List ℕ → Frame → ℕ → List ℕ → List ℕ → List ℕ → ℕ → Cursor → List ℕ
+pieces levels f v listed counts closed zero c = []
+pieces levels f v listed counts closed (suc n) c = pieces levels f v listed counts closed n c ++ pieceOf levels f v listed counts closed (walk counts closed n c)
+
+-- A part holds the pieces of some steps, and the room past them keeps its bytes. It ends only at the text's end or where the next piece has no room,
+-- and not before. What is left at its first cursor is what it holds and then what is left at the next one.
 pub record Printed (levels : List ℕ) (f : Frame) (v : ℕ) (listed counts closed : List ℕ) (c : Cursor) (room : List ℕ) (part : Part) (room' : List ℕ) : Type 0 where
-  pub joined : leftOf levels f v listed counts closed c ≡ take (part .size) room' ++ leftOf levels f v listed counts closed (part .next)
-  pub kept : drop (part .size) room' ≡ drop (part .size) room
+  pub steps : ℕ
+  pub there : part .next ≡ walk counts closed steps c
+  pub bytes : take (part .size) room' ≡ pieces levels f v listed counts closed steps c
   pub fits : part .size ≤ length room
-  pub reached : Reached listed counts closed (part .next)
+  pub long : length room' ≡ length room
+  pub kept : drop (part .size) room' ≡ drop (part .size) room
   pub stopped : (length counts < part .next .line) ⊎ (length room < part .size + length (pieceOf levels f v listed counts closed (part .next)))
+  pub not-before : (m : ℕ) → m < steps → (walk counts closed m c .line ≤ length counts) × (length (pieces levels f v listed counts closed (suc m) c) ≤ length room)
+  pub reached : Reached listed counts closed (part .next)
+  pub joined : leftOf levels f v listed counts closed c ≡ take (part .size) room' ++ leftOf levels f v listed counts closed (part .next)

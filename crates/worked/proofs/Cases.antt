@@ -12,8 +12,11 @@ use Rattle.movement.proofs.Numbers.{group-period}
 use Rattle.level.specs.Tables.{tableA}
 use Rattle.level.specs.Energy.{energyOf}
 use Rattle.level.proofs.RootLaws.{root-only}
-use Rattle.worked.specs.Cases.{Case, Holds, AllHold, cases}
-use Rattle.worked.specs.Cases.Case.{period, mass, energy}
+use Rattle.lines.specs.Contours.{waiting, follow, without, swept, crossedTo}
+use Rattle.text.specs.Number.{shown}
+use Rattle.wkt.specs.Text.{placeText, pointsText, linesText, textOf}
+use Rattle.worked.specs.Cases.{Case, Holds, AllHold, cases, hill, hillFrame, hillContours, hillText}
+use Rattle.worked.specs.Cases.Case.{period, mass, energy, contour}
 
 -- a period of a group is that of its second
 of-period : (second number : ℕ) → periodNumber (periodOf second) ≡ number → Holds (period second number)
@@ -38,6 +41,11 @@ of-energy : (c a : ℕ) → tableA (c % 1000) ≡ a → energyOf c ≡ a * 10 ^ 
 unfolding energyOf
 of-energy c a e = rw e
 
+-- the hill, whose contours and text antt computes
+of-hill : Holds (contour hill hillFrame 4500 hillContours hillText)
+unfolding waiting follow without swept crossedTo shown placeText pointsText linesText textOf
+of-hill = (refl, refl)
+
 -- one case more
 also : {A B : Type 0} → A → B → A × B
 also one rest = (one, rest)
@@ -60,4 +68,5 @@ all-hold =
     (also (of-energy 3500 _ a-500)
     (also (of-energy 6500 _ a-500)
     (also (of-energy 7500 _ a-500)
-    (also (of-energy 13000 _ a-0) tt)))))))))))))))
+    (also (of-energy 13000 _ a-0)
+    (also of-hill tt))))))))))))))))

@@ -2,12 +2,17 @@
 -- Assumes nothing.
 use Prim.Native.Nat.{ℕ, _^_, _<_}
 use mathlib.Core.Path.{_≡_}
+use mathlib.Core.Bool.{true}
 use mathlib.Core.List.{List, [], _∷_}
 use Rattle.movement.specs.Limits.{kindCount, secondsADay}
 use Rattle.movement.specs.Period.{periodNumber}
 use Rattle.movement.specs.Group.{groupOf, groupPeriod}
 use Rattle.movement.specs.Rules.{movementRefusal}
 use Rattle.level.specs.Energy.{energyOf}
+use Rattle.network.specs.declared.Frame.{Frame}
+use Rattle.lines.specs.Picture.{picture}
+use Rattle.lines.specs.Contours.{Contour, contoursOf}
+use Rattle.wkt.specs.Calls.{networkText}
 
 pub data Case : Type 0 where
   -- a movement at this second falls in the period of this number
@@ -16,17 +21,41 @@ pub data Case : Type 0 where
   mass : (type kg refusal : ℕ) → Case
   -- a weighted level has this energy
   energy : (c e : ℕ) → Case
+  -- a network has these contours at level v, which print as this text
+  contour : (levels : List ℕ) (frame : Frame) (v : ℕ) (contours : List Contour) (text : List ℕ) → Case
 
--- what each says: of the group that *enter* gives and the load reads, of the rules that *enter* refuses by, and of the energy that the load adds up
+-- what each says: of the group that *enter* gives and the load reads, of the rules that *enter* refuses by, of the energy that the load adds up,
+-- and of the contours that the calls list and print
 abbrev pub Holds : Case → Type 0
 Holds (period second number) = (type kind : ℕ) → periodNumber (groupPeriod (groupOf type kind second)) ≡ number
 Holds (mass type kg refusal) =
     (kind second : ℕ) → kind < kindCount → second < secondsADay → movementRefusal type kind second kg ≡ refusal
 Holds (energy c e) = energyOf c ≡ e
+Holds (contour levels frame v contours text) =
+    (contoursOf (picture levels (frame .columns) (frame .rows) v) ≡ contours) × (networkText levels frame v ≡ text)
 
 abbrev pub AllHold : List Case → Type 0
 AllHold [] = Unit {0}
 AllHold (x ∷ xs) = Holds x × AllHold xs
+
+-- three by three points, 100 m, origin 0, the middle 50.00 and the others 40.00
+abbrev pub hill : List ℕ
+hill = 4000 ∷ 4000 ∷ 4000 ∷ 4000 ∷ 5000 ∷ 4000 ∷ 4000 ∷ 4000 ∷ 4000 ∷ []
+
+abbrev pub hillFrame : Frame
+hillFrame = record { columns = 3; rows = 3; spacing = 100; west = 0; south = 0 }
+
+-- edges 2, 7, 3, 10, closed
+abbrev pub hillContours : List Contour
+hillContours = record { edges = 2 ∷ 7 ∷ 3 ∷ 10 ∷ []; closes = true } ∷ []
+
+-- `MULTILINESTRING ((50.000 100.000, 100.000 50.000, 150.000 100.000, 100.000 150.000, 50.000 100.000))`, byte by byte
+abbrev pub hillText : List ℕ
+hillText =
+    77 ∷ 85 ∷ 76 ∷ 84 ∷ 73 ∷ 76 ∷ 73 ∷ 78 ∷ 69 ∷ 83 ∷ 84 ∷ 82 ∷ 73 ∷ 78 ∷ 71 ∷ 32 ∷ 40 ∷ 40 ∷ 53 ∷ 48 ∷ 46 ∷ 48 ∷ 48 ∷ 48 ∷ 32 ∷ 49 ∷ 48 ∷ 48 ∷ 46 ∷ 48
+    ∷ 48 ∷ 48 ∷ 44 ∷ 32 ∷ 49 ∷ 48 ∷ 48 ∷ 46 ∷ 48 ∷ 48 ∷ 48 ∷ 32 ∷ 53 ∷ 48 ∷ 46 ∷ 48 ∷ 48 ∷ 48 ∷ 44 ∷ 32 ∷ 49 ∷ 53 ∷ 48 ∷ 46 ∷ 48 ∷ 48 ∷ 48 ∷ 32 ∷ 49 ∷ 48
+    ∷ 48 ∷ 46 ∷ 48 ∷ 48 ∷ 48 ∷ 44 ∷ 32 ∷ 49 ∷ 48 ∷ 48 ∷ 46 ∷ 48 ∷ 48 ∷ 48 ∷ 32 ∷ 49 ∷ 53 ∷ 48 ∷ 46 ∷ 48 ∷ 48 ∷ 48 ∷ 44 ∷ 32 ∷ 53 ∷ 48 ∷ 46 ∷ 48 ∷ 48 ∷ 48
+    ∷ 32 ∷ 49 ∷ 48 ∷ 48 ∷ 46 ∷ 48 ∷ 48 ∷ 48 ∷ 41 ∷ 41 ∷ []
 
 abbrev pub cases : List Case
 cases =
@@ -46,4 +75,5 @@ cases =
     ∷ energy 6500 3162277
     ∷ energy 7500 31622770
     ∷ energy 13000 (10 ^ 13)
+    ∷ contour hill hillFrame 4500 hillContours hillText
     ∷ []

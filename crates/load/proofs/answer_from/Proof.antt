@@ -16,15 +16,6 @@ use Rattle.load.proofs.SumsLaws.{sums-fit, sums-total, sums-small, sums
 use borrow.Author.Needs.{needs}
 use Rattle.load.proofs.answer_from.Statement.{statement}
 use Rattle.load.proofs.answer_from.Tie as tie
-use Rattle.load.proofs.answer_from.Reads as reads
-use Rattle.load.proofs.answer_from.Lts as lts
-use Rattle.level.proofs.core.level_of.Reads as level-of-reads
-use Rattle.level.proofs.core.mean.Reads as mean-reads
-use Rattle.load.proofs.refusal.Reads as refusal-reads
-use Rattle.load.proofs.sums.counts_of.Reads as counts-of-reads
-use Rattle.load.proofs.sums.none_computed.Reads as none-computed-reads
-use Rattle.load.proofs.sums.scaled_by.Reads as scaled-by-reads
-use Rattle.load.proofs.sums.summed.Reads as summed-reads
 
 -- what the sums say
 fits : (c : tie.After-summed) → Scalable (c .summed .result .scaled) (c .summed .result .known + c .summed .result .unknown) (c .summed .result .known)
@@ -33,15 +24,6 @@ fits c = sums-fit (c .before .args .groups) (c .summed .result) (c .summed .ensu
 none : (c : tie.After-none-computed) → c .none-computed .result
     ≡ (eqb (knownSum (λ g. countsOf (groupAt (c .before .before .args .groups) g))) 0 && ltb 0 (unknownSum (λ g. countsOf (groupAt (c .before .before .args .groups) g))))
 none c = sums-none (c .before .before .args .groups) (c .before .summed .result) (c .before .summed .ensures) (c .none-computed .ensures)
-
-summed-requires : tie.Need-summed-requires
-summed-requires c κs = search needs
-
-none-computed-requires : tie.Need-none-computed-requires
-none-computed-requires c κs = search needs
-
-refusal-requires : tie.Need-refusal-requires
-refusal-requires c κs = search needs
 
 returns : tie.Need-returns
 returns c =
@@ -64,9 +46,6 @@ level-of-requires c κs =
     let t : c .before .scaled-by .result ≤ maxTotal = omega (arith, c .before .scaled-by .ensures, sums-small (s .args .groups) (n .summed .result) (n .summed .ensures) (s .pre .0)) in
     rw (c .mean .ensures) (mean-le (c .before .scaled-by .result) (s .args .days) t)
 
-counts-of-requires : tie.Need-counts-of-requires
-counts-of-requires c κs = search needs
-
 returns-2 : tie.Need-returns-2
 returns-2 c =
     let t = c .before .before .before in
@@ -83,13 +62,13 @@ pub answer-from-spec : {M : Type 1} → statement M
 answer-from-spec =
     tie.close
     (tie.spec
-    summed-requires
-    none-computed-requires
-    refusal-requires
+    (λ c κs. search needs)
+    (λ c κs. search needs)
+    (λ c κs. search needs)
     returns
     add-scaled-by
     scaled-by-requires
     mean-requires
     level-of-requires
-    counts-of-requires
+    (λ c κs. search needs)
     returns-2)

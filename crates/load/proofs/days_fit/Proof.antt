@@ -4,8 +4,6 @@ use borrow.Author.Tests.{le-leb, lt-leb}
 use Rattle.counted.specs.Load.{daysFit}
 use Rattle.load.proofs.days_fit.Statement.{statement}
 use Rattle.load.proofs.days_fit.Tie as tie
-use Rattle.load.proofs.days_fit.Reads as reads
-use Rattle.load.proofs.days_fit.Lts as lts
 
 returns : tie.Need-returns
 unfolding daysFit

@@ -8,20 +8,14 @@ use Rattle.load.specs.Steps.{judgedBy}
 use borrow.Author.Needs.{needs}
 use Rattle.load.proofs.judged_by.Statement.{statement}
 use Rattle.load.proofs.judged_by.Tie as tie
-use Rattle.load.proofs.judged_by.Reads as reads
-use Rattle.load.proofs.judged_by.Lts as lts
-use Rattle.level.proofs.core.judge.Reads as judge-reads
 
 returns : tie.Need-returns
 unfolding judgedBy judged
 returns c = rw (ne-eqb _ _ (c .if1 .taken))
-
-judge-requires : tie.Need-judge-requires
-judge-requires c κs = search needs
 
 returns-2 : tie.Need-returns-2
 unfolding judgedBy judged
 returns-2 c = rw (c .before .if1 .left) (ap Given (c .judge .ensures))
 
 pub judged-by-spec : {M : Type 1} → statement M
-judged-by-spec = tie.close (tie.spec returns judge-requires returns-2)
+judged-by-spec = tie.close (tie.spec returns (λ c κs. search needs) returns-2)

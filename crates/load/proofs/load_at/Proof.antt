@@ -7,31 +7,13 @@ use Rattle.load.proofs.SumsLaws.{fits-there}
 use borrow.Author.Needs.{needs}
 use Rattle.load.proofs.load_at.Statement.{statement}
 use Rattle.load.proofs.load_at.Tie as tie
-use Rattle.load.proofs.load_at.Reads as reads
-use Rattle.load.proofs.load_at.Lts as lts
-use Rattle.load.proofs.days_fit.Reads as days-fit-reads
-use Rattle.load.proofs.load_of.Reads as load-of-reads
-use Rattle.load.proofs.point_fits.Reads as point-fits-reads
-use Rattle.load.proofs.refusal.Reads as refusal-reads
 
 abbrev book : tie.Start → Book
 book s = bookOf (s .args .ids .now) (s .args .groups .now) (s .args .marks .now) (s .args .levels .now)
 
-point-fits-requires : tie.Need-point-fits-requires
-point-fits-requires c κs = search needs
-
-refusal-requires : tie.Need-refusal-requires
-refusal-requires c κs = search needs
-
 returns : tie.Need-returns
 unfolding bookLoad loadOf loadRefusal
 returns c = rw (failed (c .before .before .point-fits .ensures) (c .before .if1 .taken)) (c .refusal .ensures)
-
-days-fit-requires : tie.Need-days-fit-requires
-days-fit-requires c κs = search needs
-
-refusal-requires-2 : tie.Need-refusal-requires-2
-refusal-requires-2 c κs = search needs
 
 returns-2 : tie.Need-returns-2
 unfolding bookLoad loadOf loadRefusal
@@ -51,11 +33,11 @@ pub load-at-spec : {M : Type 1} → statement M
 load-at-spec =
     tie.close
     (tie.spec
-    point-fits-requires
-    refusal-requires
+    (λ c κs. search needs)
+    (λ c κs. search needs)
     returns
-    days-fit-requires
-    refusal-requires-2
+    (λ c κs. search needs)
+    (λ c κs. search needs)
     returns-2
     load-of-requires
     returns-3)

@@ -12,28 +12,9 @@ use Rattle.load.proofs.SumsLaws.{from-table, from-shares}
 use borrow.Author.Needs.{needs}
 use Rattle.load.proofs.load_of.Statement.{statement}
 use Rattle.load.proofs.load_of.Tie as tie
-use Rattle.load.proofs.load_of.Reads as reads
-use Rattle.load.proofs.load_of.Lts as lts
-use Rattle.level.proofs.tables.powers.Reads as powers-reads
-use Rattle.level.proofs.tables.table_a.Reads as table-a-reads
-use Rattle.load.proofs.answer_from.Reads as answer-from-reads
-use Rattle.load.proofs.tally.no_groups.Reads as no-groups-reads
-use Rattle.load.proofs.tally.tallied.Reads as tallied-reads
 
 abbrev book : tie.Start → Book
 book s = bookOf (s .args .ids .now) (s .args .groups .now) (s .args .marks .now) (s .args .levels .now)
-
-table-a-requires : tie.Need-table-a-requires
-table-a-requires c κs = search needs
-
-powers-requires : tie.Need-powers-requires
-powers-requires c κs = search needs
-
-no-groups-requires : tie.Need-no-groups-requires
-no-groups-requires c κs = search needs
-
-tallied-requires : tie.Need-tallied-requires
-tallied-requires c κs = search needs
 
 answer-from-requires : tie.Need-answer-from-requires
 unfolding bookShares
@@ -55,9 +36,9 @@ pub load-of-spec : {M : Type 1} → statement M
 load-of-spec =
     tie.close
     (tie.spec
-    table-a-requires
-    powers-requires
-    no-groups-requires
-    tallied-requires
+    (λ c κs. search needs)
+    (λ c κs. search needs)
+    (λ c κs. search needs)
+    (λ c κs. search needs)
     answer-from-requires
     returns)

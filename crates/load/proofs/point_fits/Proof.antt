@@ -4,12 +4,6 @@ use Rattle.refusal.proofs.Laws.{passed, failed}
 use borrow.Author.Needs.{needs}
 use Rattle.load.proofs.point_fits.Statement.{statement}
 use Rattle.load.proofs.point_fits.Tie as tie
-use Rattle.load.proofs.point_fits.Reads as reads
-use Rattle.load.proofs.point_fits.Lts as lts
-use Rattle.book.proofs.soundness.is_sound.Reads as is-sound-reads
-
-is-sound-requires : tie.Need-is-sound-requires
-is-sound-requires c κs = search needs
 
 returns : tie.Need-returns
 returns c = simp (failed (c .before .is-sound .ensures) (c .if1 .taken))
@@ -18,4 +12,4 @@ returns-2 : tie.Need-returns-2
 returns-2 c = simp (passed (c .before .is-sound .ensures) (c .if1 .left))
 
 pub point-fits-spec : {M : Type 1} → statement M
-point-fits-spec = tie.close (tie.spec is-sound-requires returns returns-2)
+point-fits-spec = tie.close (tie.spec (λ c κs. search needs) returns returns-2)

@@ -4,8 +4,6 @@ use borrow.Author.Needs.{needs}
 use Rattle.counted.specs.Load.{refusedLoad}
 use Rattle.load.proofs.refusal.Statement.{statement}
 use Rattle.load.proofs.refusal.Tie as tie
-use Rattle.load.proofs.refusal.Reads as reads
-use Rattle.load.proofs.refusal.Lts as lts
 
 returns : tie.Need-returns
 unfolding refusedLoad

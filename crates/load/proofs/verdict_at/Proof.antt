@@ -12,25 +12,13 @@ use Rattle.load.proofs.SumsLaws.{fits-there, judged-load}
 use borrow.Author.Needs.{needs}
 use Rattle.load.proofs.verdict_at.Statement.{statement}
 use Rattle.load.proofs.verdict_at.Tie as tie
-use Rattle.load.proofs.verdict_at.Reads as reads
-use Rattle.load.proofs.verdict_at.Lts as lts
-use Rattle.load.proofs.days_fit.Reads as days-fit-reads
-use Rattle.load.proofs.judged_by.Reads as judged-by-reads
-use Rattle.load.proofs.load_of.Reads as load-of-reads
-use Rattle.load.proofs.point_fits.Reads as point-fits-reads
 
 abbrev book : tie.Start → Book
 book s = bookOf (s .args .ids .now) (s .args .groups .now) (s .args .marks .now) (s .args .levels .now)
 
-point-fits-requires : tie.Need-point-fits-requires
-point-fits-requires c κs = search needs
-
 returns : tie.Need-returns
 unfolding bookVerdict judgedOf verdictRefusal judged
 returns c = judging (rw (failed (c .before .point-fits .ensures) (c .if1 .taken)) refl)
-
-days-fit-requires : tie.Need-days-fit-requires
-days-fit-requires c κs = search needs
 
 returns-2 : tie.Need-returns-2
 unfolding bookVerdict judgedOf verdictRefusal judged
@@ -45,9 +33,6 @@ load-of-requires c κs =
     let s = c .before .before .before .before .before .before .before .before .before in
     let there = fits-there (s .args .points) (s .args .point) (book s) (passed (c .before .before .before .before .point-fits .ensures) (c .before .before .before .if1 .left)) in
     (there .0, (there .1, passed (c .before .before .days-fit .ensures) (c .before .if2 .left)))
-
-judged-by-requires : tie.Need-judged-by-requires
-judged-by-requires c κs = search needs
 
 returns-4 : tie.Need-returns-4
 unfolding bookVerdict limitFits
@@ -64,11 +49,11 @@ pub verdict-at-spec : {M : Type 1} → statement M
 verdict-at-spec =
     tie.close
     (tie.spec
-    point-fits-requires
+    (λ c κs. search needs)
     returns
-    days-fit-requires
+    (λ c κs. search needs)
     returns-2
     returns-3
     load-of-requires
-    judged-by-requires
+    (λ c κs. search needs)
     returns-4)

@@ -8,9 +8,6 @@ use Rattle.grid.proofs.HeadLaws.{begins-short}
 use borrow.Author.Needs.{needs}
 use Rattle.grid.proofs.head.is_begun.Statement.{statement}
 use Rattle.grid.proofs.head.is_begun.Tie as tie
-use Rattle.grid.proofs.head.is_begun.Reads as reads
-use Rattle.grid.proofs.head.is_begun.Lts as lts
-use Rattle.text.proofs.same.same_text.Reads as same-text-reads
 
 returns : tie.Need-returns
 returns c = sym (begins-short _ _ (c .if1 .taken))

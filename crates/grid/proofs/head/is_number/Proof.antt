@@ -1,12 +1,8 @@
 -- `grid::head::is_number` meets its contract. Assumes nothing.
-use mathlib.Core.Path.{_≡_, sym, ap, _∙_}
+use mathlib.Core.Path.{sym, _∙_}
 use borrow.Author.Needs.{needs}
 use Rattle.grid.proofs.head.is_number.Statement.{statement}
 use Rattle.grid.proofs.head.is_number.Tie as tie
-use Rattle.grid.proofs.head.is_number.Reads as reads
-use Rattle.grid.proofs.head.is_number.Lts as lts
-use Rattle.text.proofs.number.level.Reads as level-reads
-use Rattle.text.proofs.number.whole.Reads as whole-reads
 
 whole-requires : tie.Need-whole-requires
 whole-requires c κs = search needs

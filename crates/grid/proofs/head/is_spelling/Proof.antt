@@ -1,18 +1,14 @@
 -- `grid::head::is_spelling` meets its contract. Assumes nothing.
-use mathlib.Core.Path.{_≡_, refl, sym, ap, _∙_}
+use mathlib.Core.Path.{ap, _∙_}
 use mathlib.Core.Logic.{⊎-elim}
 use native.Mathlib.Omega.{arith}
 use borrow.Author.Tests.{eq-eqb, ne-eqb}
-use lib.ListN.{length, getD, List·getD-eq-default}
+use lib.ListN.{getD, List·getD-eq-default}
 use Rattle.text.proofs.Digits.{part-rest}
-use Rattle.grid.specs.File.{isSpelling}
-use Rattle.grid.specs.Steps.{isNumber}
+use Rattle.grid.specs.File.{isNumber}
 use borrow.Author.Needs.{needs}
 use Rattle.grid.proofs.head.is_spelling.Statement.{statement}
 use Rattle.grid.proofs.head.is_spelling.Tie as tie
-use Rattle.grid.proofs.head.is_spelling.Reads as reads
-use Rattle.grid.proofs.head.is_spelling.Lts as lts
-use Rattle.grid.proofs.head.is_number.Reads as is-number-reads
 
 shared-slice-read-if2 : tie.Need-shared-slice-read-if2
 shared-slice-read-if2 c = search needs

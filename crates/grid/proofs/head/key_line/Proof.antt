@@ -1,13 +1,9 @@
 -- `grid::head::key_line` meets its contract. Assumes nothing.
-use mathlib.Core.Path.{_≡_, sym, ap, _∙_}
+use mathlib.Core.Path.{sym, ap, _∙_}
 use Rattle.grid.specs.File.{numberAfter}
 use borrow.Author.Needs.{needs}
 use Rattle.grid.proofs.head.key_line.Statement.{statement}
 use Rattle.grid.proofs.head.key_line.Tie as tie
-use Rattle.grid.proofs.head.key_line.Reads as reads
-use Rattle.grid.proofs.head.key_line.Lts as lts
-use Rattle.grid.proofs.head.key_number.Reads as key-number-reads
-use Rattle.grid.proofs.head.line_at.Reads as line-at-reads
 
 line-at-requires : tie.Need-line-at-requires
 line-at-requires c κs = search needs

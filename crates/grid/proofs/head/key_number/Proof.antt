@@ -1,19 +1,14 @@
 -- `grid::head::key_number` meets its contract. Assumes nothing.
-use mathlib.Core.Path.{_≡_, sym, ap, _∙_}
-use mathlib.Core.Bool.{true, false}
+use mathlib.Core.Path.{sym, ap, _∙_}
 use Prim.Native.Nat.{_≤_}
 use lib.ListN.{length}
 use Rattle.text.specs.Number.{wholeOf}
 use Rattle.text.proofs.Digits.{part-rest}
-use Rattle.grid.specs.File.{begins, numberAfter}
+use Rattle.grid.specs.File.{numberAfter}
 use Rattle.grid.proofs.HeadLaws.{begins-long}
 use borrow.Author.Needs.{needs}
 use Rattle.grid.proofs.head.key_number.Statement.{statement}
 use Rattle.grid.proofs.head.key_number.Tie as tie
-use Rattle.grid.proofs.head.key_number.Reads as reads
-use Rattle.grid.proofs.head.key_number.Lts as lts
-use Rattle.grid.proofs.head.is_begun.Reads as is-begun-reads
-use Rattle.text.proofs.number.whole.Reads as whole-reads
 
 is-begun-requires : tie.Need-is-begun-requires
 is-begun-requires c κs = search needs

@@ -3,9 +3,6 @@ use Rattle.grid.proofs.LineLaws.{line-ended, line-open}
 use borrow.Author.Needs.{needs}
 use Rattle.grid.proofs.head.line_at.Statement.{statement}
 use Rattle.grid.proofs.head.line_at.Tie as tie
-use Rattle.grid.proofs.head.line_at.Reads as reads
-use Rattle.grid.proofs.head.line_at.Lts as lts
-use Rattle.text.proofs.core.line_end.Reads as line-end-reads
 
 line-end-requires : tie.Need-line-end-requires
 line-end-requires c κs = search needs

@@ -1,17 +1,13 @@
 -- `grid::head::names_well` meets its contract. Assumes nothing.
-use mathlib.Core.Path.{_≡_, refl, sym, ap, _∙_}
-use native.Mathlib.Omega.{arith}
+use mathlib.Core.Path.{sym, ap, _∙_}
 use borrow.Author.Tests.{eq-eqb, ne-eqb}
-use lib.ListN.{length, getD, List·getD-eq-default}
+use lib.ListN.{getD}
 use Rattle.text.proofs.Digits.{part-rest}
 use Rattle.grid.specs.File.{namesWell, isSpelling}
 use Rattle.grid.proofs.HeadLaws.{names-short}
 use borrow.Author.Needs.{needs}
 use Rattle.grid.proofs.head.names_well.Statement.{statement}
 use Rattle.grid.proofs.head.names_well.Tie as tie
-use Rattle.grid.proofs.head.names_well.Reads as reads
-use Rattle.grid.proofs.head.names_well.Lts as lts
-use Rattle.grid.proofs.head.is_spelling.Reads as is-spelling-reads
 
 returns : tie.Need-returns
 returns c = sym (names-short _ (c .if1 .taken))

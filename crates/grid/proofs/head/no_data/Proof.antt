@@ -1,17 +1,11 @@
 -- `grid::head::no_data` meets its contract. Assumes nothing.
-use mathlib.Core.Path.{_≡_, refl, sym, ap, _∙_}
-use native.Mathlib.Omega.{arith}
+use mathlib.Core.Path.{sym, ap, _∙_}
 use borrow.Author.Tests.{not-true, not-false}
 use Rattle.grid.specs.File.{names, namesWell}
-use Rattle.grid.proofs.HeadLaws.{spelled-at, begins-long}
+use Rattle.grid.proofs.HeadLaws.{spelled-at}
 use borrow.Author.Needs.{needs}
 use Rattle.grid.proofs.head.no_data.Statement.{statement}
 use Rattle.grid.proofs.head.no_data.Tie as tie
-use Rattle.grid.proofs.head.no_data.Reads as reads
-use Rattle.grid.proofs.head.no_data.Lts as lts
-use Rattle.grid.proofs.head.is_begun.Reads as is-begun-reads
-use Rattle.grid.proofs.head.line_at.Reads as line-at-reads
-use Rattle.grid.proofs.head.names_well.Reads as names-well-reads
 
 line-at-requires : tie.Need-line-at-requires
 line-at-requires c κs = search needs

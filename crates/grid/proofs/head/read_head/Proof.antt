@@ -1,14 +1,11 @@
 -- `grid::head::read_head` meets its contract: one header line after the other. Assumes nothing.
-use mathlib.Core.Path.{_≡_, refl}
+use mathlib.Core.Path.{refl}
 use native.Mathlib.Omega.{arith}
 use Rattle.grid.specs.File.{ncols, nrows, xllcenter, yllcenter, cellsize, firstOff, frameOf}
 use Rattle.grid.proofs.HeadLaws.{KeyStep, key-step, key-stop}
 use borrow.Author.Needs.{needs}
 use Rattle.grid.proofs.head.read_head.Statement.{statement}
 use Rattle.grid.proofs.head.read_head.Tie as tie
-use Rattle.grid.proofs.head.read_head.Reads as reads
-use Rattle.grid.proofs.head.read_head.Lts as lts
-use Rattle.grid.proofs.head.key_line.Reads as key-line-reads
 
 -- header line after header line
 first : (c : tie.After-known-told) → KeyStep (c .before .before .before .before .before .before .args .s .now) ncols 0 (c .before .columns .given .0 .0) (c .before .columns .given .0 .1 .0)

@@ -6,10 +6,6 @@ use Rattle.grid.proofs.FileLaws.{file-on, file-off}
 use borrow.Author.Needs.{needs}
 use Rattle.grid.proofs.judge.judge.Statement.{statement}
 use Rattle.grid.proofs.judge.judge.Tie as tie
-use Rattle.grid.proofs.judge.judge.Reads as reads
-use Rattle.grid.proofs.judge.judge.Lts as lts
-use Rattle.grid.proofs.head.read_head.Reads as read-head-reads
-use Rattle.grid.proofs.judge.judge_body.Reads as judge-body-reads
 
 read-head-requires : tie.Need-read-head-requires
 read-head-requires c κs = search needs

@@ -7,10 +7,6 @@ use Rattle.grid.proofs.FileLaws.{body-named, body-unnamed, body-off}
 use borrow.Author.Needs.{needs}
 use Rattle.grid.proofs.judge.judge_body.Statement.{statement}
 use Rattle.grid.proofs.judge.judge_body.Tie as tie
-use Rattle.grid.proofs.judge.judge_body.Reads as reads
-use Rattle.grid.proofs.judge.judge_body.Lts as lts
-use Rattle.grid.proofs.head.no_data.Reads as no-data-reads
-use Rattle.grid.proofs.judge.judge_rows.Reads as judge-rows-reads
 
 no-data-requires : tie.Need-no-data-requires
 no-data-requires c κs = search needs

@@ -1,5 +1,5 @@
 -- `grid::judge::judge_row` meets its contract. The invariant: the values passed, and what all of them were. Assumes nothing.
-use Prim.Native.Nat.{_+_, _-_, _≤_}
+use Prim.Native.Nat.{_-_}
 use mathlib.Core.Path.{_≡_, sym, ap, _∙_}
 use mathlib.Core.Bool.{true, _&&_}
 use native.Mathlib.Omega.{arith}
@@ -11,11 +11,6 @@ use Rattle.grid.specs.Steps.{isSound}
 use Rattle.grid.proofs.ValueLaws.{between, end-within, value-off, value-on, RowAt, row-start, row-off, row-last, row-next}
 use Rattle.grid.proofs.judge.judge_row.Statement.{statement}
 use Rattle.grid.proofs.judge.judge_row.Tie as tie
-use Rattle.grid.proofs.judge.judge_row.Reads as reads
-use Rattle.grid.proofs.judge.judge_row.Lts as lts
-use Rattle.grid.proofs.judge.both.Reads as both-reads
-use Rattle.grid.proofs.judge.value_refusal.Reads as value-refusal-reads
-use Rattle.text.proofs.core.field_end.Reads as field-end-reads
 
 abbrev Inv-loop : tie.InvT-loop
 Inv-loop s nodata at₀ count₀ sound₀ at count sound = RowAt nodata s at count sound

@@ -1,5 +1,5 @@
 -- `grid::judge::judge_rows` meets its contract. The invariant: the rows passed, and what all of them were. Assumes nothing.
-use Prim.Native.Nat.{_+_, _-_, _≤_}
+use Prim.Native.Nat.{_-_}
 use mathlib.Core.Path.{_≡_, refl, sym, ap, _∙_}
 use native.Mathlib.Omega.{arith}
 use lib.ListN.{length}
@@ -7,11 +7,6 @@ use Rattle.grid.specs.Steps.{lineFrom, rowOf}
 use Rattle.grid.proofs.RowLaws.{RowsAt, rows-start, rows-off, rows-next, rows-on, rows-fit, rows-sound}
 use Rattle.grid.proofs.judge.judge_rows.Statement.{statement}
 use Rattle.grid.proofs.judge.judge_rows.Tie as tie
-use Rattle.grid.proofs.judge.judge_rows.Reads as reads
-use Rattle.grid.proofs.judge.judge_rows.Lts as lts
-use Rattle.grid.proofs.head.line_at.Reads as line-at-reads
-use Rattle.grid.proofs.judge.both.Reads as both-reads
-use Rattle.grid.proofs.judge.judge_row.Reads as judge-row-reads
 use borrow.Author.Needs.{needs}
 
 abbrev Inv-loop : tie.InvT-loop

@@ -6,10 +6,6 @@ use Rattle.grid.proofs.ValueLaws.{none-here, level-here, high-here, nei
 use borrow.Author.Needs.{needs}
 use Rattle.grid.proofs.judge.value_refusal.Statement.{statement}
 use Rattle.grid.proofs.judge.value_refusal.Tie as tie
-use Rattle.grid.proofs.judge.value_refusal.Reads as reads
-use Rattle.grid.proofs.judge.value_refusal.Lts as lts
-use Rattle.text.proofs.number.level.Reads as level-reads
-use Rattle.text.proofs.same.same_text.Reads as same-text-reads
 
 same-text-requires : tie.Need-same-text-requires
 same-text-requires c κs = search needs

@@ -1,12 +1,8 @@
 -- `grid::put::put_end` meets its contract. Assumes nothing.
-use native.Mathlib.Omega.{arith}
 use Rattle.text.proofs.Puts.{wrote-then}
 use borrow.Author.Needs.{needs}
 use Rattle.grid.proofs.put.put_end.Statement.{statement}
 use Rattle.grid.proofs.put.put_end.Tie as tie
-use Rattle.grid.proofs.put.put_end.Reads as reads
-use Rattle.grid.proofs.put.put_end.Lts as lts
-use Rattle.text.proofs.core.put_byte.Reads as put-byte-reads
 
 put-byte-requires : tie.Need-put-byte-requires
 put-byte-requires c κs = search needs

@@ -9,11 +9,6 @@ use Rattle.grid.proofs.WriteLaws.{ended-length, key-length}
 use borrow.Author.Needs.{needs}
 use Rattle.grid.proofs.put.put_line.Statement.{statement}
 use Rattle.grid.proofs.put.put_line.Tie as tie
-use Rattle.grid.proofs.put.put_line.Reads as reads
-use Rattle.grid.proofs.put.put_line.Lts as lts
-use Rattle.grid.proofs.put.put_end.Reads as put-end-reads
-use Rattle.text.proofs.core.put_text.Reads as put-text-reads
-use Rattle.text.proofs.core.put_whole.Reads as put-whole-reads
 
 -- the room, part by part
 room : (c : tie.Start) → c .args .at + (length (c .args .key .now) + length (showWhole (c .args .n)) + 2) ≤ length (c .args .out .now)

@@ -10,11 +10,6 @@ use Rattle.grid.proofs.WriteLaws.{near, network-text, parts-length}
 use borrow.Author.Needs.{needs}
 use Rattle.grid.proofs.put.put_network.Statement.{statement}
 use Rattle.grid.proofs.put.put_network.Tie as tie
-use Rattle.grid.proofs.put.put_network.Reads as reads
-use Rattle.grid.proofs.put.put_network.Lts as lts
-use Rattle.grid.proofs.put.put_place.Reads as put-place-reads
-use Rattle.grid.proofs.put.put_rows.Reads as put-rows-reads
-use Rattle.grid.proofs.put.put_sides.Reads as put-sides-reads
 
 -- the room, part by part
 room : (c : tie.Start) → let f = c .args .frame in

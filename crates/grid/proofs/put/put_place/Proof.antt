@@ -11,9 +11,6 @@ use Rattle.grid.proofs.WriteLaws.{three-lines, three-length}
 use borrow.Author.Needs.{needs}
 use Rattle.grid.proofs.put.put_place.Statement.{statement}
 use Rattle.grid.proofs.put.put_place.Tie as tie
-use Rattle.grid.proofs.put.put_place.Reads as reads
-use Rattle.grid.proofs.put.put_place.Lts as lts
-use Rattle.grid.proofs.put.put_line.Reads as put-line-reads
 
 -- the room, line by line
 room : (c : tie.Start) → let f = c .args .frame in

@@ -6,10 +6,6 @@ use Rattle.grid.proofs.WriteLaws.{ended-length}
 use borrow.Author.Needs.{needs}
 use Rattle.grid.proofs.put.put_row.Statement.{statement}
 use Rattle.grid.proofs.put.put_row.Tie as tie
-use Rattle.grid.proofs.put.put_row.Reads as reads
-use Rattle.grid.proofs.put.put_row.Lts as lts
-use Rattle.grid.proofs.put.put_end.Reads as put-end-reads
-use Rattle.grid.proofs.put.put_values.Reads as put-values-reads
 
 put-values-requires : tie.Need-put-values-requires
 put-values-requires c κs =

@@ -1,20 +1,17 @@
 -- `grid::put::put_rows` meets its contract. The invariant: what is written, and what is left to write. Assumes nothing.
 use mathlib.Core.Path.{_≡_, refl, sym, subst, ap, _∙_}
 use mathlib.Core.List.{_++_}
-use lib.ListN.{length, take, drop, length-append, length-drop}
+use lib.ListN.{length, drop, length-append, length-drop}
 use Rattle.text.specs.Put.{Wrote}
 use Rattle.grid.specs.Steps.{ended, Quiet}
 use Rattle.grid.proofs.WriteLaws.{Writing, writing-start, writing-room, writing-more, writing-end, row-inside, part-row, quiet-part, rows-more, rows-none}
-use Prim.Native.Nat.{ℕ, _+_, _-_, _*_, _≤_, _<_}
+use Prim.Native.Nat.{_+_, _-_, _*_, _≤_}
 use native.Mathlib.Omega.{arith}
 use borrow.Author.Needs.{needs}
 use lib.Seq.{length-take-le}
 use Rattle.grid.specs.Write.{rowLine, rowAt, rowLines, textOf}
 use Rattle.grid.proofs.put.put_rows.Statement.{statement}
 use Rattle.grid.proofs.put.put_rows.Tie as tie
-use Rattle.grid.proofs.put.put_rows.Reads as reads
-use Rattle.grid.proofs.put.put_rows.Lts as lts
-use Rattle.grid.proofs.put.put_row.Reads as put-row-reads
 
 abbrev Inv-loop : tie.InvT-loop
 Inv-loop out₀ from levels columns rows at₀ left₀ out at left =

@@ -10,9 +10,6 @@ use Rattle.grid.proofs.WriteLaws.{two-lines, two-length}
 use borrow.Author.Needs.{needs}
 use Rattle.grid.proofs.put.put_sides.Statement.{statement}
 use Rattle.grid.proofs.put.put_sides.Tie as tie
-use Rattle.grid.proofs.put.put_sides.Reads as reads
-use Rattle.grid.proofs.put.put_sides.Lts as lts
-use Rattle.grid.proofs.put.put_line.Reads as put-line-reads
 
 -- the room, line by line
 room : (c : tie.Start) → let f = c .args .frame in length (ended (keyLine ncols (f .columns))) + length (ended (keyLine nrows (f .rows))) ≤ length (c .args .out .now)

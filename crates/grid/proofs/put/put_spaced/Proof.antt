@@ -1,13 +1,8 @@
 -- `grid::put::put_spaced` meets its contract. Assumes nothing.
-use native.Mathlib.Omega.{arith}
 use Rattle.text.proofs.Puts.{wrote-then}
 use borrow.Author.Needs.{needs}
 use Rattle.grid.proofs.put.put_spaced.Statement.{statement}
 use Rattle.grid.proofs.put.put_spaced.Tie as tie
-use Rattle.grid.proofs.put.put_spaced.Reads as reads
-use Rattle.grid.proofs.put.put_spaced.Lts as lts
-use Rattle.text.proofs.core.put_byte.Reads as put-byte-reads
-use Rattle.text.proofs.core.put_level.Reads as put-level-reads
 
 put-byte-requires : tie.Need-put-byte-requires
 put-byte-requires c κs = search needs

@@ -1,21 +1,15 @@
 -- `grid::put::put_values` meets its contract. The invariant: what is written, and what is left to write. Assumes nothing.
-use Prim.Native.Nat.{ℕ, _+_, _-_, _*_, _≤_, _<_}
-use mathlib.Core.Path.{_≡_, refl, sym, ap, _∙_}
+use Prim.Native.Nat.{ℕ, _+_, _-_, _≤_}
+use mathlib.Core.Path.{_≡_, refl, ap, _∙_}
 use mathlib.Core.List.{List, _∷_, _++_}
 use native.Mathlib.Omega.{arith}
 use borrow.Author.Needs.{needs}
 use lib.ListN.{length, getD, drop, length-append}
 use Rattle.text.specs.Number.{showLevel}
-use Rattle.text.specs.Put.{Wrote}
 use Rattle.text.proofs.Puts.{wrote-then}
-use Rattle.grid.specs.Write.{rowLine}
 use Rattle.grid.proofs.WriteLaws.{Writing, writing-start, writing-room, writing-more, writing-end, spacedOf, spaced-more, spaced-none, row-first}
 use Rattle.grid.proofs.put.put_values.Statement.{statement}
 use Rattle.grid.proofs.put.put_values.Tie as tie
-use Rattle.grid.proofs.put.put_values.Reads as reads
-use Rattle.grid.proofs.put.put_values.Lts as lts
-use Rattle.grid.proofs.put.put_spaced.Reads as put-spaced-reads
-use Rattle.text.proofs.core.put_level.Reads as put-level-reads
 
 abbrev Inv-loop : tie.InvT-loop
 Inv-loop out₀ from row at₀ i₀ out at i =

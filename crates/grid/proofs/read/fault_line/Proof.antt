@@ -4,9 +4,6 @@ use Rattle.grid.specs.Steps.{fileRead}
 use borrow.Author.Needs.{needs}
 use Rattle.grid.proofs.read.fault_line.Statement.{statement}
 use Rattle.grid.proofs.read.fault_line.Tie as tie
-use Rattle.grid.proofs.read.fault_line.Reads as reads
-use Rattle.grid.proofs.read.fault_line.Lts as lts
-use Rattle.grid.proofs.judge.judge.Reads as judge-reads
 
 judge-requires : tie.Need-judge-requires
 judge-requires c κs = search needs

@@ -1,24 +1,14 @@
 -- `grid::read::read_network` meets its contract: off the layout, refused for its shape, too little room, or read. Assumes nothing.
-use Prim.Native.Nat.{_≤_, _*_}
-use mathlib.Core.Path.{_≡_, refl, subst, sym, ap, _∙_}
+use mathlib.Core.Path.{_≡_, subst, sym, ap, _∙_}
 use native.Mathlib.Omega.{arith}
-use lib.ListN.{length}
-use Rattle.text.specs.Line.{linesOf}
-use Rattle.grid.specs.File.{faultLine, rowsOf}
 use Rattle.grid.specs.Row.{levelsOf}
 use Rattle.grid.specs.Read.{over, numbersOf}
-use Rattle.grid.specs.Steps.{fileRead, Judged, shapeRefusal}
+use Rattle.grid.specs.Steps.{fileRead, shapeRefusal}
 use Rattle.grid.specs.declared.judge.File.the-variants.{On}
 use Rattle.grid.proofs.ReadLaws.{off-layout, shape-refused, rows-ready, product-small, no-header, no-levels, roomy-both, refused-outcome, read-outcome}
 use borrow.Author.Needs.{needs}
 use Rattle.grid.proofs.read.read_network.Statement.{statement}
 use Rattle.grid.proofs.read.read_network.Tie as tie
-use Rattle.grid.proofs.read.read_network.Reads as reads
-use Rattle.grid.proofs.read.read_network.Lts as lts
-use Rattle.grid.proofs.judge.judge.Reads as judge-reads
-use Rattle.grid.proofs.read.shape_refusal.Reads as shape-refusal-reads
-use Rattle.grid.proofs.store.store_frame.Reads as store-frame-reads
-use Rattle.grid.proofs.store.store_rows.Reads as store-rows-reads
 
 -- the text is on its layout, and how it was judged
 file : (c : tie.After-known-told) → let g = c .before .frame .given .0 in
@@ -66,7 +56,7 @@ returns-3 c =
     let a = c .before .before .before .before .before .before .before .before .before .before .before .before .args in
     let f = file (c .before .before .before .before .before) in
     refused-outcome (a .text .now) (a .header .now) (a .levels .now) 14
-    (no-header (a .text .now) _ _ _ _ (f .0) (f .1) (none (c .before .before .before)) _ _ (c .if2 .taken))
+    (no-header (a .text .now) _ _ _ _ (f .0) (f .1) (none (c .before .before .before)) _ _ (omega (arith, c .if2 .taken)))
     (λ z. omega arith)
 
 mul-if3 : tie.Need-mul-if3
@@ -79,7 +69,7 @@ returns-4 c =
     let a = c .before .before .before .before .before .before .before .before .before .before .before .before .before .args in
     let f = file (c .before .before .before .before .before .before) in
     refused-outcome (a .text .now) (a .header .now) (a .levels .now) 14
-    (no-levels (a .text .now) _ _ _ _ (f .0) (f .1) (none (c .before .before .before .before)) _ _ (c .before .if2 .left) (c .if3 .taken))
+    (no-levels (a .text .now) _ _ _ _ (f .0) (f .1) (none (c .before .before .before .before)) _ _ (omega (arith, c .before .if2 .left)) (c .if3 .taken))
     (λ z. omega arith)
 
 store-frame-requires : tie.Need-store-frame-requires
@@ -100,7 +90,7 @@ returns-5 : tie.Need-returns-5
 returns-5 c =
     let a = c .before .before .before .before .before .before .before .before .before .before .before .before .before .before .before .before .before .before .before .before .before .args in
     let f = file (c .before .before .before .before .before .before .before .before .before .before .before .before .before .before) in
-    let o = read-outcome (a .text .now) (a .header .now) (a .levels .now) (roomy-both (a .text .now) _ _ _ _ (f .0) (f .1) (none (c .before .before .before .before .before .before .before .before .before .before .before .before)) _ _ (c .before .before .before .before .before .before .before .before .before .if2 .left) (c .before .before .before .before .before .before .before .before .if3 .left)) in (
+    let o = read-outcome (a .text .now) (a .header .now) (a .levels .now) (roomy-both (a .text .now) _ _ _ _ (f .0) (f .1) (none (c .before .before .before .before .before .before .before .before .before .before .before .before)) _ _ (omega (arith, c .before .before .before .before .before .before .before .before .before .if2 .left)) (c .before .before .before .before .before .before .before .before .if3 .left)) in (
       o .0,
       c .before .before .before .before .before .before .store-frame .ensures ∙ ap (λ x. over (numbersOf x) (a .header .now)) (f .1 .frame) ∙ o .1,
       c .before .before .store-rows .ensures ∙ ap (λ l. over (levelsOf l) (a .levels .now)) (f .1 .rows) ∙ o .2,

@@ -6,10 +6,6 @@ use Rattle.network.specs.Refusals.{sided, placed}
 use borrow.Author.Needs.{needs}
 use Rattle.grid.proofs.read.shape_refusal.Statement.{statement}
 use Rattle.grid.proofs.read.shape_refusal.Tie as tie
-use Rattle.grid.proofs.read.shape_refusal.Reads as reads
-use Rattle.grid.proofs.read.shape_refusal.Lts as lts
-use Rattle.network.proofs.is_placed.Reads as is-placed-reads
-use Rattle.network.proofs.is_sided.Reads as is-sided-reads
 
 returns : tie.Need-returns
 returns c = let unfit = not-true (c .before .args .fits) (c .if1 .taken) in rw unfit

@@ -5,9 +5,6 @@ use Rattle.grid.proofs.WriteLaws.{whole-most, head-length}
 use borrow.Author.Needs.{needs}
 use Rattle.grid.proofs.size.head_size.Statement.{statement}
 use Rattle.grid.proofs.size.head_size.Tie as tie
-use Rattle.grid.proofs.size.head_size.Reads as reads
-use Rattle.grid.proofs.size.head_size.Lts as lts
-use Rattle.grid.proofs.size.whole_size.Reads as whole-size-reads
 
 -- each number has at most seven digits
 two : (c : tie.After-whole-size2) → c .before .whole-size .result + c .whole-size2 .result ≤ 14

@@ -3,8 +3,6 @@ use mathlib.Core.Path.{sym}
 use Rattle.grid.proofs.WriteLaws.{level-four, level-five, level-six}
 use Rattle.grid.proofs.size.level_size.Statement.{statement}
 use Rattle.grid.proofs.size.level_size.Tie as tie
-use Rattle.grid.proofs.size.level_size.Reads as reads
-use Rattle.grid.proofs.size.level_size.Lts as lts
 
 returns : tie.Need-returns
 returns c = sym (level-four _ (c .if1 .taken))

@@ -1,6 +1,6 @@
 -- `grid::size::levels_size` meets its contract. The invariant: what is added up, and what the rest adds. Assumes nothing.
 use Prim.Native.Nat.{_+_, _-_, _*_, _≤_}
-use mathlib.Core.Path.{_≡_, refl, sym, ap, _∙_}
+use mathlib.Core.Path.{_≡_}
 use native.Mathlib.Omega.{arith}
 use borrow.Author.Needs.{needs}
 use lib.ListN.{length, getD, drop}
@@ -9,9 +9,6 @@ use Rattle.grid.specs.Steps.{sizesOf}
 use Rattle.grid.proofs.WriteLaws.{sizes-more, sizes-none}
 use Rattle.grid.proofs.size.levels_size.Statement.{statement}
 use Rattle.grid.proofs.size.levels_size.Tie as tie
-use Rattle.grid.proofs.size.levels_size.Reads as reads
-use Rattle.grid.proofs.size.levels_size.Lts as lts
-use Rattle.grid.proofs.size.level_size.Reads as level-size-reads
 
 abbrev Inv-loop : tie.InvT-loop
 Inv-loop levels total₀ i₀ total i = (total + sizesOf (drop i levels) ≡ sizesOf levels) × (total ≤ 7 * i) × (i ≤ length levels)

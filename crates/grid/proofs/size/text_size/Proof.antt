@@ -5,10 +5,6 @@ use native.Mathlib.Omega.{arith}
 use borrow.Author.Needs.{needs}
 use Rattle.grid.proofs.size.text_size.Statement.{statement}
 use Rattle.grid.proofs.size.text_size.Tie as tie
-use Rattle.grid.proofs.size.text_size.Reads as reads
-use Rattle.grid.proofs.size.text_size.Lts as lts
-use Rattle.grid.proofs.size.head_size.Reads as head-size-reads
-use Rattle.grid.proofs.size.levels_size.Reads as levels-size-reads
 
 head-size-requires : tie.Need-head-size-requires
 head-size-requires c κs = near _ _ (c .before .pre)

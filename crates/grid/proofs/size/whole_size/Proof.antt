@@ -1,15 +1,12 @@
 -- `grid::size::whole_size` meets its contract. The invariant: a digit fewer is left for each one counted. Assumes nothing.
-use Prim.Native.Nat.{_+_, _-_, _*_, _≤_}
-use mathlib.Core.Path.{_≡_, refl, sym, ap, _∙_}
+use Prim.Native.Nat.{_+_, _≤_}
+use mathlib.Core.Path.{_≡_, refl, ap}
 use native.Mathlib.Omega.{arith}
-use borrow.Author.Needs.{needs}
 use lib.ListN.{length}
 use Rattle.text.specs.Number.{showWhole}
 use Rattle.text.proofs.Shown.{whole-one, whole-longer, shown-width, shown-least}
 use Rattle.grid.proofs.size.whole_size.Statement.{statement}
 use Rattle.grid.proofs.size.whole_size.Tie as tie
-use Rattle.grid.proofs.size.whole_size.Reads as reads
-use Rattle.grid.proofs.size.whole_size.Lts as lts
 
 abbrev Inv-loop : tie.InvT-loop
 Inv-loop n left₀ size₀ left size = (length (showWhole n) + 1 ≡ length (showWhole left) + size) × (left ≤ n)

@@ -1,11 +1,8 @@
 -- `grid::store::level_in` meets its contract. Assumes nothing.
-use mathlib.Core.Path.{_≡_, sym, _∙_}
+use mathlib.Core.Path.{sym, _∙_}
 use borrow.Author.Needs.{needs}
 use Rattle.grid.proofs.store.level_in.Statement.{statement}
 use Rattle.grid.proofs.store.level_in.Tie as tie
-use Rattle.grid.proofs.store.level_in.Reads as reads
-use Rattle.grid.proofs.store.level_in.Lts as lts
-use Rattle.text.proofs.number.level.Reads as level-reads
 
 level-requires : tie.Need-level-requires
 level-requires c κs = search needs

@@ -6,8 +6,6 @@ use Rattle.grid.specs.Read.{numbersOf}
 use borrow.Author.Needs.{needs}
 use Rattle.grid.proofs.store.store_frame.Statement.{statement}
 use Rattle.grid.proofs.store.store_frame.Tie as tie
-use Rattle.grid.proofs.store.store_frame.Reads as reads
-use Rattle.grid.proofs.store.store_frame.Lts as lts
 
 slice-write-out : tie.Need-slice-write-out
 slice-write-out c = search needs

@@ -1,21 +1,17 @@
 -- `grid::store::store_row` meets its contract. The invariant: the levels passed are stored, and here the next value starts. Assumes nothing.
-use Prim.Native.Nat.{_+_, _-_, _*_, _<_, _≤_}
-use mathlib.Core.Path.{_≡_, refl, sym, ap, _∙_}
+use Prim.Native.Nat.{_+_, _-_, _<_}
+use mathlib.Core.Path.{_≡_, refl, sym, _∙_}
 use native.Mathlib.Omega.{arith}
 use borrow.Author.Needs.{needs}
-use lib.ListN.{length, getD, take, drop, set, length-set}
+use lib.ListN.{length, take, set, length-set}
 use lib.Seq.{take-length}
 use Rattle.text.specs.Put.{put}
 use Rattle.text.proofs.Puts.{put-step, wrote-none}
-use Rattle.grid.specs.Row.{levelIn, rowLevels}
+use Rattle.grid.specs.Row.{rowLevels}
 use Rattle.grid.proofs.ValueLaws.{end-within}
 use Rattle.grid.proofs.StoreLaws.{StoreAt, store-start, store-here, store-room, store-next, store-last, length-levels}
 use Rattle.grid.proofs.store.store_row.Statement.{statement}
 use Rattle.grid.proofs.store.store_row.Tie as tie
-use Rattle.grid.proofs.store.store_row.Reads as reads
-use Rattle.grid.proofs.store.store_row.Lts as lts
-use Rattle.grid.proofs.store.level_in.Reads as level-in-reads
-use Rattle.text.proofs.core.field_end.Reads as field-end-reads
 
 abbrev Inv-loop : tie.InvT-loop
 Inv-loop s out₀ to at₀ i₀ out at i = (out ≡ put out₀ to (take i (rowLevels s))) × StoreAt s at i × (length out ≡ length out₀)

@@ -1,22 +1,14 @@
 -- `grid::write::write_network` meets its contract: refused as a network, too little room, or written. Assumes nothing.
-use Prim.Native.Nat.{_≤_}
 use mathlib.Core.Path.{_≡_, sym, ap, _∙_}
 use mathlib.Core.List.{[], _∷_}
 use native.Mathlib.Omega.{arith}
-use lib.ListN.{length}
 use Rattle.network.specs.Refusals.{networkRefusal}
 use Rattle.network.proofs.Refusals.{not-refused}
 use Rattle.grid.specs.Read.{over}
-use Rattle.grid.specs.Write.{showNetwork}
 use Rattle.grid.proofs.WriteLaws.{network-refused, text-refused, size-refused, written, wrote-over, set-over, network-most}
 use borrow.Author.Needs.{needs}
 use Rattle.grid.proofs.write.write_network.Statement.{statement}
 use Rattle.grid.proofs.write.write_network.Tie as tie
-use Rattle.grid.proofs.write.write_network.Reads as reads
-use Rattle.grid.proofs.write.write_network.Lts as lts
-use Rattle.grid.proofs.put.put_network.Reads as put-network-reads
-use Rattle.grid.proofs.size.text_size.Reads as text-size-reads
-use Rattle.network.proofs.refusal.Reads as refusal-reads
 
 -- past the first test the network can be written
 none : (c : tie.Else1) → let a = c .before .before .before .before .before .args in networkRefusal (a .levels .now) (a .frame) ≡ 0

@@ -12,8 +12,6 @@ use Rattle.level.proofs.LevelLaws.{b-below, thousand-out}
 use borrow.Author.Needs.{needs}
 use Rattle.level.proofs.core.bound_at.Statement.{statement}
 use Rattle.level.proofs.core.bound_at.Tie as tie
-use Rattle.level.proofs.core.bound_at.Reads as reads
-use Rattle.level.proofs.core.bound_at.Lts as lts
 
 -- a number of table B times a power up to 10^10 fits
 fits : (k e : ℕ) → k < 1000 → e ≤ 10 → tableB k * 10 ^ e < 2 ^ 64
@@ -28,40 +26,10 @@ of-b s = s .pre .1 (s .args .n % 1000) (omega arith)
 of-powers : (s : tie.Start) (q : ℕ) → q < 14 → getD (s .args .powers .now) q 0 ≡ 10 ^ q
 of-powers s q h = s .pre .2 q h
 
-cast-k : tie.Need-cast-k
-cast-k c = search needs
-
-cast-q : tie.Need-cast-q
-cast-q c = search needs
-
-mul-result : tie.Need-mul-result
-mul-result c = search needs
-
-element-copy-out-result : tie.Need-element-copy-out-result
-element-copy-out-result c = search needs
-
-mul-result-2 : tie.Need-mul-result-2
-mul-result-2 c = search needs
-
-element-copy-out-result-2 : tie.Need-element-copy-out-result-2
-element-copy-out-result-2 c = search needs
-
 mul-result-3 : tie.Need-mul-result-3
 mul-result-3 c =
     let s = c .before .before .before in
     record { fits = rw (of-b s, of-powers s (s .args .n / 1000) (omega arith)) (fits (s .args .n % 1000) (s .args .n / 1000) (omega arith) (omega arith)) }
-
-mul-result-4 : tie.Need-mul-result-4
-mul-result-4 c = search needs
-
-element-copy-out-result-3 : tie.Need-element-copy-out-result-3
-element-copy-out-result-3 c = search needs
-
-mul-result-5 : tie.Need-mul-result-5
-mul-result-5 c = search needs
-
-element-copy-out-result-4 : tie.Need-element-copy-out-result-4
-element-copy-out-result-4 c = search needs
 
 mul-result-6 : tie.Need-mul-result-6
 mul-result-6 c =
@@ -82,17 +50,17 @@ pub bound-at-spec : {M : Type 1} → statement M
 bound-at-spec =
     tie.close
     (tie.spec
-    cast-k
-    cast-q
-    mul-result
-    element-copy-out-result
-    mul-result-2
-    element-copy-out-result-2
+    (λ c. search needs)
+    (λ c. search needs)
+    (λ c. search needs)
+    (λ c. search needs)
+    (λ c. search needs)
+    (λ c. search needs)
     mul-result-3
-    mul-result-4
-    element-copy-out-result-3
-    mul-result-5
-    element-copy-out-result-4
+    (λ c. search needs)
+    (λ c. search needs)
+    (λ c. search needs)
+    (λ c. search needs)
     mul-result-6
     returns
     returns-2)

@@ -12,8 +12,6 @@ use Rattle.level.proofs.EnergyLaws.{product-le}
 use borrow.Author.Needs.{needs}
 use Rattle.level.proofs.core.energy.Statement.{statement}
 use Rattle.level.proofs.core.energy.Tie as tie
-use Rattle.level.proofs.core.energy.Reads as reads
-use Rattle.level.proofs.core.energy.Lts as lts
 
 -- the two numbers that are read
 of-a : (s : tie.Start) → getD (s .args .a .now) (s .args .c % 1000) 0 ≡ tableA (s .args .c % 1000)
@@ -21,24 +19,6 @@ of-a s = s .pre .1 (s .args .c % 1000) (omega arith)
 
 of-powers : (s : tie.Start) → getD (s .args .powers .now) (s .args .c / 1000) 0 ≡ 10 ^ (s .args .c / 1000)
 of-powers s = s .pre .2 (s .args .c / 1000) (omega arith)
-
-cast-k : tie.Need-cast-k
-cast-k c = search needs
-
-cast-q : tie.Need-cast-q
-cast-q c = search needs
-
-mul-result : tie.Need-mul-result
-mul-result c = search needs
-
-element-copy-out-result : tie.Need-element-copy-out-result
-element-copy-out-result c = search needs
-
-mul-result-2 : tie.Need-mul-result-2
-mul-result-2 c = search needs
-
-element-copy-out-result-2 : tie.Need-element-copy-out-result-2
-element-copy-out-result-2 c = search needs
 
 mul-result-3 : tie.Need-mul-result-3
 mul-result-3 c =
@@ -53,11 +33,11 @@ pub energy-spec : {M : Type 1} → statement M
 energy-spec =
     tie.close
     (tie.spec
-    cast-k
-    cast-q
-    mul-result
-    element-copy-out-result
-    mul-result-2
-    element-copy-out-result-2
+    (λ c. search needs)
+    (λ c. search needs)
+    (λ c. search needs)
+    (λ c. search needs)
+    (λ c. search needs)
+    (λ c. search needs)
     mul-result-3
     returns)

@@ -5,15 +5,6 @@ use borrow.Author.Tests.{le-ltb, lt-ltb}
 use Rattle.level.proofs.core.judge.Statement.{statement}
 use Rattle.level.proofs.core.judge.Tie as tie
 
-enum-told : tie.Need-enum-told
-enum-told c = search needs
-
-enum-known-level : tie.Need-enum-known-level
-enum-known-level c = search needs
-
-returns : tie.Need-returns
-returns c = search needs
-
 returns-2 : tie.Need-returns-2
 returns-2 c = rw (c .before .before .level .given .1, lt-ltb _ _ (c .if1 .taken))
 
@@ -21,4 +12,4 @@ returns-3 : tie.Need-returns-3
 returns-3 c = rw (c .before .before .level .given .1, le-ltb _ _ (c .if1 .left))
 
 pub judge-spec : {M : Type 1} → statement M
-judge-spec = tie.close (tie.spec enum-told enum-known-level returns returns-2 returns-3)
+judge-spec = tie.close (tie.spec (λ c. search needs) (λ c. search needs) (λ c. search needs) returns-2 returns-3)

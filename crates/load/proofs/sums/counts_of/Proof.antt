@@ -8,9 +8,6 @@ use borrow.Author.Needs.{needs}
 use Rattle.counted.specs.Tally.{groupAt}
 use Rattle.counted.specs.Load.{countsOf}
 use Rattle.load.proofs.CellLaws.{filled}
-use Rattle.load.proofs.sums.counts_of.Reads as reads
-use Rattle.load.proofs.sums.counts_of.Lts as lts
-use Rattle.load.proofs.tally.group_at.Reads as group-at-reads
 use Rattle.load.proofs.sums.counts_of.Tie as tie
 use Rattle.load.proofs.sums.counts_of.Statement.{statement}
 
@@ -23,21 +20,6 @@ abbrev μ-loop : tie.MeasureT-loop
 loop-holds : tie.Need-loop-holds Inv-loop μ-loop
 unfolding filled
 loop-holds c = (omega arith, refl)
-
-group-at-requires : tie.Need-group-at-requires Inv-loop μ-loop
-group-at-requires c κs = search needs
-
-mul-flat : tie.Need-mul-flat Inv-loop μ-loop
-mul-flat c = search needs
-
-array-set-from-flat : tie.Need-array-set-from-flat Inv-loop μ-loop
-array-set-from-flat c = search needs
-
-add-g : tie.Need-add-g Inv-loop μ-loop
-add-g c = search needs
-
-loop-less : tie.Need-loop-less Inv-loop μ-loop
-loop-less c = search needs
 
 loop-again : tie.Need-loop-again Inv-loop μ-loop
 unfolding filled
@@ -56,10 +38,10 @@ counts-of-spec =
     Inv-loop
     μ-loop
     loop-holds
-    group-at-requires
-    mul-flat
-    array-set-from-flat
-    add-g
-    loop-less
+    (λ c κs. search needs)
+    (λ c. search needs)
+    (λ c. search needs)
+    (λ c. search needs)
+    (λ c. search needs)
     loop-again
     returns)

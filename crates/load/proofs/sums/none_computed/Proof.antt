@@ -3,8 +3,6 @@
 use borrow.Author.Tests.{eq-eqb, ne-eqb}
 use Rattle.load.proofs.sums.none_computed.Statement.{statement}
 use Rattle.load.proofs.sums.none_computed.Tie as tie
-use Rattle.load.proofs.sums.none_computed.Reads as reads
-use Rattle.load.proofs.sums.none_computed.Lts as lts
 
 returns : tie.Need-returns
 returns c = rw (ne-eqb _ _ (c .if1 .taken))

@@ -1,19 +1,19 @@
 -- `load::sums::scaled_by` meets its contract: by cases on the lower; the quotient fits.
 -- Assumes nothing.
+use mathlib.Core.Path.{sym}
 use native.Mathlib.Omega.{arith}
-use borrow.Author.Tests.{eq-eqb, ne-eqb}
+use borrow.Author.Tests.{ne-eqb}
 use Rattle.level.specs.Limits.{maxEnergy}
 use Rattle.level.proofs.ScaleLaws.{scaled-le}
-use Rattle.counted.specs.Factors.{scaledBy}
+use Rattle.counted.specs.Factors.{over, scaledBy}
+use Rattle.counted.proofs.FactorLaws.{never-divided}
 use Rattle.load.proofs.sums.scaled_by.Statement.{statement}
 use Rattle.load.proofs.sums.scaled_by.Tie as tie
-use Rattle.load.proofs.sums.scaled_by.Reads as reads
-use Rattle.load.proofs.sums.scaled_by.Lts as lts
-use Rattle.level.proofs.core.scaled.Reads as scaled-reads
 
 returns : tie.Need-returns
-unfolding scaledBy
-returns c = rw (eq-eqb _ _ (c .if1 .taken))
+returns c =
+    let a = c .before .args in
+    sym (never-divided (over (a .upper) (a .lower)) (a .energy) (c .if1 .taken))
 
 scaled-requires : tie.Need-scaled-requires
 scaled-requires c κs =

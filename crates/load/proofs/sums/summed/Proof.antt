@@ -9,10 +9,6 @@ use Rattle.counted.specs.Tally.{groupAt}
 use Rattle.counted.specs.Factors.{sumTo}
 use Rattle.load.specs.Steps.{sumsOf, addedTo}
 use Rattle.load.proofs.BoundLaws.{fits-next}
-use Rattle.load.proofs.sums.summed.Reads as reads
-use Rattle.load.proofs.sums.summed.Lts as lts
-use Rattle.load.proofs.sums.added_to.Reads as added-to-reads
-use Rattle.load.proofs.tally.group_at.Reads as group-at-reads
 use Rattle.load.proofs.sums.summed.Tie as tie
 use Rattle.load.proofs.sums.summed.Statement.{statement}
 
@@ -26,19 +22,10 @@ loop-holds : tie.Need-loop-holds Inv-loop μ-loop
 unfolding sumsOf sumTo
 loop-holds c = (omega arith, refl)
 
-group-at-requires : tie.Need-group-at-requires Inv-loop μ-loop
-group-at-requires c κs = search needs
-
 added-to-requires : tie.Need-added-to-requires Inv-loop μ-loop
 added-to-requires c κs =
     rw (c .group-at .ensures, c .before .before .loop .inv .1)
     (fits-next (c .before .before .before .args .groups) (c .before .before .before .pre) (c .before .before .loop .g) (omega arith))
-
-add-g : tie.Need-add-g Inv-loop μ-loop
-add-g c = search needs
-
-loop-less : tie.Need-loop-less Inv-loop μ-loop
-loop-less c = search needs
 
 loop-again : tie.Need-loop-again Inv-loop μ-loop
 unfolding sumsOf sumTo addedTo
@@ -57,9 +44,9 @@ summed-spec =
     Inv-loop
     μ-loop
     loop-holds
-    group-at-requires
+    (λ c κs. search needs)
     added-to-requires
-    add-g
-    loop-less
+    (λ c. search needs)
+    (λ c. search needs)
     loop-again
     returns)

@@ -4,8 +4,6 @@ use borrow.Author.Needs.{needs}
 use Rattle.counted.specs.Tally.{table, tally, sumOf}
 use Rattle.load.proofs.tally.no_groups.Statement.{statement}
 use Rattle.load.proofs.tally.no_groups.Tie as tie
-use Rattle.load.proofs.tally.no_groups.Reads as reads
-use Rattle.load.proofs.tally.no_groups.Lts as lts
 
 returns : tie.Need-returns
 unfolding table tally sumOf

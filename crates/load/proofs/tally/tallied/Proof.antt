@@ -12,9 +12,6 @@ use Rattle.load.specs.Steps.{Room}
 use Rattle.load.proofs.RowLaws.{Row, row-at, row-next}
 use Rattle.load.proofs.tally.tallied.Statement.{statement}
 use Rattle.load.proofs.tally.tallied.Tie as tie
-use Rattle.load.proofs.tally.tallied.Reads as reads
-use Rattle.load.proofs.tally.tallied.Lts as lts
-use Rattle.load.proofs.tally.with_row.Reads as with-row-reads
 
 abbrev Inv-loop : tie.InvT-loop
 Inv-loop a powers ids groups marks levels points point cells₀ i₀ cells i = (i ≤ length ids) × (cells ≡ table (tally (sharesTo points point (bookOf ids groups marks levels) i)))
@@ -38,9 +35,6 @@ loop-holds : tie.Need-loop-holds Inv-loop μ-loop
 unfolding sharesTo
 loop-holds c = (omega arith, c .before .before .before .before .pre .0 .0)
 
-mul-group : tie.Need-mul-group Inv-loop μ-loop
-mul-group c = search needs
-
 shared-slice-read-group : tie.Need-shared-slice-read-group Inv-loop μ-loop
 shared-slice-read-group c = row (c .before) .in-groups
 
@@ -49,36 +43,6 @@ mul-at c = omega (arith, row (c .before) .in-levels, entry (c .before) .good .1 
 
 add-at : tie.Need-add-at Inv-loop μ-loop
 add-at c = omega (arith, row (c .before) .in-levels, entry (c .before) .good .1 .1 .1 .1 .1 .1 .0)
-
-cast-g : tie.Need-cast-g Inv-loop μ-loop
-cast-g c = omega (arith, row (c .before) .group<)
-
-mul-seen : tie.Need-mul-seen Inv-loop μ-loop
-mul-seen c = omega (arith, row (c .before) .group<)
-
-mul-seen-2 : tie.Need-mul-seen-2 Inv-loop μ-loop
-mul-seen-2 c = omega (arith, row (c .before) .group<)
-
-mul-seen-3 : tie.Need-mul-seen-3 Inv-loop μ-loop
-mul-seen-3 c = omega (arith, row (c .before) .group<)
-
-index-1-seen : tie.Need-index-1-seen Inv-loop μ-loop
-index-1-seen c = omega (arith, row (c .before) .group<)
-
-index-2-seen : tie.Need-index-2-seen Inv-loop μ-loop
-index-2-seen c = omega (arith, row (c .before) .group<)
-
-index-3-seen : tie.Need-index-3-seen Inv-loop μ-loop
-index-3-seen c = omega (arith, row (c .before) .group<)
-
-mul-with-row : tie.Need-mul-with-row Inv-loop μ-loop
-mul-with-row c = search needs
-
-shared-slice-read-with-row : tie.Need-shared-slice-read-with-row Inv-loop μ-loop
-shared-slice-read-with-row c = search needs
-
-mul-with-row-2 : tie.Need-mul-with-row-2 Inv-loop μ-loop
-mul-with-row-2 c = search needs
 
 shared-slice-read-with-row-2 : tie.Need-shared-slice-read-with-row-2 Inv-loop μ-loop
 shared-slice-read-with-row-2 c = row (c .before .before .before .before) .in-marks
@@ -96,34 +60,14 @@ with-row-requires c κs =
     let g = getD (entry d .args .groups .now) (d .before .loop .i) 0 in
     ((subst (λ cs. Room (groupAt cs g)) (sym (d .before .loop .inv .1)) (row d .room), row d .group<, row d .level≤), entry d .pre .0 .1)
 
-mul-next : tie.Need-mul-next Inv-loop μ-loop
-mul-next c = omega (arith, row (c .before .before .before .before .before .before) .group<)
-
-mul-next-2 : tie.Need-mul-next-2 Inv-loop μ-loop
-mul-next-2 c = omega (arith, row (c .before .before .before .before .before .before) .group<)
-
-mul-next-3 : tie.Need-mul-next-3 Inv-loop μ-loop
-mul-next-3 c = omega (arith, row (c .before .before .before .before .before .before) .group<)
-
-index-1-next : tie.Need-index-1-next Inv-loop μ-loop
-index-1-next c = omega (arith, row (c .before .before .before .before .before .before) .group<)
-
-index-2-next : tie.Need-index-2-next Inv-loop μ-loop
-index-2-next c = omega (arith, row (c .before .before .before .before .before .before) .group<)
-
-index-3-next : tie.Need-index-3-next Inv-loop μ-loop
-index-3-next c = omega (arith, row (c .before .before .before .before .before .before) .group<)
-
-add-i : tie.Need-add-i Inv-loop μ-loop
-add-i c = search needs
-
-loop-less : tie.Need-loop-less Inv-loop μ-loop
-loop-less c = search needs
+-- the turn that stores
+abbrev turn : tie.After-with-row Inv-loop μ-loop → tie.In-loop Inv-loop μ-loop
+turn c = c .before .before .before .before .before .before
 
 loop-again : tie.Need-loop-again Inv-loop μ-loop
 unfolding groupAt withGroup
 loop-again c =
-    let d = c .before .before .before .before .before .before in
+    let d = turn c in
     let s = entry d in (
       omega arith,
       row-next (s .args .points) (s .args .point) (book s) (s .pre .1 .0) (s .pre .1 .1) (d .before .loop .i) (d .loop-test .taken) (d .before .loop .cells) (c .with-row .result) (d .before .loop .inv .1) (c .with-row .ensures),
@@ -143,31 +87,31 @@ tallied-spec =
     Inv-loop
     μ-loop
     loop-holds
-    mul-group
+    (λ c. search needs)
     shared-slice-read-group
     mul-at
     add-at
-    cast-g
-    mul-seen
-    mul-seen-2
-    mul-seen-3
-    index-1-seen
-    index-2-seen
-    index-3-seen
-    mul-with-row
-    shared-slice-read-with-row
-    mul-with-row-2
+    (λ c. omega (arith, row (c .before) .group<))
+    (λ c. omega (arith, row (c .before) .group<))
+    (λ c. omega (arith, row (c .before) .group<))
+    (λ c. omega (arith, row (c .before) .group<))
+    (λ c. omega (arith, row (c .before) .group<))
+    (λ c. omega (arith, row (c .before) .group<))
+    (λ c. omega (arith, row (c .before) .group<))
+    (λ c. search needs)
+    (λ c. search needs)
+    (λ c. search needs)
     shared-slice-read-with-row-2
     mul-with-row-3
     shared-slice-read-with-row-3
     with-row-requires
-    mul-next
-    mul-next-2
-    mul-next-3
-    index-1-next
-    index-2-next
-    index-3-next
-    add-i
-    loop-less
+    (λ c. omega (arith, row (turn c) .group<))
+    (λ c. omega (arith, row (turn c) .group<))
+    (λ c. omega (arith, row (turn c) .group<))
+    (λ c. omega (arith, row (turn c) .group<))
+    (λ c. omega (arith, row (turn c) .group<))
+    (λ c. omega (arith, row (turn c) .group<))
+    (λ c. search needs)
+    (λ c. search needs)
     loop-again
     returns)

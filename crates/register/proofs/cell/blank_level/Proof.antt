@@ -1,10 +1,6 @@
 -- `register::cell::blank_level` meets its contract. Assumes nothing.
-use Prim.Native.Nat.{_≤_}
-use mathlib.Core.Path.{_≡_}
-use native.Mathlib.Omega.{arith}
 use borrow.Author.Tests.{le-leb, lt-leb, eq-eqb, ne-eqb}
 use lib.ListN.{length}
-use borrow.Author.Needs.{needs}
 use Rattle.register.proofs.cell.blank_level.Statement.{statement}
 use Rattle.register.proofs.cell.blank_level.Tie as tie
 
@@ -18,4 +14,9 @@ returns-3 : tie.Need-returns-3
 returns-3 c = rw (le-leb 5 (c .before .before .args .k) (c .before .if1 .left), ne-eqb (length (c .before .before .args .t .now)) 0 (c .if2 .left))
 
 pub blank-level-spec : {M : Type 1} → statement M
-blank-level-spec = tie.close (tie.spec returns returns-2 returns-3)
+blank-level-spec =
+    tie.close
+    (tie.spec
+    returns
+    returns-2
+    returns-3)

@@ -1,12 +1,9 @@
 -- `register::cell::counted` meets its contract. Assumes nothing.
-use mathlib.Core.Path.{_≡_, _∙_}
+use mathlib.Core.Path.{_∙_}
 use borrow.Author.Tests.{eq-eqb, ne-eqb}
 use borrow.Author.Needs.{needs}
 use Rattle.register.proofs.cell.counted.Statement.{statement}
 use Rattle.register.proofs.cell.counted.Tie as tie
-
-off-cells-requires : tie.Need-off-cells-requires
-off-cells-requires c κs = search needs
 
 returns : tie.Need-returns
 returns c = c .off-cells .ensures ∙ rw (ne-eqb (c .before .before .args .k) (c .before .before .args .count) (c .before .if1 .taken))
@@ -15,4 +12,9 @@ returns-2 : tie.Need-returns-2
 returns-2 c = rw (eq-eqb (c .before .args .k) (c .before .args .count) (c .if1 .left))
 
 pub counted-spec : {M : Type 1} → statement M
-counted-spec = tie.close (tie.spec off-cells-requires returns returns-2)
+counted-spec =
+    tie.close
+    (tie.spec
+    (λ c κs. search needs)
+    returns
+    returns-2)

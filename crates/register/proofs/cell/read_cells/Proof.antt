@@ -31,15 +31,6 @@ unfolding listing many
 loop-holds c =
     (every-none _, at-start 44 _, refl, refl, omega (arith, c .before .pre .0))
 
-field-end-requires : tie.Need-field-end-requires Inv-loop μ-loop
-field-end-requires c κs = search needs
-
-sub-cell : tie.Need-sub-cell Inv-loop μ-loop
-sub-cell c = search needs
-
-part-cell-start : tie.Need-part-cell-start Inv-loop μ-loop
-part-cell-start c = search needs
-
 -- the field ends within the line
 within : (c : tie.After-field-end Inv-loop μ-loop) → c .field-end .result ≤ length (c .before .before .before .args .s .now)
 within c =
@@ -49,21 +40,9 @@ within c =
 part-cell-end : tie.Need-part-cell-end Inv-loop μ-loop
 part-cell-end c = within c
 
-cell-requires : tie.Need-cell-requires Inv-loop μ-loop
-cell-requires c κs = search needs
-
 -- what was answered is the cell of this column
 read : (c : tie.After-cell Inv-loop μ-loop) → c .cell .result ≡ cellAt (c .before .before .before .before .before .args .table) (c .before .before .before .before .before .args .s .now) (c .before .before .before .loop .k)
 read c = c .cell .ensures ∙ ap (cellOf (c .before .before .before .before .before .args .table) (c .before .before .before .loop .k)) (at-cut (c .before .before .before .loop .inv .1) (c .before .before .field-end .result) (c .before .before .field-end .ensures))
-
-enum-known-v : tie.Need-enum-known-v Inv-loop μ-loop
-enum-known-v c = search needs
-
-enum-told : tie.Need-enum-told Inv-loop μ-loop
-enum-told c = search needs
-
-off-cells-requires : tie.Need-off-cells-requires Inv-loop μ-loop
-off-cells-requires c κs = search needs
 
 returns : tie.Need-returns Inv-loop μ-loop
 returns c =
@@ -78,17 +57,8 @@ mul-values c = omega (arith, c .before .before .before .before .before .before .
 array-write-values : tie.Need-array-write-values Inv-loop μ-loop
 array-write-values c = omega (arith, c .before .before .before .before .before .before .loop .inv .4, c .before .before .before .before .before .before .before .before .pre .1)
 
-sub-blank-level : tie.Need-sub-blank-level Inv-loop μ-loop
-sub-blank-level c = search needs
-
-part-blank-level-start : tie.Need-part-blank-level-start Inv-loop μ-loop
-part-blank-level-start c = search needs
-
 part-blank-level-end : tie.Need-part-blank-level-end Inv-loop μ-loop
 part-blank-level-end c = within (c .before .before .before .before .before)
-
-blank-level-requires : tie.Need-blank-level-requires Inv-loop μ-loop
-blank-level-requires c κs = search needs
 
 -- the value of this column, and whether it is a blank level
 got : (c : tie.After-blank-level Inv-loop μ-loop) → cellAt (c .before .before .before .before .before .before .before .before .before .before .args .table) (c .before .before .before .before .before .before .before .before .before .before .args .s .now) (c .before .before .before .before .before .before .before .before .loop .k) ≡ Got (c .before .before .before .v .given .0 .0)
@@ -118,9 +88,6 @@ add-blanks c =
 add-k : tie.Need-add-k Inv-loop μ-loop
 add-k c = omega (arith, c .before .before .before .before .before .before .before .before .loop .inv .4, c .before .before .before .before .before .before .before .before .before .before .pre .1)
 
-counted-requires : tie.Need-counted-requires Inv-loop μ-loop
-counted-requires c κs = search needs
-
 returns-2 : tie.Need-returns-2 Inv-loop μ-loop
 returns-2 c =
     let a = c .before .before .before .before .before .before .before .before .before .before .before .before .args in
@@ -129,9 +96,6 @@ returns-2 c =
     let last = at-last (l .inv .1) (c .before .before .before .before .before .before .before .before .before .field-end .result) (c .before .before .before .before .before .before .before .before .before .field-end .ensures) (c .before .if1 .taken) in
     let n : countOf 44 (a .s .now) + 1 ≡ l .k + 1 = omega arith in
     c .counted .ensures ∙ rw (m .1, m .2) (sym (cells-counted (a .table) (a .s .now) (a .count) (l .k + 1) n (m .0)))
-
-off-cells-requires-2 : tie.Need-off-cells-requires-2 Inv-loop μ-loop
-off-cells-requires-2 c κs = search needs
 
 returns-3 : tie.Need-returns-3 Inv-loop μ-loop
 returns-3 c =
@@ -157,26 +121,26 @@ read-cells-spec =
     Inv-loop
     μ-loop
     loop-holds
-    field-end-requires
-    sub-cell
-    part-cell-start
+    (λ c κs. search needs)
+    (λ c. search needs)
+    (λ c. search needs)
     part-cell-end
-    cell-requires
-    enum-known-v
-    enum-told
-    off-cells-requires
+    (λ c κs. search needs)
+    (λ c. search needs)
+    (λ c. search needs)
+    (λ c κs. search needs)
     returns
     mul-values
     array-write-values
-    sub-blank-level
-    part-blank-level-start
+    (λ c. search needs)
+    (λ c. search needs)
     part-blank-level-end
-    blank-level-requires
+    (λ c κs. search needs)
     add-blanks
     add-k
-    counted-requires
+    (λ c κs. search needs)
     returns-2
-    off-cells-requires-2
+    (λ c κs. search needs)
     returns-3
     add-at
     loop-less

@@ -1,5 +1,5 @@
 -- `register::cell::row_cell` meets its contract: each column by its own reader. Assumes nothing.
-use mathlib.Core.Path.{_≡_, sym, _∙_}
+use mathlib.Core.Path.{sym, _∙_}
 use native.Mathlib.Omega.{arith}
 use Rattle.register.specs.Cell.{rowCell}
 use Rattle.register.proofs.Columns.{cell-level}
@@ -7,54 +7,30 @@ use borrow.Author.Needs.{needs}
 use Rattle.register.proofs.cell.row_cell.Statement.{statement}
 use Rattle.register.proofs.cell.row_cell.Tie as tie
 
-whole-requires : tie.Need-whole-requires
-whole-requires c κs = search needs
-
 returns : tie.Need-returns
 unfolding rowCell
 returns c =
     c .whole .ensures ∙ rw (c .before .if1 .taken)
-
-slice-aggregate-letter : tie.Need-slice-aggregate-letter
-slice-aggregate-letter c = search needs
-
-letter-requires : tie.Need-letter-requires
-letter-requires c κs = search needs
 
 returns-2 : tie.Need-returns-2
 unfolding rowCell
 returns-2 c =
     c .letter .ensures ∙ rw (c .before .before .if2 .taken)
 
-whole-requires-2 : tie.Need-whole-requires-2
-whole-requires-2 c κs = search needs
-
 returns-3 : tie.Need-returns-3
 unfolding rowCell
 returns-3 c =
     c .whole2 .ensures ∙ rw (c .before .if3 .taken)
-
-slice-aggregate-letter-2 : tie.Need-slice-aggregate-letter-2
-slice-aggregate-letter-2 c = search needs
-
-letter-requires-2 : tie.Need-letter-requires-2
-letter-requires-2 c κs = search needs
 
 returns-4 : tie.Need-returns-4
 unfolding rowCell
 returns-4 c =
     c .letter2 .ensures ∙ rw (c .before .before .if4 .taken)
 
-time-requires : tie.Need-time-requires
-time-requires c κs = search needs
-
 returns-5 : tie.Need-returns-5
 unfolding rowCell
 returns-5 c =
     c .time .ensures ∙ rw (c .before .if5 .taken)
-
-level-or-blank-requires : tie.Need-level-or-blank-requires
-level-or-blank-requires c κs = search needs
 
 returns-6 : tie.Need-returns-6
 returns-6 c = c .level-or-blank .ensures ∙ sym (cell-level (c .before .before .before .before .before .before .before .args .k) (omega arith) (c .before .before .before .before .before .before .before .args .t .now))
@@ -63,17 +39,17 @@ pub row-cell-spec : {M : Type 1} → statement M
 row-cell-spec =
     tie.close
     (tie.spec
-    whole-requires
+    (λ c κs. search needs)
     returns
-    slice-aggregate-letter
-    letter-requires
+    (λ c. search needs)
+    (λ c κs. search needs)
     returns-2
-    whole-requires-2
+    (λ c κs. search needs)
     returns-3
-    slice-aggregate-letter-2
-    letter-requires-2
+    (λ c. search needs)
+    (λ c κs. search needs)
     returns-4
-    time-requires
+    (λ c κs. search needs)
     returns-5
-    level-or-blank-requires
+    (λ c κs. search needs)
     returns-6)

@@ -15,17 +15,11 @@ returns : tie.Need-returns
 unfolding timeOf
 returns c = simp (ne-eqb (length (c .before .before .args .s .now)) 8 (c .if1 .taken))
 
-shared-slice-read-if2 : tie.Need-shared-slice-read-if2
-shared-slice-read-if2 c = search needs
-
 returns-2 : tie.Need-returns-2
 unfolding timeOf
 returns-2 c =
     let s = c .before .before .before .before .args .s .now in
     simp (eq-eqb (length s) 8 (c .before .before .if1 .left), ne-eqb (getD s 2 0) 58 (c .if2 .taken))
-
-shared-slice-read-if3 : tie.Need-shared-slice-read-if3
-shared-slice-read-if3 c = search needs
 
 returns-3 : tie.Need-returns-3
 unfolding timeOf
@@ -40,29 +34,11 @@ opened c =
     let s = c .before .before .before .before .before .before .args .s .now in
     simp (eq-eqb (length s) 8 (c .before .before .before .before .if1 .left), eq-eqb (getD s 2 0) 58 (c .before .before .if2 .left), eq-eqb (getD s 5 0) 58 (c .if3 .left))
 
-two-at-requires : tie.Need-two-at-requires
-two-at-requires c κs = search needs
-
-enum-known-hour : tie.Need-enum-known-hour
-enum-known-hour c = search needs
-
-enum-told : tie.Need-enum-told
-enum-told c = search needs
-
 returns-4 : tie.Need-returns-4
 returns-4 c =
     let s = c .before .before .before .before .before .before .before .before .before .args .s .now in
     let h : twoAt s 0 24 ≡ Off = cc in
     sym (opened (c .before .before .before) ∙ rw h)
-
-two-at-requires-2 : tie.Need-two-at-requires-2
-two-at-requires-2 c κs = search needs
-
-enum-known-minute : tie.Need-enum-known-minute
-enum-known-minute c = search needs
-
-enum-told-2 : tie.Need-enum-told-2
-enum-told-2 c = search needs
 
 returns-5 : tie.Need-returns-5
 returns-5 c =
@@ -70,15 +46,6 @@ returns-5 c =
     let h : twoAt s 0 24 ≡ Got (c .before .before .before .before .hour .given .0 .0) = cc in
     let m : twoAt s 3 60 ≡ Off = cc in
     sym (opened (c .before .before .before .before .before .before .before) ∙ rw (h, m))
-
-two-at-requires-3 : tie.Need-two-at-requires-3
-two-at-requires-3 c κs = search needs
-
-enum-known-second : tie.Need-enum-known-second
-enum-known-second c = search needs
-
-enum-told-3 : tie.Need-enum-told-3
-enum-told-3 c = search needs
 
 returns-6 : tie.Need-returns-6
 returns-6 c =
@@ -116,21 +83,21 @@ time-spec =
     tie.close
     (tie.spec
     returns
-    shared-slice-read-if2
+    (λ c. search needs)
     returns-2
-    shared-slice-read-if3
+    (λ c. search needs)
     returns-3
-    two-at-requires
-    enum-known-hour
-    enum-told
+    (λ c κs. search needs)
+    (λ c. search needs)
+    (λ c. search needs)
     returns-4
-    two-at-requires-2
-    enum-known-minute
-    enum-told-2
+    (λ c κs. search needs)
+    (λ c. search needs)
+    (λ c. search needs)
     returns-5
-    two-at-requires-3
-    enum-known-second
-    enum-told-3
+    (λ c κs. search needs)
+    (λ c. search needs)
+    (λ c. search needs)
     returns-6
     mul-t13
     mul-t14

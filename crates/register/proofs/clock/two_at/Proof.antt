@@ -1,37 +1,14 @@
 -- `register::clock::two_at` meets its contract: what `digits` answered, and the bound. Assumes nothing.
 use Prim.Native.Nat.{_+_, _-_}
-use mathlib.Core.Path.{_≡_, sym, ap, _∙_}
+use mathlib.Core.Path.{_≡_, sym, _∙_}
 use native.Mathlib.Omega.{arith}
 use borrow.Author.Tests.{lt-ltb, le-ltb}
 use lib.ListN.{take, drop}
 use Rattle.text.specs.Number.{digitsOf}
-use Rattle.register.specs.Clock.{twoAt, under}
-use Rattle.text.specs.declared.number.Number.{Number}
-use Rattle.text.specs.declared.number.Number.the-variants.{Got, Off}
+use Rattle.register.specs.Clock.{twoAt}
 use borrow.Author.Needs.{needs}
 use Rattle.register.proofs.clock.two_at.Statement.{statement}
 use Rattle.register.proofs.clock.two_at.Tie as tie
-
-add-digits : tie.Need-add-digits
-add-digits c = search needs
-
-sub-digits : tie.Need-sub-digits
-sub-digits c = search needs
-
-part-digits-start : tie.Need-part-digits-start
-part-digits-start c = search needs
-
-part-digits-end : tie.Need-part-digits-end
-part-digits-end c = search needs
-
-digits-requires : tie.Need-digits-requires
-digits-requires c κs = search needs
-
-enum-known-n : tie.Need-enum-known-n
-enum-known-n c = search needs
-
-enum-told : tie.Need-enum-told
-enum-told c = search needs
 
 -- the part that is read is two bytes
 two-of : (c : tie.After-digits) → c .digits .result ≡ digitsOf 0 (take 2 (drop (c .before .before .before .args .at) (c .before .before .before .args .s .now)))
@@ -59,13 +36,13 @@ pub two-at-spec : {M : Type 1} → statement M
 two-at-spec =
     tie.close
     (tie.spec
-    add-digits
-    sub-digits
-    part-digits-start
-    part-digits-end
-    digits-requires
-    enum-known-n
-    enum-told
+    (λ c. search needs)
+    (λ c. search needs)
+    (λ c. search needs)
+    (λ c. search needs)
+    (λ c κs. search needs)
+    (λ c. search needs)
+    (λ c. search needs)
     returns
     returns-2
     returns-3)

@@ -1,8 +1,8 @@
 -- `register::header::header_points` meets its contract: each test on the way settles one of `headerOf`'s. Assumes nothing.
 use Prim.Native.Nat.{_-_, _/_, _%_}
-use mathlib.Core.Path.{_≡_, sym, _∙_}
+use mathlib.Core.Path.{sym, _∙_}
 use borrow.Author.Tests.{lt-ltb, le-ltb, le-leb, lt-leb, eq-eqb, ne-eqb}
-use lib.ListN.{length, take}
+use lib.ListN.{length}
 use lib.Seq.{length-take-le}
 use Rattle.register.specs.Header.{headerOf}
 use borrow.Author.Needs.{needs}
@@ -26,9 +26,6 @@ returns-2 c =
       lt-leb n (length (a .full .now)) (c .if2 .taken),
     )
 
-sub-if3 : tie.Need-sub-if3
-sub-if3 c = search needs
-
 returns-3 : tie.Need-returns-3
 unfolding headerOf
 returns-3 c =
@@ -39,9 +36,6 @@ returns-3 c =
       le-leb n (length (a .full .now)) (c .before .if2 .left),
       ne-eqb ((n - a .lead) % 3) 0 (c .if3 .taken),
     )
-
-sub-points : tie.Need-sub-points
-sub-points c = search needs
 
 returns-4 : tie.Need-returns-4
 unfolding headerOf
@@ -57,12 +51,6 @@ returns-4 c =
 
 slice-aggregate-same-text : tie.Need-slice-aggregate-same-text
 slice-aggregate-same-text c = sym (length-take-le _ _ (c .before .before .before .if2 .left))
-
-same-text-requires : tie.Need-same-text-requires
-same-text-requires c κs = search needs
-
-cast-t13 : tie.Need-cast-t13
-cast-t13 c = search needs
 
 returns-5 : tie.Need-returns-5
 unfolding headerOf
@@ -96,12 +84,12 @@ header-points-spec =
     (tie.spec
     returns
     returns-2
-    sub-if3
+    (λ c. search needs)
     returns-3
-    sub-points
+    (λ c. search needs)
     returns-4
     slice-aggregate-same-text
-    same-text-requires
-    cast-t13
+    (λ c κs. search needs)
+    (λ c. search needs)
     returns-5
     returns-6)

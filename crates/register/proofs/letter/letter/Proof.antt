@@ -21,28 +21,13 @@ unfolding letterOf
 returns c =
     rw (ne-eqb (length (c .before .args .t .now)) 1 (c .if1 .taken))
 
-shared-slice-read-c : tie.Need-shared-slice-read-c Inv-loop μ-loop
-shared-slice-read-c c = search needs
-
 loop-holds : tie.Need-loop-holds Inv-loop μ-loop
 unfolding letterOf
 loop-holds c =
     (rw (eq-eqb (length (c .before .before .args .t .now)) 1 (c .before .if1 .left)) (moved-none _), omega arith)
 
-shared-slice-read-if2 : tie.Need-shared-slice-read-if2 Inv-loop μ-loop
-shared-slice-read-if2 c = search needs
-
-cast-t13 : tie.Need-cast-t13 Inv-loop μ-loop
-cast-t13 c = search needs
-
 returns-2 : tie.Need-returns-2 Inv-loop μ-loop
 returns-2 c = sym (c .before .before .before .loop .inv .0 ∙ place-hit _ _ _ (c .before .before .loop-test .taken) (c .if2 .taken))
-
-add-i : tie.Need-add-i Inv-loop μ-loop
-add-i c = search needs
-
-loop-less : tie.Need-loop-less Inv-loop μ-loop
-loop-less c = search needs
 
 loop-again : tie.Need-loop-again Inv-loop μ-loop
 loop-again c = (c .before .before .before .loop .inv .0 ∙ place-miss _ _ _ (c .before .before .loop-test .taken) (c .if2 .left), omega arith)
@@ -57,12 +42,12 @@ letter-spec =
     Inv-loop
     μ-loop
     returns
-    shared-slice-read-c
+    (λ c. search needs)
     loop-holds
-    shared-slice-read-if2
-    cast-t13
+    (λ c. search needs)
+    (λ c. search needs)
     returns-2
-    add-i
-    loop-less
+    (λ c. search needs)
+    (λ c. search needs)
     loop-again
     returns-3)

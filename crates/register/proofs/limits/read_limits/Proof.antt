@@ -1,23 +1,20 @@
 -- `register::limits::read_limits` meets its contract: the first line, and what follows its CRLF. Assumes nothing.
-use Prim.Native.Nat.{_+_, _-_, _≤_, _<_}
+use Prim.Native.Nat.{_+_, _-_, _≤_}
 use mathlib.Core.Path.{_≡_, sym, ap, _∙_}
 use mathlib.Core.List.{[]}
 use native.Mathlib.Omega.{arith}
-use lib.ListN.{length, take, drop, getD, drop-of-length-le}
+use lib.ListN.{length, take, drop, getD}
 use lib.Seq.{length-take-le}
 use Rattle.text.specs.Line.{firstLine, linesOf}
-use Rattle.text.specs.declared.number.Number.the-variants.{Got, Off}
+use Rattle.text.specs.declared.number.Number.the-variants.{Got}
 use Rattle.text.proofs.Lines.{line-take, line-length, line-none, lines-first, lines-next, lines-rest}
 use Rattle.register.specs.Header.{headerOf, limitsHeader}
-use Rattle.register.specs.Limits.{limitsOf, headedLimits, secondLimits}
+use Rattle.register.specs.Limits.{limitsOf, secondLimits}
 use Rattle.register.specs.declared.cell.Table.the-variants.{Limits}
 use Rattle.register.proofs.Rows.{header-range, cells-empty}
 use borrow.Author.Needs.{needs}
 use Rattle.register.proofs.limits.read_limits.Statement.{statement}
 use Rattle.register.proofs.limits.read_limits.Tie as tie
-
-line-end-requires : tie.Need-line-end-requires
-line-end-requires c κs = search needs
 
 -- where the first line ends
 end : (c : tie.After-line-end) → c .line-end .result ≡ length (firstLine (c .before .before .args .s .now))
@@ -29,24 +26,12 @@ within c = omega (arith, end c, line-length (c .before .before .args .s .now))
 slice-aggregate-limits-points : tie.Need-slice-aggregate-limits-points
 slice-aggregate-limits-points c = sym (length-take-le _ _ (within (c .before)))
 
-limits-points-requires : tie.Need-limits-points-requires
-limits-points-requires c κs = search needs
-
 -- its points are those of the first line's header
 points : (c : tie.After-limits-points) → c .limits-points .result ≡ headerOf limitsHeader 4 (getD (linesOf (c .before .before .before .before .args .s .now)) 0 [])
 points c =
     let s = c .before .before .before .before .args .s .now in
     c .limits-points .ensures
     ∙ ap (headerOf limitsHeader 4) (ap (λ n. take n s) (end (c .before .before)) ∙ line-take s ∙ sym (lines-first s))
-
-enum-known-points : tie.Need-enum-known-points
-enum-known-points c = search needs
-
-enum-told : tie.Need-enum-told
-enum-told c = search needs
-
-refused-limits-requires : tie.Need-refused-limits-requires
-refused-limits-requires c κs = search needs
 
 returns : tie.Need-returns
 unfolding limitsOf
@@ -55,9 +40,6 @@ returns c =
 
 sub-if1 : tie.Need-sub-if1
 sub-if1 c = within (c .before .before .before .before .before)
-
-refused-limits-requires-2 : tie.Need-refused-limits-requires-2
-refused-limits-requires-2 c κs = search needs
 
 -- the header was read, so there is a line
 headed : (c : tie.After-known-told) → let s = c .before .before .before .before .before .before .before .args .s .now in headerOf limitsHeader 4 (getD (linesOf s) 0 []) ≡ Got (c .before .points .given .0 .0)
@@ -87,9 +69,6 @@ returns-2 c =
     c .refused-limits2 .ensures
     ∙ rw (headed (c .before .before), second (c .before .before) .0 ∙ empty, cells-empty Limits (1 + n) (omega (arith, range (c .before .before) .0)))
 
-add-second-limits : tie.Need-add-second-limits
-add-second-limits c = search needs
-
 second-limits-requires : tie.Need-second-limits-requires
 second-limits-requires c κs = (omega (arith, c .if1 .left, within (c .before .before .before .before .before .before)), range (c .before) .0, range (c .before) .1)
 
@@ -103,16 +82,16 @@ pub read-limits-spec : {M : Type 1} → statement M
 read-limits-spec =
     tie.close
     (tie.spec
-    line-end-requires
+    (λ c κs. search needs)
     slice-aggregate-limits-points
-    limits-points-requires
-    enum-known-points
-    enum-told
-    refused-limits-requires
+    (λ c κs. search needs)
+    (λ c. search needs)
+    (λ c. search needs)
+    (λ c κs. search needs)
     returns
     sub-if1
-    refused-limits-requires-2
+    (λ c κs. search needs)
     returns-2
-    add-second-limits
+    (λ c. search needs)
     second-limits-requires
     returns-3)

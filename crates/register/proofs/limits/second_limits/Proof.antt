@@ -1,26 +1,17 @@
 -- `register::limits::second_limits` meets its contract. Assumes nothing.
 use Prim.Native.Nat.{_+_, _-_, _≤_}
-use mathlib.Core.Path.{_≡_, sym, ap, _∙_}
+use mathlib.Core.Path.{_≡_, ap, _∙_}
 use native.Mathlib.Omega.{arith}
 use borrow.Author.Tests.{le-leb, lt-leb, not-true, not-false}
 use lib.ListN.{length, take, drop, length-drop}
-use Rattle.text.specs.Line.{firstLine, linesOf}
+use Rattle.text.specs.Line.{firstLine}
 use Rattle.text.proofs.Lines.{line-take, line-length, lines-one}
 use Rattle.register.specs.Cell.{cellsOf}
-use Rattle.register.specs.Limits.{secondLimits, judgedLimits}
+use Rattle.register.specs.Limits.{secondLimits}
 use Rattle.register.specs.declared.cell.Table.the-variants.{Limits}
 use borrow.Author.Needs.{needs}
 use Rattle.register.proofs.limits.second_limits.Statement.{statement}
 use Rattle.register.proofs.limits.second_limits.Tie as tie
-
-line-end-requires : tie.Need-line-end-requires
-line-end-requires c κs = search needs
-
-sub-read-cells : tie.Need-sub-read-cells
-sub-read-cells c = search needs
-
-part-read-cells-start : tie.Need-part-read-cells-start
-part-read-cells-start c = search needs
 
 -- the line ends within the text
 within : (c : tie.After-line-end) → c .line-end .result ≤ length (c .before .before .args .s .now)
@@ -31,12 +22,6 @@ within c =
 part-read-cells-end : tie.Need-part-read-cells-end
 part-read-cells-end c = within c
 
-add-read-cells : tie.Need-add-read-cells
-add-read-cells c = search needs
-
-read-cells-requires : tie.Need-read-cells-requires
-read-cells-requires c κs = search needs
-
 -- the cells are those of the second line
 second : (c : tie.After-read-cells) → let a = c .before .before .before .before .args in c .read-cells .result ≡ cellsOf Limits (1 + a .points) (firstLine (drop (a .start) (a .s .now)))
 second c =
@@ -44,9 +29,6 @@ second c =
     let t = drop (a .start) (a .s .now) in
     let n : c .before .before .line-end .result - a .start ≡ length (firstLine t) = omega (arith, c .before .before .line-end .ensures) in
     c .read-cells .ensures ∙ ap (cellsOf Limits (1 + a .points)) (ap (λ k. take k t) n ∙ line-take t)
-
-refused-limits-requires : tie.Need-refused-limits-requires
-refused-limits-requires c κs = search needs
 
 returns : tie.Need-returns
 unfolding secondLimits
@@ -56,9 +38,6 @@ returns c =
 sub-if2 : tie.Need-sub-if2
 sub-if2 c = within (c .before .before .before .before .before)
 
-refused-limits-requires-2 : tie.Need-refused-limits-requires-2
-refused-limits-requires-2 c κs = search needs
-
 returns-2 : tie.Need-returns-2
 unfolding secondLimits
 returns-2 c =
@@ -66,9 +45,6 @@ returns-2 c =
     let t = drop (a .start) (a .s .now) in
     c .refused-limits2 .ensures
     ∙ rw (← second (c .before .before .before .before .before), not-false (c .before .before .before .before .before .read-cells .result .read) (c .before .before .if1 .left), lines-one t, lt-leb (length t) (length (firstLine t) + 2) (omega (arith, length-drop (a .start) (a .s .now), c .before .before .before .before .before .before .before .line-end .ensures, c .before .if2 .taken)))
-
-judged-limits-requires : tie.Need-judged-limits-requires
-judged-limits-requires c κs = search needs
 
 returns-3 : tie.Need-returns-3
 unfolding secondLimits
@@ -82,16 +58,16 @@ pub second-limits-spec : {M : Type 1} → statement M
 second-limits-spec =
     tie.close
     (tie.spec
-    line-end-requires
-    sub-read-cells
-    part-read-cells-start
+    (λ c κs. search needs)
+    (λ c. search needs)
+    (λ c. search needs)
     part-read-cells-end
-    add-read-cells
-    read-cells-requires
-    refused-limits-requires
+    (λ c. search needs)
+    (λ c κs. search needs)
+    (λ c κs. search needs)
     returns
     sub-if2
-    refused-limits-requires-2
+    (λ c κs. search needs)
     returns-2
-    judged-limits-requires
+    (λ c κs. search needs)
     returns-3)

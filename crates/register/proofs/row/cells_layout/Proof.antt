@@ -1,37 +1,25 @@
 -- `register::row::cells_layout` meets its contract: each test settles one of `cellsLayout`'s. Assumes nothing.
-use mathlib.Core.Path.{_≡_, _∙_}
+use mathlib.Core.Path.{_∙_}
 use borrow.Author.Tests.{eq-eqb, ne-eqb, not-true, not-false}
 use Rattle.register.specs.Row.{cellsLayout}
 use borrow.Author.Needs.{needs}
 use Rattle.register.proofs.row.cells_layout.Statement.{statement}
 use Rattle.register.proofs.row.cells_layout.Tie as tie
 
-off-layout-requires : tie.Need-off-layout-requires
-off-layout-requires c κs = search needs
-
 returns : tie.Need-returns
 unfolding cellsLayout
 returns c =
     c .off-layout .ensures ∙ rw (not-true (c .before .before .before .before .args .c .read) (c .before .if1 .taken))
-
-row-layout-requires : tie.Need-row-layout-requires
-row-layout-requires c κs = search needs
 
 returns-2 : tie.Need-returns-2
 unfolding cellsLayout
 returns-2 c =
     c .row-layout .ensures ∙ rw (not-false (c .before .before .before .before .before .args .c .read) (c .before .before .if1 .left), eq-eqb (c .before .before .before .before .before .args .c .blanks) 0 (c .before .if2 .taken))
 
-row-layout-requires-2 : tie.Need-row-layout-requires-2
-row-layout-requires-2 c κs = search needs
-
 returns-3 : tie.Need-returns-3
 unfolding cellsLayout
 returns-3 c =
     c .row-layout2 .ensures ∙ rw (not-false (c .before .before .before .before .before .before .args .c .read) (c .before .before .before .if1 .left), ne-eqb (c .before .before .before .before .before .before .args .c .blanks) 0 (c .before .before .if2 .left), eq-eqb (c .before .before .before .before .before .before .args .c .blanks) (c .before .before .before .before .before .before .args .points) (c .before .if3 .taken))
-
-off-layout-requires-2 : tie.Need-off-layout-requires-2
-off-layout-requires-2 c κs = search needs
 
 returns-4 : tie.Need-returns-4
 unfolding cellsLayout
@@ -42,11 +30,11 @@ pub cells-layout-spec : {M : Type 1} → statement M
 cells-layout-spec =
     tie.close
     (tie.spec
-    off-layout-requires
+    (λ c κs. search needs)
     returns
-    row-layout-requires
+    (λ c κs. search needs)
     returns-2
-    row-layout-requires-2
+    (λ c κs. search needs)
     returns-3
-    off-layout-requires-2
+    (λ c κs. search needs)
     returns-4)

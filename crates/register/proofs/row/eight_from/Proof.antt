@@ -1,6 +1,6 @@
 -- `register::row::eight_from` meets its contract. The invariant: so many values are copied. Assumes nothing.
-use Prim.Native.Nat.{ℕ, _+_, _-_, _≤_}
-use mathlib.Core.Path.{_≡_, refl, ap, _∙_}
+use Prim.Native.Nat.{_+_, _-_, _≤_}
+use mathlib.Core.Path.{_≡_, refl, _∙_}
 use mathlib.Core.List.{_++_, append-nil}
 use native.Mathlib.Omega.{arith}
 use lib.ListN.{getD, replicate}
@@ -22,27 +22,6 @@ unfolding listing
 loop-holds c =
     (refl, omega arith)
 
-add-eight : tie.Need-add-eight Inv-loop μ-loop
-add-eight c = search needs
-
-mul-eight : tie.Need-mul-eight Inv-loop μ-loop
-mul-eight c = search needs
-
-array-read-eight : tie.Need-array-read-eight Inv-loop μ-loop
-array-read-eight c = search needs
-
-mul-eight-2 : tie.Need-mul-eight-2 Inv-loop μ-loop
-mul-eight-2 c = search needs
-
-array-write-eight : tie.Need-array-write-eight Inv-loop μ-loop
-array-write-eight c = search needs
-
-add-i : tie.Need-add-i Inv-loop μ-loop
-add-i c = search needs
-
-loop-less : tie.Need-loop-less Inv-loop μ-loop
-loop-less c = search needs
-
 loop-again : tie.Need-loop-again Inv-loop μ-loop
 loop-again c = (rw (c .before .loop .inv .0) (store-more (λ j. getD (c .before .before .args .t1) (c .before .before .args .k + j) 0) (c .before .loop .i) 8 (c .loop-test .taken)), omega arith)
 
@@ -59,12 +38,12 @@ eight-from-spec =
     Inv-loop
     μ-loop
     loop-holds
-    add-eight
-    mul-eight
-    array-read-eight
-    mul-eight-2
-    array-write-eight
-    add-i
-    loop-less
+    (λ c. search needs)
+    (λ c. search needs)
+    (λ c. search needs)
+    (λ c. search needs)
+    (λ c. search needs)
+    (λ c. search needs)
+    (λ c. search needs)
     loop-again
     returns)

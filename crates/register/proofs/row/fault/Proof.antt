@@ -1,21 +1,14 @@
 -- `register::row::fault` meets its contract: each test settles one of `faultOf`'s. Assumes nothing.
-use mathlib.Core.Path.{_≡_}
 use Rattle.refusal.proofs.Laws.{passed, failed}
 use Rattle.register.specs.Row.{faultOf}
 use borrow.Author.Needs.{needs}
 use Rattle.register.proofs.row.fault.Statement.{statement}
 use Rattle.register.proofs.row.fault.Tie as tie
 
-fields-fit-requires : tie.Need-fields-fit-requires
-fields-fit-requires c κs = search needs
-
 returns : tie.Need-returns
 unfolding faultOf
 returns c =
     rw (failed (c .before .fields-fit .ensures) (c .if1 .taken))
-
-identity-fits-requires : tie.Need-identity-fits-requires
-identity-fits-requires c κs = search needs
 
 returns-2 : tie.Need-returns-2
 unfolding faultOf
@@ -36,9 +29,9 @@ pub fault-spec : {M : Type 1} → statement M
 fault-spec =
     tie.close
     (tie.spec
-    fields-fit-requires
+    (λ c κs. search needs)
     returns
-    identity-fits-requires
+    (λ c κs. search needs)
     returns-2
     returns-3
     returns-4)

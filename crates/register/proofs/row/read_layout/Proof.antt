@@ -14,24 +14,15 @@ use borrow.Author.Needs.{needs}
 use Rattle.register.proofs.row.read_layout.Statement.{statement}
 use Rattle.register.proofs.row.read_layout.Tie as tie
 
-off-layout-requires : tie.Need-off-layout-requires
-off-layout-requires c κs = search needs
-
 returns : tie.Need-returns
 unfolding layoutOf
 returns c =
     c .off-layout .ensures ∙ rw (lt-leb 1 (c .before .before .before .args .points) (omega arith))
 
-off-layout-requires-2 : tie.Need-off-layout-requires-2
-off-layout-requires-2 c κs = search needs
-
 returns-2 : tie.Need-returns-2
 unfolding layoutOf
 returns-2 c =
     c .off-layout2 .ensures ∙ rw (le-leb 1 (c .before .before .before .before .args .points) (omega arith), lt-leb (c .before .before .before .before .args .points) 8 (omega arith))
-
-bare-length-requires : tie.Need-bare-length-requires
-bare-length-requires c κs = search needs
 
 -- the line without its end is a front of the text
 within : (c : tie.After-bare-length) → c .bare-length .result ≤ length (c .before .before .before .before .args .s .now)
@@ -42,15 +33,6 @@ line c = ap (λ n. take n (c .before .before .before .before .args .s .now)) (c 
 
 slice-aggregate-read-cells : tie.Need-slice-aggregate-read-cells
 slice-aggregate-read-cells c = sym (length-take-le _ _ (within (c .before)))
-
-add-read-cells : tie.Need-add-read-cells
-add-read-cells c = search needs
-
-read-cells-requires : tie.Need-read-cells-requires
-read-cells-requires c κs = search needs
-
-cells-layout-requires : tie.Need-cells-layout-requires
-cells-layout-requires c κs = search needs
 
 returns-3 : tie.Need-returns-3
 unfolding layoutOf
@@ -64,13 +46,13 @@ pub read-layout-spec : {M : Type 1} → statement M
 read-layout-spec =
     tie.close
     (tie.spec
-    off-layout-requires
+    (λ c κs. search needs)
     returns
-    off-layout-requires-2
+    (λ c κs. search needs)
     returns-2
-    bare-length-requires
+    (λ c κs. search needs)
     slice-aggregate-read-cells
-    add-read-cells
-    read-cells-requires
-    cells-layout-requires
+    (λ c. search needs)
+    (λ c κs. search needs)
+    (λ c κs. search needs)
     returns-3)

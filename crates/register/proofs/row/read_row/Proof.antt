@@ -1,7 +1,5 @@
 -- `register::row::read_row` meets its contract: the layout, then the rules and the room, and then the levels. Assumes nothing.
-use Prim.Native.Nat.{_≤_}
-use mathlib.Core.Path.{_≡_, refl, sym, ap, _∙_}
-use native.Mathlib.Omega.{arith}
+use mathlib.Core.Path.{_≡_, sym, ap, _∙_}
 use borrow.Author.Tests.{eq-eqb, ne-eqb}
 use lib.ListN.{length, take}
 use Rattle.text.specs.Put.{put}
@@ -10,12 +8,6 @@ use Rattle.register.proofs.Rows.{row-none, layout-points}
 use borrow.Author.Needs.{needs}
 use Rattle.register.proofs.row.read_row.Statement.{statement}
 use Rattle.register.proofs.row.read_row.Tie as tie
-
-read-layout-requires : tie.Need-read-layout-requires
-read-layout-requires c κs = search needs
-
-row-refusal-requires : tie.Need-row-refusal-requires
-row-refusal-requires c κs = search needs
 
 -- what was found is the refusal of the row
 found : (c : tie.After-row-refusal) → let a = c .before .before .before .before .args in c .row-refusal .result ≡ rowRefusal (a .points) (layoutOf (a .points) (a .s .now)) (length (a .levels .now))
@@ -33,9 +25,6 @@ put-levels-requires c κs =
     let none = row-none (a .points) (layoutOf (a .points) (a .s .now)) (length (a .levels .now)) (sym (found (c .before .before .before .before)) ∙ c .before .before .before .if1 .left) in
     (layout-points (a .points) (a .s .now) (none .0) .1, none .2)
 
-same-length : tie.Need-same-length
-same-length c = search needs
-
 returns-2 : tie.Need-returns-2
 returns-2 c =
     let a = c .before .before .before .before .before .before .before .before .before .before .before .args in
@@ -52,9 +41,9 @@ pub read-row-spec : {M : Type 1} → statement M
 read-row-spec =
     tie.close
     (tie.spec
-    read-layout-requires
-    row-refusal-requires
+    (λ c κs. search needs)
+    (λ c κs. search needs)
     returns
     put-levels-requires
-    same-length
+    (λ c. search needs)
     returns-2)

@@ -1,6 +1,5 @@
 -- `register::row::row_refusal` meets its contract: each test settles one of `rowRefusal`'s. Assumes nothing.
-use mathlib.Core.Path.{_≡_, sym, ap, _∙_}
-use native.Mathlib.Omega.{arith}
+use mathlib.Core.Path.{_≡_, ap, _∙_}
 use borrow.Author.Tests.{le-leb, lt-leb, eq-eqb, ne-eqb}
 use Rattle.refusal.specs.Range.{allWithin}
 use Rattle.register.specs.Row.{faultOf, rowRefusal}
@@ -12,15 +11,6 @@ returns : tie.Need-returns
 unfolding rowRefusal
 returns c =
     rw (ne-eqb (c .before .before .args .l .refusal) 0 (c .if1 .taken))
-
-slice-aggregate-all-within : tie.Need-slice-aggregate-all-within
-slice-aggregate-all-within c = search needs
-
-all-within-requires : tie.Need-all-within-requires
-all-within-requires c κs = search needs
-
-fault-requires : tie.Need-fault-requires
-fault-requires c κs = search needs
 
 -- the rule that was found
 fault-of : (c : tie.After-fault) → c .fault .result ≡ faultOf (c .before .before .before .before .before .before .before .args .l .fields) (allWithin 12000 (c .before .before .before .before .before .before .before .args .l .levels))
@@ -46,9 +36,9 @@ row-refusal-spec =
     tie.close
     (tie.spec
     returns
-    slice-aggregate-all-within
-    all-within-requires
-    fault-requires
+    (λ c. search needs)
+    (λ c κs. search needs)
+    (λ c κs. search needs)
     returns-2
     returns-3
     returns-4)

@@ -1,8 +1,6 @@
 -- `register::write::put_cell` meets its contract: each column by its own writer. Assumes nothing.
-use Prim.Native.Nat.{_+_, _≤_, _<_}
-use mathlib.Core.Path.{_≡_}
+use Prim.Native.Nat.{_<_}
 use native.Mathlib.Omega.{arith}
-use lib.ListN.{length}
 use Rattle.text.proofs.Puts.{wrote-none}
 use Rattle.text.proofs.Shown.{level-most, shown-width}
 use Rattle.register.specs.Cell.{shownCell, topOf}
@@ -25,16 +23,10 @@ put-level-requires c κs =
     let below : a .v < 100000 = omega (arith, p .0) in
     (below, omega (arith, p .1, level-most (a .v) below))
 
-same-length : tie.Need-same-length
-same-length c = search needs
-
 returns-2 : tie.Need-returns-2
 returns-2 c =
     let a = c .before .before .before .before .before .before .before .args in
     rw (text-marked (a .mark) (a .k) (a .v) (c .before .before .before .before .if2 .left), shown-level (a .k) (c .before .before .before .before .before .if1 .taken) (a .v)) (c .before .before .put-level .ensures)
-
-slice-aggregate-put-letter : tie.Need-slice-aggregate-put-letter
-slice-aggregate-put-letter c = search needs
 
 put-letter-requires : tie.Need-put-letter-requires
 unfolding topOf
@@ -42,26 +34,17 @@ put-letter-requires c κs =
     let below : c .before .before .before .before .before .args .v < topOf 1 = rw (c .before .before .if3 .taken) at (c .before .before .before .before .before .pre .0) in
     (below, omega (arith, c .before .before .before .before .before .pre .1))
 
-same-length-2 : tie.Need-same-length-2
-same-length-2 c = search needs
-
 returns-3 : tie.Need-returns-3
 unfolding shownCell
 returns-3 c =
     let a = c .before .before .before .before .before .before .before .before .args in
     rw (text-head (a .mark) (a .k) (a .v) (omega (arith, c .before .before .before .before .before .before .if1 .left)), c .before .before .before .before .before .if3 .taken) (c .before .before .put-letter .ensures)
 
-slice-aggregate-put-letter-2 : tie.Need-slice-aggregate-put-letter-2
-slice-aggregate-put-letter-2 c = search needs
-
 put-letter-requires-2 : tie.Need-put-letter-requires-2
 unfolding topOf
 put-letter-requires-2 c κs =
     let below : c .before .before .before .before .before .before .args .v < topOf 3 = rw (c .before .before .if4 .taken) at (c .before .before .before .before .before .before .pre .0) in
     (below, omega (arith, c .before .before .before .before .before .before .pre .1))
-
-same-length-3 : tie.Need-same-length-3
-same-length-3 c = search needs
 
 returns-4 : tie.Need-returns-4
 unfolding shownCell
@@ -74,9 +57,6 @@ unfolding topOf
 put-time-requires c κs =
     let below : c .before .before .before .before .before .before .args .v < topOf 4 = rw (c .before .if5 .taken) at (c .before .before .before .before .before .before .pre .0) in
     (below, omega (arith, c .before .before .before .before .before .before .pre .1))
-
-same-length-4 : tie.Need-same-length-4
-same-length-4 c = search needs
 
 returns-5 : tie.Need-returns-5
 unfolding shownCell
@@ -92,9 +72,6 @@ put-whole-requires c κs =
     let below : a .v < 10000000 = omega (arith, w .1, p .0) in
     (below, omega (arith, p .1, shown-width 7 6 (a .v) below))
 
-same-length-5 : tie.Need-same-length-5
-same-length-5 c = search needs
-
 returns-6 : tie.Need-returns-6
 returns-6 c =
     let a = c .before .before .before .before .before .before .before .before .before .args in
@@ -107,19 +84,19 @@ put-cell-spec =
     (tie.spec
     returns
     put-level-requires
-    same-length
+    (λ c. search needs)
     returns-2
-    slice-aggregate-put-letter
+    (λ c. search needs)
     put-letter-requires
-    same-length-2
+    (λ c. search needs)
     returns-3
-    slice-aggregate-put-letter-2
+    (λ c. search needs)
     put-letter-requires-2
-    same-length-3
+    (λ c. search needs)
     returns-4
     put-time-requires
-    same-length-4
+    (λ c. search needs)
     returns-5
     put-whole-requires
-    same-length-5
+    (λ c. search needs)
     returns-6)

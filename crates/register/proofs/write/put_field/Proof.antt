@@ -1,6 +1,4 @@
 -- `register::write::put_field` meets its contract: the comma, and past it the column. Assumes nothing.
-use mathlib.Core.Path.{_≡_}
-use mathlib.Core.List.{[], _∷_}
 use native.Mathlib.Omega.{arith}
 use borrow.Author.Tests.{eq-eqb, ne-eqb}
 use Rattle.text.proofs.Puts.{wrote-then}
@@ -9,23 +7,8 @@ use borrow.Author.Needs.{needs}
 use Rattle.register.proofs.write.put_field.Statement.{statement}
 use Rattle.register.proofs.write.put_field.Tie as tie
 
-put-cell-requires : tie.Need-put-cell-requires
-put-cell-requires c κs = search needs
-
-same-length : tie.Need-same-length
-same-length c = search needs
-
 returns : tie.Need-returns
 returns c = rw (eq-eqb (c .before .before .before .before .before .before .args .k) 0 (c .before .before .before .before .if1 .taken)) (c .before .before .put-cell .ensures)
-
-put-byte-requires : tie.Need-put-byte-requires
-put-byte-requires c κs = search needs
-
-put-cell-requires-2 : tie.Need-put-cell-requires-2
-put-cell-requires-2 c κs = search needs
-
-same-length-2 : tie.Need-same-length-2
-same-length-2 c = search needs
 
 returns-2 : tie.Need-returns-2
 returns-2 c =
@@ -38,10 +21,10 @@ pub put-field-spec : {M : Type 1} → statement M
 put-field-spec =
     tie.close
     (tie.spec
-    put-cell-requires
-    same-length
+    (λ c κs. search needs)
+    (λ c. search needs)
     returns
-    put-byte-requires
-    put-cell-requires-2
-    same-length-2
+    (λ c κs. search needs)
+    (λ c κs. search needs)
+    (λ c. search needs)
     returns-2)

@@ -1,6 +1,5 @@
 -- `register::write::put_front` meets its contract. Assumes nothing.
-use Prim.Native.Nat.{_+_, _≤_}
-use mathlib.Core.Path.{_≡_, sym}
+use mathlib.Core.Path.{sym}
 use native.Mathlib.Omega.{arith}
 use lib.Seq.{length-take-le}
 use borrow.Author.Needs.{needs}
@@ -13,12 +12,14 @@ slice-aggregate-put-text c = sym (length-take-le _ _ (c .before .before .before 
 put-text-requires : tie.Need-put-text-requires
 put-text-requires c κs = rw (length-take-le (c .before .before .before .before .args .n) (c .before .before .before .before .args .text .now) (c .before .before .before .before .pre .0)) (omega (arith, c .before .before .before .before .pre .1))
 
-same-length : tie.Need-same-length
-same-length c = search needs
-
 returns : tie.Need-returns
 returns c = c .before .before .put-text .ensures .bytes
 
 pub put-front-spec : {M : Type 1} → statement M
 put-front-spec =
-    tie.close (tie.spec slice-aggregate-put-text put-text-requires same-length returns)
+    tie.close
+    (tie.spec
+    slice-aggregate-put-text
+    put-text-requires
+    (λ c. search needs)
+    returns)

@@ -1,15 +1,15 @@
 -- `register::write::put_line` meets its contract. The invariant: the columns passed stand at the front. Assumes nothing.
 use Prim.Native.Nat.{_+_, _-_, _*_, _≤_, _<_}
-use mathlib.Core.Path.{_≡_, refl, sym, ap, _∙_}
+use mathlib.Core.Path.{_≡_, refl, _∙_}
 use mathlib.Core.List.{_++_}
 use native.Mathlib.Omega.{arith}
-use lib.ListN.{length, getD, length-append}
+use lib.ListN.{length, length-append}
 use Rattle.text.specs.Field.{joinedBy}
 use Rattle.text.specs.Index.{listing}
 use Rattle.text.specs.Put.{Wrote}
 use Rattle.text.proofs.Puts.{wrote-then, wrote-none}
 use Rattle.register.specs.Cell.{cellText, topOf}
-use Rattle.register.specs.Write.{columns, commaAt, textAt, showLine}
+use Rattle.register.specs.Write.{commaAt, textAt, showLine}
 use Rattle.register.proofs.Columns.{text-most}
 use Rattle.register.proofs.Writes.{joined-more, comma-most}
 use borrow.Author.Needs.{needs}
@@ -28,12 +28,6 @@ unfolding listing joinedBy
 loop-holds c =
     (wrote-none _ 0, omega arith, omega arith, refl)
 
-add-loop : tie.Need-add-loop Inv-loop μ-loop
-add-loop c = search needs
-
-value-at-requires : tie.Need-value-at-requires Inv-loop μ-loop
-value-at-requires c κs = search needs
-
 -- the value of this column has a text
 below : (c : tie.After-value-at Inv-loop μ-loop) → c .value-at .result < topOf (c .before .before .loop .k)
 below c = rw (c .value-at .ensures) (c .before .before .before .before .before .pre .0 .below (c .before .before .loop .k) (c .before .loop-test .taken))
@@ -42,12 +36,6 @@ put-field-requires : tie.Need-put-field-requires Inv-loop μ-loop
 put-field-requires c κs =
     let l = c .before .before .before .loop .inv in
     (below (c .before), omega (arith, l .1, l .3, c .before .before .before .before .before .before .pre .0 .few, c .before .before .before .before .before .before .pre .1, c .before .before .loop-test .taken))
-
-add-k : tie.Need-add-k Inv-loop μ-loop
-add-k c = search needs
-
-loop-less : tie.Need-loop-less Inv-loop μ-loop
-loop-less c = search needs
 
 loop-again : tie.Need-loop-again Inv-loop μ-loop
 loop-again c =
@@ -69,9 +57,6 @@ loop-again c =
       p .kept .0 ∙ l .inv .3,
     )
 
-same-length : tie.Need-same-length Inv-loop μ-loop
-same-length c = search needs
-
 returns : tie.Need-returns Inv-loop μ-loop
 unfolding showLine
 returns c =
@@ -86,11 +71,11 @@ put-line-spec =
     Inv-loop
     μ-loop
     loop-holds
-    add-loop
-    value-at-requires
+    (λ c. search needs)
+    (λ c κs. search needs)
     put-field-requires
-    add-k
-    loop-less
+    (λ c. search needs)
+    (λ c. search needs)
     loop-again
-    same-length
+    (λ c. search needs)
     returns)

@@ -1,12 +1,11 @@
 -- `register::write::put_row` meets its contract: the line, and past it the CRLF. Assumes nothing.
-use Prim.Native.Nat.{_+_, _≤_}
-use mathlib.Core.Path.{_≡_, ap, _∙_}
+use Prim.Native.Nat.{_+_}
+use mathlib.Core.Path.{_∙_}
 use mathlib.Core.List.{[], _∷_, _++_, append-assoc}
 use native.Mathlib.Omega.{arith}
-use lib.ListN.{length, length-append}
+use lib.ListN.{length-append}
 use Rattle.text.proofs.Puts.{wrote-then}
 use Rattle.register.specs.Write.{showLine}
-use borrow.Author.Needs.{needs}
 use Rattle.register.proofs.write.put_row.Statement.{statement}
 use Rattle.register.proofs.write.put_row.Tie as tie
 

@@ -1,5 +1,5 @@
 -- `register::write::row_levels_fit` meets its contract. Assumes nothing.
-use mathlib.Core.Path.{_≡_, sym, _∙_}
+use mathlib.Core.Path.{_∙_}
 use borrow.Author.Tests.{eq-eqb, ne-eqb}
 use Rattle.refusal.proofs.Laws.{passed, failed}
 use Rattle.register.specs.Write.{rowLevelsFit}
@@ -7,16 +7,10 @@ use borrow.Author.Needs.{needs}
 use Rattle.register.proofs.write.row_levels_fit.Statement.{statement}
 use Rattle.register.proofs.write.row_levels_fit.Tie as tie
 
-levels-fit-requires : tie.Need-levels-fit-requires
-levels-fit-requires c κs = search needs
-
 returns : tie.Need-returns
 unfolding rowLevelsFit
 returns c =
     rw (failed (c .before .levels-fit .ensures) (c .if1 .taken))
-
-all-within-requires : tie.Need-all-within-requires
-all-within-requires c κs = search needs
 
 returns-2 : tie.Need-returns-2
 unfolding rowLevelsFit
@@ -30,4 +24,10 @@ returns-3 c =
 
 pub row-levels-fit-spec : {M : Type 1} → statement M
 row-levels-fit-spec =
-    tie.close (tie.spec levels-fit-requires returns all-within-requires returns-2 returns-3)
+    tie.close
+    (tie.spec
+    (λ c κs. search needs)
+    returns
+    (λ c κs. search needs)
+    returns-2
+    returns-3)

@@ -1,5 +1,5 @@
 -- `register::write::write_fault` meets its contract: each test settles one of `writeFault`'s. Assumes nothing.
-use mathlib.Core.Path.{_≡_, _∙_}
+use mathlib.Core.Path.{_∙_}
 use native.Mathlib.Omega.{arith}
 use borrow.Author.Tests.{le-leb, lt-leb}
 use Rattle.register.specs.Write.{writeFault}
@@ -23,12 +23,6 @@ returns-3 c =
     let a = c .before .before .before .before .before .args in
     rw (le-leb 1 (a .points) (omega arith), le-leb (a .points) 8 (omega arith), lt-leb (a .f .computed) 1 (omega arith))
 
-row-levels-fit-requires : tie.Need-row-levels-fit-requires
-row-levels-fit-requires c κs = search needs
-
-fault-requires : tie.Need-fault-requires
-fault-requires c κs = search needs
-
 returns-4 : tie.Need-returns-4
 unfolding writeFault
 returns-4 c =
@@ -42,6 +36,6 @@ write-fault-spec =
     returns
     returns-2
     returns-3
-    row-levels-fit-requires
-    fault-requires
+    (λ c κs. search needs)
+    (λ c κs. search needs)
     returns-4)

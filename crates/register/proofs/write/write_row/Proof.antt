@@ -1,10 +1,9 @@
 -- `register::write::write_row` meets its contract: a fault, too little room, or the text that was put together. Assumes nothing.
-use Prim.Native.Nat.{_≤_}
-use mathlib.Core.Path.{_≡_, refl, sym, ap, _∙_}
+use mathlib.Core.Path.{_≡_, sym, ap, _∙_}
 use mathlib.Core.List.{[], _∷_}
 use native.Mathlib.Omega.{arith}
 use borrow.Author.Tests.{le-leb, lt-leb, eq-eqb, ne-eqb}
-use lib.ListN.{length, take}
+use lib.ListN.{length}
 use Rattle.text.specs.Put.{put}
 use Rattle.text.proofs.Puts.{wrote-front, wrote-fits}
 use Rattle.register.specs.Write.{showRow, writeFault, writeRefusal}
@@ -12,9 +11,6 @@ use Rattle.register.proofs.Writes.{fault-fine, fine-writable}
 use borrow.Author.Needs.{needs}
 use Rattle.register.proofs.write.write_row.Statement.{statement}
 use Rattle.register.proofs.write.write_row.Tie as tie
-
-write-fault-requires : tie.Need-write-fault-requires
-write-fault-requires c κs = search needs
 
 returns : tie.Need-returns
 unfolding writeRefusal
@@ -27,9 +23,6 @@ returns c =
 fine : (c : tie.Else1) → let a = c .before .before .before .before .args in writeFault (a .points) (a .f) (a .levels .now) ≡ 0
 fine c = sym (c .before .write-fault .ensures) ∙ c .if1 .left
 
-slice-aggregate-put-row : tie.Need-slice-aggregate-put-row
-slice-aggregate-put-row c = search needs
-
 put-row-requires : tie.Need-put-row-requires
 put-row-requires c κs = (fine-writable (fault-fine _ _ _ (fine (c .before))), omega arith)
 
@@ -41,17 +34,11 @@ returns-2 c =
     let short = lt-leb (length (showRow (a .f) (a .levels .now))) (length (a .out .now)) (omega (arith, c .before .before .put-row .ensures .0 .place, c .if2 .taken)) in
     record { number = rw (none, short); values = rw (none, short); bytes = rw (none, short) }
 
-slice-aggregate-put-front : tie.Need-slice-aggregate-put-front
-slice-aggregate-put-front c = search needs
-
 put-front-requires : tie.Need-put-front-requires
 put-front-requires c κs = (wrote-fits (c .before .before .before .before .put-row .ensures .0), c .before .before .if2 .left)
 
 cast-t17 : tie.Need-cast-t17
 cast-t17 c = omega (arith, c .before .before .before .before .before .before .before .put-row .ensures .1)
-
-same-length : tie.Need-same-length
-same-length c = search needs
 
 returns-3 : tie.Need-returns-3
 unfolding writeRefusal
@@ -71,13 +58,13 @@ pub write-row-spec : {M : Type 1} → statement M
 write-row-spec =
     tie.close
     (tie.spec
-    write-fault-requires
+    (λ c κs. search needs)
     returns
-    slice-aggregate-put-row
+    (λ c. search needs)
     put-row-requires
     returns-2
-    slice-aggregate-put-front
+    (λ c. search needs)
     put-front-requires
     cast-t17
-    same-length
+    (λ c. search needs)
     returns-3)

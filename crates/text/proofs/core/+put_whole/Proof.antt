@@ -1,13 +1,10 @@
 -- `text::core::put_whole` meets its contract; its measure is the number. Assumes nothing.
-use Prim.Native.Nat.{_+_, _/_, _≤_, _%_}
+use Prim.Native.Nat.{_+_}
 use mathlib.Core.Path.{ap, _∙_}
-use mathlib.Core.List.{[], _∷_, _++_}
 use native.Mathlib.Omega.{arith}
-use lib.ListN.{length, length-append}
-use Rattle.text.specs.Number.{showWhole}
-use Rattle.text.specs.Put.{Wrote}
+use lib.ListN.{length}
 use Rattle.text.proofs.Shown.{whole-one, whole-more, whole-longer}
-use Rattle.text.proofs.Puts.{wrote-then, length-wrote}
+use Rattle.text.proofs.Puts.{wrote-then}
 use Prim.Native.Nat.{ℕ, _<_}
 use borrow.Fn.Kinds.{In}
 use borrow.Fn.PlainCycle.{Measures, is, falls, and}

@@ -21,9 +21,6 @@ abbrev μ-loop : tie.MeasureT-loop
 loop-holds : tie.Need-loop-holds Inv-loop μ-loop
 loop-holds c = (refl, omega arith, omega arith)
 
-shared-slice-read-c : tie.Need-shared-slice-read-c Inv-loop μ-loop
-shared-slice-read-c c = search needs
-
 -- under the loop's test the value has at most six digits
 small : (c : tie.In-loop Inv-loop μ-loop) → c .before .loop .value < 1000000
 small c = million (c .before .loop .value) (c .before .loop .i) (c .before .loop .inv .2) (omega (arith, c .before .before .pre))
@@ -41,17 +38,8 @@ returns-2 c =
 mul-value : tie.Need-mul-value Inv-loop μ-loop
 mul-value c = omega (arith, small (c .before .before .before))
 
-cast-value : tie.Need-cast-value Inv-loop μ-loop
-cast-value c = search needs
-
 add-value : tie.Need-add-value Inv-loop μ-loop
 add-value c = omega (arith, small (c .before .before .before))
-
-add-i : tie.Need-add-i Inv-loop μ-loop
-add-i c = search needs
-
-loop-less : tie.Need-loop-less Inv-loop μ-loop
-loop-less c = search needs
 
 loop-again : tie.Need-loop-again Inv-loop μ-loop
 loop-again c =
@@ -76,13 +64,13 @@ digits-spec =
     Inv-loop
     μ-loop
     loop-holds
-    shared-slice-read-c
+    (λ c. search needs)
     returns
     returns-2
     mul-value
-    cast-value
+    (λ c. search needs)
     add-value
-    add-i
-    loop-less
+    (λ c. search needs)
+    (λ c. search needs)
     loop-again
     returns-3)

@@ -1,6 +1,5 @@
 -- `text::core::ends_line` meets its contract: each test on the way settles one of `endAt`'s. Assumes nothing.
 use Prim.Native.Nat.{_+_, _≤_}
-use mathlib.Core.Path.{_≡_, sym}
 use native.Mathlib.Omega.{arith}
 use borrow.Author.Tests.{eq-eqb, ne-eqb}
 use lib.ListN.{length, getD, List·getD-eq-default}
@@ -8,28 +7,16 @@ use borrow.Author.Needs.{needs}
 use Rattle.text.proofs.core.ends_line.Statement.{statement}
 use Rattle.text.proofs.core.ends_line.Tie as tie
 
-shared-slice-read-if1 : tie.Need-shared-slice-read-if1
-shared-slice-read-if1 c = search needs
-
 returns : tie.Need-returns
 returns c =
     let a = c .before .before .args in
     rw (ne-eqb (getD (a .s .now) (a .at) 0) 13 (c .if1 .taken))
-
-sub-if2 : tie.Need-sub-if2
-sub-if2 c = search needs
 
 returns-2 : tie.Need-returns-2
 returns-2 c =
     let a = c .before .before .before .args in
     let none : length (a .s .now) ≤ a .at + 1 = omega arith in
     rw (eq-eqb (getD (a .s .now) (a .at) 0) 13 (c .before .if1 .left), List·getD-eq-default (a .s .now) 0 none)
-
-add-result : tie.Need-add-result
-add-result c = search needs
-
-shared-slice-read-result : tie.Need-shared-slice-read-result
-shared-slice-read-result c = search needs
 
 returns-3 : tie.Need-returns-3
 returns-3 c =
@@ -40,10 +27,10 @@ pub ends-line-spec : {M : Type 1} → statement M
 ends-line-spec =
     tie.close
     (tie.spec
-    shared-slice-read-if1
+    (λ c. search needs)
     returns
-    sub-if2
+    (λ c. search needs)
     returns-2
-    add-result
-    shared-slice-read-result
+    (λ c. search needs)
+    (λ c. search needs)
     returns-3)

@@ -28,9 +28,6 @@ put-two-requires : tie.Need-put-two-requires
 put-two-requires c κs =
     omega (arith, room (c .before .before .before .before .before .before .before .before .before .before), c .before .before .before .before .before .before .before .put-whole .ensures .place, c .before .before .before .before .before .before .before .put-whole .kept .0, c .before .before .before .put-byte .ensures .place, c .before .before .before .put-byte .kept .0)
 
-same-length : tie.Need-same-length
-same-length c = search needs
-
 returns : tie.Need-returns
 returns c =
     let units = c .before .before .before .before .before .before .before .before .before .before .put-whole in
@@ -39,4 +36,10 @@ returns c =
 
 pub put-level-spec : {M : Type 1} → statement M
 put-level-spec =
-    tie.close (tie.spec put-whole-requires put-byte-requires put-two-requires same-length returns)
+    tie.close
+    (tie.spec
+    put-whole-requires
+    put-byte-requires
+    put-two-requires
+    (λ c. search needs)
+    returns)

@@ -1,9 +1,9 @@
 -- `text::line::bare_length` meets its contract: each test on the way settles one of `bareLine`'s. Assumes nothing.
 use Prim.Native.Nat.{_+_, _-_}
-use mathlib.Core.Path.{_≡_, refl, sym}
+use mathlib.Core.Path.{_≡_, sym}
 use native.Mathlib.Omega.{arith}
 use borrow.Author.Tests.{le-leb, lt-leb, eq-eqb, ne-eqb}
-use lib.ListN.{length, getD, take}
+use lib.ListN.{length, getD}
 use lib.Seq.{length-take-le}
 use Rattle.text.specs.Line.{bareLine}
 use borrow.Author.Needs.{needs}
@@ -16,20 +16,11 @@ returns c =
     let s = c .before .args .s .now in
     rw (lt-leb 2 (length s) (omega arith))
 
-shared-slice-read-if2 : tie.Need-shared-slice-read-if2
-shared-slice-read-if2 c = search needs
-
 returns-2 : tie.Need-returns-2
 unfolding bareLine
 returns-2 c =
     let s = c .before .before .before .args .s .now in
     rw (le-leb 2 (length s) (omega arith), ne-eqb (getD s (length s - 2) 0) 13 (c .if2 .taken))
-
-sub-if3 : tie.Need-sub-if3
-sub-if3 c = search needs
-
-shared-slice-read-if3 : tie.Need-shared-slice-read-if3
-shared-slice-read-if3 c = search needs
 
 returns-3 : tie.Need-returns-3
 unfolding bareLine
@@ -50,9 +41,9 @@ bare-length-spec =
     tie.close
     (tie.spec
     returns
-    shared-slice-read-if2
+    (λ c. search needs)
     returns-2
-    sub-if3
-    shared-slice-read-if3
+    (λ c. search needs)
+    (λ c. search needs)
     returns-3
     returns-4)

@@ -1,5 +1,5 @@
 -- `text::number::level` meets its contract: each test on the way settles one of `levelOf`'s. Assumes nothing.
-use Prim.Native.Nat.{ℕ, _<_, _≤_, _-_, _+_, _^_}
+use Prim.Native.Nat.{_<_, _-_, _+_}
 use mathlib.Core.Path.{_≡_, sym, _∙_}
 use native.Mathlib.Omega.{arith}
 use borrow.Author.Tests.{le-leb, lt-leb, eq-eqb, ne-eqb}
@@ -26,12 +26,6 @@ returns-2 c =
     let s = c .before .before .before .args .s .now in
     simp (le-leb 4 (length s) (omega arith), lt-leb (length s) 6 (omega arith))
 
-sub-point : tie.Need-sub-point
-sub-point c = search needs
-
-shared-slice-read-if3 : tie.Need-shared-slice-read-if3
-shared-slice-read-if3 c = search needs
-
 returns-3 : tie.Need-returns-3
 unfolding levelOf
 returns-3 c =
@@ -49,41 +43,11 @@ opened c =
 slice-aggregate-whole : tie.Need-slice-aggregate-whole
 slice-aggregate-whole c = let s = c .before .before .before .before .before .before .args .s .now in sym (length-take-le (length s - 3) s (omega arith))
 
-whole-requires : tie.Need-whole-requires
-whole-requires c κs = search needs
-
-enum-known-units : tie.Need-enum-known-units
-enum-known-units c = search needs
-
-enum-told : tie.Need-enum-told
-enum-told c = search needs
-
 returns-4 : tie.Need-returns-4
 returns-4 c =
     let s = c .before .before .before .before .before .before .before .before .before .args .s .now in
     let e : wholeOf (take (length s - 3) s) ≡ Off = cc in
     sym (opened (c .before .before .before .before) ∙ rw e)
-
-add-digits : tie.Need-add-digits
-add-digits c = search needs
-
-sub-digits : tie.Need-sub-digits
-sub-digits c = search needs
-
-part-digits-start : tie.Need-part-digits-start
-part-digits-start c = search needs
-
-part-digits-end : tie.Need-part-digits-end
-part-digits-end c = search needs
-
-digits-requires : tie.Need-digits-requires
-digits-requires c κs = search needs
-
-enum-known-hundredths : tie.Need-enum-known-hundredths
-enum-known-hundredths c = search needs
-
-enum-told-2 : tie.Need-enum-told-2
-enum-told-2 c = search needs
 
 returns-5 : tie.Need-returns-5
 returns-5 c =
@@ -118,21 +82,21 @@ level-spec =
     (tie.spec
     returns
     returns-2
-    sub-point
-    shared-slice-read-if3
+    (λ c. search needs)
+    (λ c. search needs)
     returns-3
     slice-aggregate-whole
-    whole-requires
-    enum-known-units
-    enum-told
+    (λ c κs. search needs)
+    (λ c. search needs)
+    (λ c. search needs)
     returns-4
-    add-digits
-    sub-digits
-    part-digits-start
-    part-digits-end
-    digits-requires
-    enum-known-hundredths
-    enum-told-2
+    (λ c. search needs)
+    (λ c. search needs)
+    (λ c. search needs)
+    (λ c. search needs)
+    (λ c κs. search needs)
+    (λ c. search needs)
+    (λ c. search needs)
     returns-5
     mul-t18
     add-t19

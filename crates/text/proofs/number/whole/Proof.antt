@@ -1,6 +1,5 @@
 -- `text::number::whole` meets its contract: each test on the way settles one of `wholeOf`'s. Assumes nothing.
-use Prim.Native.Nat.{ℕ, _<_, _≤_}
-use mathlib.Core.Path.{_≡_, sym, _∙_}
+use mathlib.Core.Path.{_∙_}
 use mathlib.Core.Logic.{⊎-elim}
 use native.Mathlib.Omega.{arith}
 use borrow.Author.Tests.{le-leb, lt-leb, lt-ltb, le-ltb, eq-eqb, ne-eqb}
@@ -23,17 +22,11 @@ returns-2 c =
     let s = c .before .before .before .args .s .now in
     simp (le-leb 1 (length s) (omega arith), lt-leb (length s) 7 (omega arith))
 
-shared-slice-read-if4 : tie.Need-shared-slice-read-if4
-shared-slice-read-if4 c = search needs
-
 returns-3 : tie.Need-returns-3
 unfolding wholeOf
 returns-3 c =
     let s = c .before .before .before .before .before .before .args .s .now in
     simp (le-leb 1 (length s) (omega arith), le-leb (length s) 7 (omega arith), lt-ltb 1 (length s) (omega arith), eq-eqb (getD s 0 0) 48 (c .if4 .taken))
-
-digits-requires : tie.Need-digits-requires
-digits-requires c κs = search needs
 
 returns-4 : tie.Need-returns-4
 unfolding wholeOf
@@ -48,4 +41,10 @@ returns-4 c =
 pub whole-spec : {M : Type 1} → statement M
 whole-spec =
     tie.close
-    (tie.spec returns returns-2 shared-slice-read-if4 returns-3 digits-requires returns-4)
+    (tie.spec
+    returns
+    returns-2
+    (λ c. search needs)
+    returns-3
+    (λ c κs. search needs)
+    returns-4)

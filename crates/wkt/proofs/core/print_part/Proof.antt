@@ -14,7 +14,7 @@ use Rattle.wkt.specs.declared.Cursor.{Cursor}
 use Rattle.wkt.specs.Parts.{Reached, leftOf, pieceOf, nextOf}
 use Rattle.wkt.proofs.Lengths.{piece-short}
 use Rattle.wkt.proofs.Steps.{ahead, Goes, goes}
-use Rattle.wkt.proofs.Rooms.{Come, come-more}
+use Rattle.wkt.proofs.Rooms.{Come, come-none, come-more}
 use Rattle.wkt.proofs.core.print_part.Statement.{statement}
 use Rattle.wkt.proofs.core.print_part.Tie as tie
 
@@ -40,7 +40,10 @@ whole c =
     length-wrote (omega (arith, l .inv .whole, piece-short (now (a .levels)) (a .frame) (a .v) (now (a .edges)) (now (a .counts)) (now (a .closed)) (l .at))) (c .put-step .ensures .1) ∙ l .inv .whole
 
 loop-holds : tie.Need-loop-holds Inv-loop μ-loop
-loop-holds c = record { reached = c .before .before .before .before .before .pre .1; whole = search needs; long = refl; fits = search needs; joined = refl; kept = refl }
+loop-holds c =
+    let s = c .before .before .before .before .before in
+    let a = s .args in
+    come-none (now (a .levels)) (a .frame) (a .v) (now (a .edges)) (now (a .counts)) (now (a .closed)) (a .from) (now (a .room)) _ (s .pre .1) (search needs)
 
 slice-aggregate-put-step : tie.Need-slice-aggregate-put-step Inv-loop μ-loop
 slice-aggregate-put-step c = search needs
@@ -57,7 +60,18 @@ same-length c = search needs
 returns : tie.Need-returns Inv-loop μ-loop
 returns c =
     let i = c .before .before .before .before .before .before .loop .inv in
-    record { joined = i .joined; kept = i .kept; fits = i .fits; reached = i .reached; stopped = inr (omega (arith, c .if2 .taken, c .before .before .put-step .ensures .1 .place, i .long, i .fits)) }
+    record {
+      steps = i .steps;
+      there = i .there;
+      bytes = i .bytes;
+      fits = i .fits;
+      long = i .long;
+      kept = i .kept;
+      stopped = inr (omega (arith, c .if2 .taken, c .before .before .put-step .ensures .1 .place, i .long, i .fits));
+      not-before = i .not-before;
+      reached = i .reached;
+      joined = i .joined;
+    }
 
 array-share-prefix-piece : tie.Need-array-share-prefix-piece Inv-loop μ-loop
 array-share-prefix-piece c = wrote-fits (c .before .before .before .put-step .ensures .1)
@@ -78,11 +92,13 @@ loop-again : tie.Need-loop-again Inv-loop μ-loop
 loop-again c =
     let a = c .before .before .before .before .before .before .before .before .before .before .before .before .before .before .before .before .before .before .args in
     let l = c .before .before .before .before .before .before .before .before .before .before .before .before .loop in
-    let w = c .before .before .before .before .before .before .before .before .put-step .ensures .1 in
+    let t = c .before .before .before .before .before .before .before .before .put-step in
+    let w = t .ensures .1 in
+    let p = c .before .before .before .put-text in
     let fits : l .size + length (pieceOf (now (a .levels)) (a .frame) (a .v) (now (a .edges)) (now (a .counts)) (now (a .closed)) (l .at)) ≤ length (l .room) = omega (arith, w .place, c .before .before .before .before .before .before .if2 .left, l .inv .fits, l .inv .long) in
-    come-more (now (a .levels)) (a .frame) (a .v) (now (a .edges)) (now (a .counts)) (now (a .closed)) (a .from) (now (a .room)) (l .room) (l .piece) (l .at) (l .size) (c .before .before .before .before .before .before .before .before .put-step .result .next) (c .before .before .before .before .before .before .before .before .put-step .last .1 .1 .1 .1 .1 .1 .1 .0) (pieceOf (now (a .levels)) (a .frame) (a .v) (now (a .edges)) (now (a .counts)) (now (a .closed)) (l .at)) (c .before .before .before .put-text .last .0) (c .before .before .before .put-text .result)
-    (l .inv) (stepped (c .before .before .before .before .before .before .before .before) .text) (stepped (c .before .before .before .before .before .before .before .before) .reached) (whole (c .before .before .before .before .before .before .before .before)) fits
-    (subst (λ (t : List ℕ). Wrote (l .room) (l .size) t (c .before .before .before .put-text .last .0) (c .before .before .before .put-text .result)) (wrote-front w) (c .before .before .before .put-text .ensures))
+    come-more (now (a .levels)) (a .frame) (a .v) (now (a .edges)) (now (a .counts)) (now (a .closed)) (a .from) (now (a .room)) (l .room) (l .piece) (l .at) (l .size) (l .inv) (t .result .next) (t .last .1 .1 .1 .1 .1 .1 .1 .0) (p .last .0) (p .result)
+    (t .ensures .0) (c .before .before .before .before .before .before .before .before .before .before .if1 .taken) fits (subst (λ (t : List ℕ). Wrote (l .room) (l .size) t (p .last .0) (p .result)) (wrote-front w) (p .ensures))
+    (stepped (c .before .before .before .before .before .before .before .before) .text) (stepped (c .before .before .before .before .before .before .before .before) .reached) (whole (c .before .before .before .before .before .before .before .before))
 
 same-length-2 : tie.Need-same-length-2 Inv-loop μ-loop
 same-length-2 c = search needs
@@ -90,7 +106,18 @@ same-length-2 c = search needs
 returns-2 : tie.Need-returns-2 Inv-loop μ-loop
 returns-2 c =
     let i = c .before .before .loop .inv in
-    record { joined = i .joined; kept = i .kept; fits = i .fits; reached = i .reached; stopped = inl (c .if1 .left) }
+    record {
+      steps = i .steps;
+      there = i .there;
+      bytes = i .bytes;
+      fits = i .fits;
+      long = i .long;
+      kept = i .kept;
+      stopped = inl (c .if1 .left);
+      not-before = i .not-before;
+      reached = i .reached;
+      joined = i .joined;
+    }
 
 pub print-part-spec : {M : Type 1} → statement M
 print-part-spec =

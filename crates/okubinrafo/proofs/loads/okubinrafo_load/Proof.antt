@@ -1,0 +1,62 @@
+-- `okubinrafo::loads::okubinrafo_load` meets its contract: a refusal, no room, or the 39 numbers. Assumes nothing.
+use mathlib.Core.Path.{_≡_, sym, ap, _∙_}
+use native.Mathlib.Omega.{arith}
+use lib.ListN.{length}
+use Rattle.book.specs.Columns.{bookOf}
+use Rattle.counted.specs.declared.Load.{Load}
+use Rattle.counted.specs.Load.{bookLoad}
+use Rattle.mapping.specs.Many.{over}
+use Rattle.okubinrafo.specs.Loads.{loadNumbers}
+use Rattle.okubinrafo.proofs.Answers.{refuse, lack, write}
+use Rattle.okubinrafo.proofs.Numbers.{length-load}
+use borrow.Author.Needs.{needs}
+use Rattle.okubinrafo.proofs.loads.okubinrafo_load.Statement.{statement}
+use Rattle.okubinrafo.proofs.loads.okubinrafo_load.Tie as tie
+
+abbrev start : tie.After-load-at → tie.Start
+start c = c .before .before .before .before .before .before
+
+-- the load of the book, and its 39 numbers
+abbrev the-load : tie.Start → Load
+the-load s = bookLoad (s .args .points) (s .args .point) (bookOf (s .args .identities .now) (s .args .groups .now) (s .args .marks .now) (s .args .levels .now)) (s .args .days)
+
+long : (s : tie.Start) → length (loadNumbers (the-load s)) ≡ 39
+long s = length-load (s .args .points) (s .args .point) (bookOf (s .args .identities .now) (s .args .groups .now) (s .args .marks .now) (s .args .levels .now)) (s .args .days)
+
+-- past the first test it is not refused
+fine : (c : tie.Else1) → the-load (start (c .before)) .refused ≡ 0
+fine c = ap (λ (l : Load). l .refused) (sym (c .before .load-at .ensures)) ∙ c .if1 .left
+
+load-at-requires : tie.Need-load-at-requires
+load-at-requires c κs = search needs
+
+returns : tie.Need-returns
+returns c = refuse (ap (λ (l : Load). l .refused) (sym (c .before .load-at .ensures))) (c .if1 .taken)
+
+returns-2 : tie.Need-returns-2
+returns-2 c = lack (fine (c .before)) (omega (arith, long (start (c .before .before)), c .if2 .taken))
+
+put-numbers-requires : tie.Need-put-numbers-requires
+put-numbers-requires c κs = search needs
+
+same-length : tie.Need-same-length
+same-length c = search needs
+
+returns-3 : tie.Need-returns-3
+returns-3 c =
+    let put = c .before .before in
+    let tested = put .before .before .before in
+    let s = start (tested .before .before) in
+    write (fine (tested .before)) (omega (arith, long s, tested .if2 .left))
+    (put .put-numbers .ensures ∙ ap (λ (l : Load). over (s .args .answer .now) (loadNumbers l)) (tested .before .before .load-at .ensures))
+
+pub okubinrafo-load-spec : {M : Type 1} → statement M
+okubinrafo-load-spec =
+    tie.close
+    (tie.spec
+    load-at-requires
+    returns
+    returns-2
+    put-numbers-requires
+    same-length
+    returns-3)

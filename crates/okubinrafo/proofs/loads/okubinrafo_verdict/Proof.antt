@@ -1,0 +1,59 @@
+-- `okubinrafo::loads::okubinrafo_verdict` meets its contract: a refusal, or a verdict that is written. Assumes nothing.
+use mathlib.Core.Path.{sym, _∙_}
+use Rattle.book.specs.Columns.{bookOf}
+use Rattle.counted.specs.declared.Judged.{Judged}
+use Rattle.counted.specs.Verdict.{bookVerdict}
+use Rattle.okubinrafo.proofs.Numbers.{judged-refused, judged-given}
+use borrow.Author.Needs.{needs}
+use Rattle.okubinrafo.proofs.loads.okubinrafo_verdict.Statement.{statement}
+use Rattle.okubinrafo.proofs.loads.okubinrafo_verdict.Tie as tie
+
+-- the verdict on the book
+abbrev verdict : tie.After-verdict-at → Judged
+verdict c =
+    let s = c .before .before .before .before .before .before in
+    bookVerdict (s .args .points) (s .args .point) (bookOf (s .args .identities .now) (s .args .groups .now) (s .args .marks .now) (s .args .levels .now)) (s .args .days) (s .args .limit)
+
+verdict-at-requires : tie.Need-verdict-at-requires
+verdict-at-requires c κs = search needs
+
+enum-known-judged : tie.Need-enum-known-judged
+enum-known-judged c = search needs
+
+enum-known-judged-2 : tie.Need-enum-known-judged-2
+enum-known-judged-2 c = search needs
+
+number-requires : tie.Need-number-requires
+number-requires c κs = search needs
+
+put-number-requires : tie.Need-put-number-requires
+put-number-requires c κs = search needs
+
+returns : tie.Need-returns
+returns c =
+    let judged = c .before .before .before in
+    judged-refused (verdict judged) _ (sym (judged .verdict-at .ensures .answer) ∙ c .before .judged .given .1)
+
+same-length : tie.Need-same-length
+same-length c = search needs
+
+returns-2 : tie.Need-returns-2
+returns-2 c =
+    let put = c .before .before in
+    let number = put .before .before in
+    let matched = number .before .before in
+    let judged = matched .before .before in
+    judged-given (verdict judged) _ (sym (judged .verdict-at .ensures .answer) ∙ matched .judged2 .given .1) (number .number .ensures) (put .put-number .ensures)
+
+pub okubinrafo-verdict-spec : {M : Type 1} → statement M
+okubinrafo-verdict-spec =
+    tie.close
+    (tie.spec
+    verdict-at-requires
+    enum-known-judged
+    enum-known-judged-2
+    number-requires
+    put-number-requires
+    returns
+    same-length
+    returns-2)

@@ -1,0 +1,61 @@
+-- `okubinrafo::rows::okubinrafo_read_row` meets its contract: no room for the fields, a refusal, or a row. Assumes nothing.
+use Rattle.okubinrafo.proofs.Answers.{short-first}
+use Rattle.okubinrafo.proofs.Lines.{row-refused, row-read}
+use borrow.Author.Needs.{needs}
+use Rattle.okubinrafo.proofs.rows.okubinrafo_read_row.Statement.{statement}
+use Rattle.okubinrafo.proofs.rows.okubinrafo_read_row.Tie as tie
+
+row-fault-requires : tie.Need-row-fault-requires
+row-fault-requires c κs = search needs
+
+returns : tie.Need-returns
+returns c = short-first (c .before .if1 .taken) (c .row-fault .ensures)
+
+read-row-requires : tie.Need-read-row-requires
+read-row-requires c κs = search needs
+
+enum-known-read : tie.Need-enum-known-read
+enum-known-read c = search needs
+
+enum-known-read-2 : tie.Need-enum-known-read-2
+enum-known-read-2 c = search needs
+
+put-fields-requires : tie.Need-put-fields-requires
+put-fields-requires c κs = search needs
+
+same-length : tie.Need-same-length
+same-length c = search needs
+
+returns-2 : tie.Need-returns-2
+returns-2 c =
+    let read = c .before .before .before .before .before in
+    row-refused _ _ _ (read .read-row .ensures) _ (read .before .before .if1 .left) (c .before .read .given .1)
+
+same-length-2 : tie.Need-same-length-2
+same-length-2 c = search needs
+
+same-length-3 : tie.Need-same-length-3
+same-length-3 c = search needs
+
+returns-3 : tie.Need-returns-3
+returns-3 c =
+    let stored = c .before .before in
+    let matched = stored .before .before .before in
+    let read = matched .before .before .before .before in
+    row-read _ _ _ (read .read-row .ensures) _ (read .before .before .if1 .left) (matched .read2 .given .1) (stored .put-fields .ensures)
+
+pub okubinrafo-read-row-spec : {M : Type 1} → statement M
+okubinrafo-read-row-spec =
+    tie.close
+    (tie.spec
+    row-fault-requires
+    returns
+    read-row-requires
+    enum-known-read
+    enum-known-read-2
+    put-fields-requires
+    same-length
+    returns-2
+    same-length-2
+    same-length-3
+    returns-3)

@@ -1,0 +1,4 @@
+pub mod Rooms
+pub mod Loads
+pub mod Rows
+pub mod Networks

@@ -1,0 +1,31 @@
+-- A load and a verdict as numbers: document 01, "Energy and load". Assumes nothing.
+use Prim.Native.Nat.{ℕ}
+use mathlib.Core.List.{List, [], _∷_, _++_, map}
+use Rattle.level.specs.declared.Level.{Level}
+use Rattle.level.specs.Level.{levelGiven, levelValue, verdictNumber}
+use Rattle.counted.specs.declared.Counts.{Counts}
+use Rattle.counted.specs.declared.Load.{Load}
+use Rattle.counted.specs.declared.Judged.{Judged}
+use Rattle.counted.specs.declared.Judged.the-variants.{Refused, Given}
+
+abbrev pub computedOf : Counts → ℕ
+computedOf c = c .computed
+
+abbrev pub missingOf : Counts → ℕ
+missingOf c = c .missing
+
+-- the 39 numbers of a load: total, 1 where a level is given, the level, V of the 18 groups, U of the 18 groups
+unfoldable pub numbersFrom : (total : ℕ) → Level → List Counts → List ℕ
+numbersFrom total level counts =
+    total ∷ levelGiven level ∷ levelValue level ∷ (map computedOf counts ++ map missingOf counts)
+
+abbrev pub loadNumbers : Load → List ℕ
+loadNumbers a = numbersFrom (a .total) (a .level) (a .counts)
+
+abbrev pub loadSize : ℕ
+loadSize = 39
+
+-- the number of a verdict: 1 over, 0 within
+abbrev pub verdictNumbers : Judged → List ℕ
+verdictNumbers (Refused n) = []
+verdictNumbers (Given v) = verdictNumber v ∷ []

@@ -1,0 +1,112 @@
+// The calls on a book, and a journal of them.
+ghost use Rattle.book.specs.Columns.{bookOf};
+ghost use Rattle.book.specs.Calls.{Call, Called};
+ghost use Rattle.journal.specs.Journal.{Replayed};
+
+// A movement goes into the book at its place, not computed.
+#[no_mangle]
+pub extern "C" fn okubinrafo_enter(
+    identities: &mut [u32],
+    groups: &mut [u32],
+    marks: &mut [u32],
+    levels: &mut [u32],
+    points: u32,
+    identity: u32,
+    ty: u32,
+    kind: u32,
+    time: u32,
+    mass: u32,
+) -> u32
+    ensures { λ r. ⌜ Called points (bookOf (now (identities .entry)) (now (groups .entry)) (now (marks .entry)) (now (levels .entry))) (Call.enter identity ty kind time mass) r (bookOf (now (identities .exit)) (now (groups .exit)) (now (marks .exit)) (now (levels .exit))) ⌝ }
+{
+    calls::enter(
+        identities,
+        groups,
+        marks,
+        levels,
+        points as usize,
+        identity,
+        ty,
+        kind,
+        time,
+        mass,
+    )
+}
+
+// All levels of a standing movement, replacing earlier ones.
+#[no_mangle]
+pub extern "C" fn okubinrafo_supply(
+    identities: &[u32],
+    groups: &[u32],
+    marks: &mut [u32],
+    levels: &mut [u32],
+    points: u32,
+    identity: u32,
+    given: &[u32],
+) -> u32
+    ensures { λ r. ⌜ Called points (bookOf (now (identities .entry)) (now (groups .entry)) (now (marks .entry)) (now (levels .entry))) (Call.supply identity (now (given .entry))) r (bookOf (now (identities .entry)) (now (groups .entry)) (now (marks .exit)) (now (levels .exit))) ⌝ }
+{
+    calls::supply(
+        identities,
+        groups,
+        marks,
+        levels,
+        points as usize,
+        identity,
+        given,
+    )
+}
+
+// A movement is no longer computed.
+#[no_mangle]
+pub extern "C" fn okubinrafo_take_back(
+    identities: &[u32],
+    groups: &[u32],
+    marks: &mut [u32],
+    levels: &mut [u32],
+    points: u32,
+    identity: u32,
+) -> u32
+    ensures { λ r. ⌜ Called points (bookOf (now (identities .entry)) (now (groups .entry)) (now (marks .entry)) (now (levels .entry))) (Call.takeBack identity) r (bookOf (now (identities .entry)) (now (groups .entry)) (now (marks .exit)) (now (levels .exit))) ⌝ }
+{
+    calls::take_back(identities, groups, marks, levels, points as usize, identity)
+}
+
+// A movement goes out of the book.
+#[no_mangle]
+pub extern "C" fn okubinrafo_withdraw(
+    identities: &mut [u32],
+    groups: &mut [u32],
+    marks: &mut [u32],
+    levels: &mut [u32],
+    points: u32,
+    identity: u32,
+) -> u32
+    ensures { λ r. ⌜ Called points (bookOf (now (identities .entry)) (now (groups .entry)) (now (marks .entry)) (now (levels .entry))) (Call.withdraw identity) r (bookOf (now (identities .exit)) (now (groups .exit)) (now (marks .exit)) (now (levels .exit))) ⌝ }
+{
+    calls::withdraw(identities, groups, marks, levels, points as usize, identity)
+}
+
+// A journal: calls one after the other as numbers, with an answer for each.
+#[no_mangle]
+pub extern "C" fn okubinrafo_replay(
+    identities: &mut [u32],
+    groups: &mut [u32],
+    marks: &mut [u32],
+    levels: &mut [u32],
+    points: u32,
+    journal: &[u32],
+    answers: &mut [u32],
+) -> u32
+    ensures { λ r. ⌜ Replayed points (bookOf (now (identities .entry)) (now (groups .entry)) (now (marks .entry)) (now (levels .entry))) (now (journal .entry)) (now (answers .entry)) r (bookOf (now (identities .exit)) (now (groups .exit)) (now (marks .exit)) (now (levels .exit))) (now (answers .exit)) ⌝ }
+{
+    journal::replay(
+        identities,
+        groups,
+        marks,
+        levels,
+        points as usize,
+        journal,
+        answers,
+    )
+}

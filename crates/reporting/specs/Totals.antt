@@ -1,0 +1,18 @@
+-- The movements computed and those without levels, of all groups: document 01, "Files and the report program".
+-- Assumes nothing.
+use Prim.Native.Nat.{ℕ}
+use mathlib.Core.List.{List}
+use lib.ListN.{getD}
+use Rattle.movement.specs.Limits.{groupCount}
+use Rattle.counted.specs.declared.Counts.{Counts}
+use Rattle.counted.specs.Factors.{sumTo}
+
+-- V and U of group g
+abbrev pub countsIn : List Counts → ℕ → Counts
+countsIn counts g = getD counts g (record { computed = 0; missing = 0 })
+
+unfoldable pub computedIn : List Counts → ℕ
+computedIn counts = sumTo (λ g. countsIn counts g .computed) groupCount
+
+unfoldable pub missingIn : List Counts → ℕ
+missingIn counts = sumTo (λ g. countsIn counts g .missing) groupCount
