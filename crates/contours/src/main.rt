@@ -41,8 +41,5 @@ fn contours_of(text: &[u8], n: usize, header: &mut [u32; 5], levels: &mut [u32])
         west: header[3],
         south: header[4],
     };
-    let points = frame.columns as usize * frame.rows as usize;
-    if points <= levels.len() {
-        print::all_levels(&levels[..points], frame);
-    }
+    print::network(levels, frame);
 }

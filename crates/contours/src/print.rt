@@ -11,20 +11,32 @@ ghost use lib.ListN.{length, take};
 ghost use Rattle.network.specs.Edges.{Checked};
 ghost use Rattle.wkt.specs.Parts.{Printable};
 
+// The lines of a network, whose levels stand at the front of the slice.
+pub fn network(levels: &[u32], frame: Frame) {
+    let points = frame.columns as usize * frame.rows as usize;
+    if points <= levels.len() {
+        all_levels(&levels[..points], frame);
+    }
+}
+
 // The header and a line for each level.
-pub fn all_levels(levels: &[u32], frame: Frame) {
+fn all_levels(levels: &[u32], frame: Frame) {
     io::write_all(STDOUT_FILENO, b"level;wkt\r\n");
     let count = os::arg_count();
     let mut i = 1;
     while i < count {
-        let v = level_at(i);
-        if network::contour_refusal(levels, frame, v) == 0 {
-            print_level(v);
-            io::write_all(STDOUT_FILENO, b";");
-            contours(levels, frame, v);
-            io::write_all(STDOUT_FILENO, b"\r\n");
-        }
+        one_level(levels, frame, level_at(i));
         i += 1;
+    }
+}
+
+// The line of a level; network and level are not refused, as was seen before.
+fn one_level(levels: &[u32], frame: Frame, v: u32) {
+    if network::contour_refusal(levels, frame, v) == 0 {
+        print_level(v);
+        io::write_all(STDOUT_FILENO, b";");
+        contours(levels, frame, v);
+        io::write_all(STDOUT_FILENO, b"\r\n");
     }
 }
 
