@@ -59,7 +59,7 @@ fn to_front(bytes: &mut [u8], from: usize, n: usize)
 }
 
 // Reads on behind the bytes that are left, which move to the front.
-pub fn read_on(bytes: &mut [u8], feed: Feed) -> Feed
+pub(crate) fn read_on(bytes: &mut [u8], feed: Feed) -> Feed
     requires { ⌜ Fed feed (length (now bytes)) ⌝ }
     ensures { λ r. ⌜ Fed r (length (now (bytes .entry))) ⌝ }
 {
