@@ -1,9 +1,93 @@
--- What the reading of the register keeps.
+-- What the reading of the register promises. No contract of C's `read` says which bytes come: they are what the buffer holds behind those that waited, and `got` and `all` name them.
 -- Assumes nothing.
-use Prim.Native.Nat.{ℕ, _≤_}
-use Rattle.report.specs.declared.feed.Feed.{Feed}
+use Prim.Native.Nat.{ℕ, _-_, _≤_, _<_}
+use mathlib.Core.Path.{_≡_}
+use mathlib.Core.Bool.{true}
+use mathlib.Core.List.{List, [], _++_}
+use lib.ListN.{length, take, drop, replicate}
+use lib.IntN.{ℤ, pos}
+use Rattle.io.specs.Counts.{clamped}
+use Rattle.book.specs.Columns.{Book, bookOf, sound}
+use Rattle.book.specs.History.{emptyBook}
+use Rattle.reporting.specs.Stream.{longestLine}
+use Rattle.reporting.specs.Reading.{Reading, readingAt, closing, registered, readOn, Onward, Unended, PieceTaken, LastTaken}
+use Rattle.report.specs.declared.feed.Turn.{Turn}
 
--- the bytes still to be cut into lines lie within the buffer
-pub record Fed (f : Feed) (size : ℕ) : Type 0 where
-  pub start : f .at ≤ f .len
-  pub end : f .len ≤ size
+-- the states of a reading: to be read on, read to its end, refused before it, and failed
+abbrev pub reading : ℕ
+reading = 0
+
+abbrev pub whole : ℕ
+whole = 1
+
+abbrev pub stopped : ℕ
+stopped = 2
+
+-- the bytes that wait for their line's end stand in front of the buffer, and there is room behind them
+pub record Waiting (bytes : List ℕ) (left line : ℕ) : Type 0 where
+  pub unended : Unended (take left bytes)
+  pub short : left ≤ longestLine
+  pub room : longestLine < length bytes
+  pub first : 1 ≤ line
+
+-- a piece of the register, and its end
+pub record Pieced (p : ℕ) (s : Reading) (bytes : List ℕ) (t : Turn) (b′ : Book) (bytes′ : List ℕ) : Type 0 where
+  pub taken : PieceTaken p s bytes (readingAt (t .refusal) (t .line) b′) (take (t .left) bytes′)
+  pub more : t .state ≡ reading → t .refusal ≡ 0
+  pub stops : t .state ≡ stopped → t .refusal ≡ 0 → ⊥
+  pub ends : t .state ≡ whole → ⊥
+
+pub record Lasted (p : ℕ) (s : Reading) (bytes : List ℕ) (t : Turn) (b′ : Book) : Type 0 where
+  pub taken : LastTaken p s bytes (readingAt (t .refusal) (t .line) b′)
+  pub ends : t .state ≡ whole
+
+-- the bytes that a read answered, behind those that waited
+abbrev pub cameOf : ℤ → List ℕ → ℕ → List ℕ
+cameOf answer bytes left = take (clamped answer (length bytes - left)) (drop left bytes)
+
+-- what one read gave: no existential here, the buffer and the read's answer determine it
+pub record Answered (p : ℕ) (s : Reading) (bytes : List ℕ) (left : ℕ) (answer : ℤ) (t : Turn) (b′ : Book) (bytes′ : List ℕ) : Type 0 where
+  pub kept : sound p b′ ≡ true
+  pub more : t .state ≡ reading → Onward p s (take left bytes ++ cameOf answer bytes left) (readingAt 0 (t .line) b′) (take (t .left) bytes′)
+  pub waits : t .state ≡ reading → Waiting bytes′ (t .left) (t .line)
+  pub ends : t .state ≡ whole → (answer ≡ pos 0) × (readingAt (t .refusal) (t .line) b′ ≡ closing (readOn p s (take left bytes)))
+  pub stops : t .state ≡ stopped → (u : List ℕ) → readingAt (t .refusal) (t .line) b′ ≡ closing (readOn p s (take left bytes ++ cameOf answer bytes left ++ u))
+
+-- one turn, from a reading s and the bytes that waited, on to a reading at b′
+pub record Turned (p : ℕ) (s : Reading) (waited : List ℕ) (t : Turn) (b′ : Book) (bytes′ : List ℕ) : Type 0 where
+  pub got : List ℕ
+  pub kept : sound p b′ ≡ true
+  pub more : t .state ≡ reading → Onward p s (waited ++ got) (readingAt 0 (t .line) b′) (take (t .left) bytes′)
+  pub waits : t .state ≡ reading → Waiting bytes′ (t .left) (t .line)
+  pub ends : t .state ≡ whole → (got ≡ []) × (readingAt (t .refusal) (t .line) b′ ≡ closing (readOn p s waited))
+  pub stops : t .state ≡ stopped → (u : List ℕ) → readingAt (t .refusal) (t .line) b′ ≡ closing (readOn p s (waited ++ got ++ u))
+
+-- a register: `all` are the bytes that came, in their order
+pub record Registered (p : ℕ) (b : Book) (t : Turn) (b′ : Book) : Type 0 where
+  pub all : List ℕ
+  pub kept : sound p b′ ≡ true
+  pub ends : t .state ≡ whole → readingAt (t .refusal) (t .line) b′ ≡ registered p b all
+  pub stops : t .state ≡ stopped → (u : List ℕ) → readingAt (t .refusal) (t .line) b′ ≡ registered p b (all ++ u)
+
+-- the book's rows
+abbrev pub bookRows : ℕ
+bookRows = 2000
+
+-- what is reported: the book that a register gives, read whole, and refused nowhere
+pub record Reported (p : ℕ) (b : Book) : Type 0 where
+  pub all : List ℕ
+  pub line : ℕ
+  pub is : readingAt 0 line b ≡ registered p (emptyBook p bookRows) all
+
+-- what is refused: the refusal and the line that a register gives, with some book
+pub record Refused (p refusal line : ℕ) : Type 0 where
+  pub all : List ℕ
+  pub book : Book
+  pub is : readingAt refusal line book ≡ registered p (emptyBook p bookRows) all
+
+-- columns with nothing in them, and room for the levels of eight points
+pub record Cleared (ids groups marks levels : List ℕ) : Type 0 where
+  pub ids-none : ids ≡ replicate bookRows 0
+  pub groups-none : groups ≡ replicate bookRows 0
+  pub marks-none : marks ≡ replicate bookRows 0
+  pub levels-none : levels ≡ replicate 16000 0

@@ -1,27 +1,37 @@
 // The bytes as they come: limits.csv whole, and the register through a buffer of fixed size.
+use crate::say;
 use libc::STDIN_FILENO;
+use reporting::feeding::Arrived;
+use reporting::feeding::take_last;
+use reporting::feeding::take_piece;
+use reporting::feeding::what_came;
 ghost use mathlib.Core.Path.{_≡_};
-ghost use Prim.Native.Nat.{_+_, _≤_};
-ghost use lib.ListN.{length};
+ghost use mathlib.Core.Bool.{true};
+ghost use Prim.Native.Nat.{_+_, _^_, _≤_, _<_};
+ghost use lib.ListN.{length, take};
 ghost use Rattle.io.specs.Counts.{Counts};
-ghost use Rattle.report.specs.Feeding.{Fed};
+ghost use Rattle.book.specs.Columns.{bookOf, sound};
+ghost use Rattle.reporting.specs.Reading.{readingAt, Unended};
+ghost use Rattle.report.specs.Feeding.{Waiting, Answered, Turned, Pieced, Lasted};
 
-// Where the reading stands: the bytes from `at` to `len` of the buffer are still to be cut into lines, `line` is the number of the next
-// line, `ended` says that no byte follows, and `state` whether to read on.
-pub struct Feed {
+// Where the reading stands: `left` bytes wait in front of the buffer for the end of line `line`, and `state` says whether to read on. A line that is
+// refused stands at `at`.
+pub struct Turn {
     pub at: usize,
-    pub len: usize,
+    pub left: usize,
     pub line: u64,
-    pub ended: bool,
+    pub refusal: u32,
     pub state: u32,
 }
 
-// The states of a reading.
+// The states of a reading: to be read on, read to its end, refused before it, and failed.
 pub const READING: u32 = 0;
 
 pub const WHOLE: u32 = 1;
 
 pub const STOPPED: u32 = 2;
+
+pub const FAILED: u32 = 3;
 
 // Puts limits.csv at the start of the buffer and answers its length; one that can't be opened or read counts as empty, and past the
 // buffer's 4,096 bytes lies a third line, which is refused as such.
@@ -34,54 +44,135 @@ pub fn limits_text(text: &mut [u8]) -> usize
     n
 }
 
-// The same feed, in another state.
-pub fn in_state(feed: Feed, state: u32) -> Feed
-    ensures { λ r. ⌜ (r .at ≡ feed .at) × (r .len ≡ feed .len) ⌝ }
+// The input can't be read on. That is never taken for the end, or flights would drop out unseen.
+pub(crate) fn failed(line: u64) -> Turn
+    ensures { λ r. ⌜ r .state ≡ 3 ⌝ }
 {
-    Feed {
-        at: feed.at,
-        len: feed.len,
-        line: feed.line,
-        ended: feed.ended,
-        state,
+    say::refused(16, line);
+    say::of_read_error(line);
+    Turn {
+        at: 0,
+        left: 0,
+        line,
+        refusal: 16,
+        state: FAILED,
     }
 }
 
-// Moves `n` bytes from `from` on to the front.
-fn to_front(bytes: &mut [u8], from: usize, n: usize)
-    requires { ⌜ from + n ≤ length (now bytes) ⌝ }
+// The lines of a piece.
+fn piece(
+    ids: &mut [u32],
+    groups: &mut [u32],
+    marks: &mut [u32],
+    levels: &mut [u32],
+    points: usize,
+    bytes: &mut [u8],
+    len: usize,
+    line: u64,
+) -> Turn
+    requires { ⌜ sound points (bookOf (now ids) (now groups) (now marks) (now levels)) ≡ true ⌝ }
+    requires { ⌜ len ≤ length (now bytes) ⌝ }
+    requires { ⌜ line + len < 2 ^ 64 ⌝ }
+    ensures { λ r. ⌜ Pieced points (readingAt 0 line (bookOf (now (ids .entry)) (now (groups .entry)) (now (marks .entry)) (now (levels .entry)))) (take len (now (bytes .entry))) r (bookOf (now (ids .exit)) (now (groups .exit)) (now (marks .exit)) (now (levels .exit))) (now (bytes .exit)) ⌝ }
 {
-    let mut i = 0;
-    while i < n {
-        bytes[i] = bytes[from + i];
-        i += 1;
-    }
-}
-
-// Reads on behind the bytes that are left, which move to the front.
-pub(crate) fn read_on(bytes: &mut [u8], feed: Feed) -> Feed
-    requires { ⌜ Fed feed (length (now bytes)) ⌝ }
-    ensures { λ r. ⌜ Fed r (length (now (bytes .entry))) ⌝ }
-{
-    let at = feed.at;
-    let left = feed.len - at;
-    to_front(bytes, at, left);
-    let got = libc::read(STDIN_FILENO, &mut bytes[left..]);
-    if got < 0 {
-        return Feed {
-            at: 0,
-            len: left,
-            line: feed.line,
-            ended: false,
+    let p = take_piece(ids, groups, marks, levels, points, bytes, len, line);
+    let refusal = p.refusal;
+    if refusal != 0 {
+        return Turn {
+            at: p.at,
+            left: p.left,
+            line: p.line,
+            refusal,
             state: STOPPED,
         };
     }
-    let n = io::count(got, &bytes[left..]);
-    Feed {
-        at: 0,
-        len: left + n,
-        line: feed.line,
-        ended: n == 0,
+    Turn {
+        at: p.at,
+        left: p.left,
+        line: p.line,
+        refusal,
         state: READING,
     }
+}
+
+// The end of the input.
+fn last(
+    ids: &mut [u32],
+    groups: &mut [u32],
+    marks: &mut [u32],
+    levels: &mut [u32],
+    points: usize,
+    bytes: &[u8],
+    line: u64,
+) -> Turn
+    requires { ⌜ sound points (bookOf (now ids) (now groups) (now marks) (now levels)) ≡ true ⌝ }
+    requires { ⌜ Unended (now bytes) ⌝ }
+    requires { ⌜ 1 ≤ line ⌝ }
+    requires { ⌜ line + length (now bytes) < 2 ^ 64 ⌝ }
+    ensures { λ r. ⌜ Lasted points (readingAt 0 line (bookOf (now (ids .entry)) (now (groups .entry)) (now (marks .entry)) (now (levels .entry)))) (now (bytes .entry)) r (bookOf (now (ids .exit)) (now (groups .exit)) (now (marks .exit)) (now (levels .exit))) ⌝ }
+{
+    let f = take_last(ids, groups, marks, levels, points, bytes, line);
+    Turn {
+        at: 0,
+        left: bytes.len(),
+        line: f.line,
+        refusal: f.refusal,
+        state: WHOLE,
+    }
+}
+
+// What a read behind the bytes that wait gave.
+fn answered(
+    ids: &mut [u32],
+    groups: &mut [u32],
+    marks: &mut [u32],
+    levels: &mut [u32],
+    points: usize,
+    bytes: &mut [u8],
+    left: usize,
+    line: u64,
+    answer: isize,
+) -> Turn
+    requires { ⌜ sound points (bookOf (now ids) (now groups) (now marks) (now levels)) ≡ true ⌝ }
+    requires { ⌜ Waiting (now bytes) left line ⌝ }
+    requires { ⌜ line + length (now bytes) < 2 ^ 64 ⌝ }
+    ensures { λ r. ⌜ Answered points (readingAt 0 line (bookOf (now (ids .entry)) (now (groups .entry)) (now (marks .entry)) (now (levels .entry)))) (now (bytes .entry)) left answer r (bookOf (now (ids .exit)) (now (groups .exit)) (now (marks .exit)) (now (levels .exit))) (now (bytes .exit)) ⌝ }
+{
+    match what_came(answer, &bytes[left..]) {
+        Arrived::Bytes(n) => piece(ids, groups, marks, levels, points, bytes, left + n, line),
+        Arrived::End => last(ids, groups, marks, levels, points, &bytes[..left], line),
+        Arrived::Failed => failed(line),
+    }
+}
+
+// One turn: bytes are read behind those that wait, and the lines that they end are taken.
+pub(crate) fn read_on(
+    ids: &mut [u32],
+    groups: &mut [u32],
+    marks: &mut [u32],
+    levels: &mut [u32],
+    points: usize,
+    bytes: &mut [u8],
+    left: usize,
+    line: u64,
+) -> Turn
+    requires { ⌜ sound points (bookOf (now ids) (now groups) (now marks) (now levels)) ≡ true ⌝ }
+    requires { ⌜ Waiting (now bytes) left line ⌝ }
+    ensures { λ r. ⌜ Turned points (readingAt 0 line (bookOf (now (ids .entry)) (now (groups .entry)) (now (marks .entry)) (now (levels .entry)))) (take left (now (bytes .entry))) r (bookOf (now (ids .exit)) (now (groups .exit)) (now (marks .exit)) (now (levels .exit))) (now (bytes .exit)) ⌝ }
+{
+    if u64::MAX - line < bytes.len() as u64 {
+        return failed(line);
+    }
+    let answer = libc::read(STDIN_FILENO, &mut bytes[left..]);
+    answered(
+        ids,
+        groups,
+        marks,
+        levels,
+        points,
+        bytes,
+        left,
+        line,
+        answer,
+    )
 }

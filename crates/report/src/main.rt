@@ -4,21 +4,20 @@ mod feed;
 mod print;
 mod say;
 
-use feed::Feed;
 use feed::READING;
 use feed::STOPPED;
+use feed::Turn;
 use feed::WHOLE;
 use register::limits::Limits;
-use reporting::Cut;
-use reporting::core::cut;
-use reporting::core::take_row;
-use text::number::Number;
+use text::core::line_end;
 ghost use mathlib.Core.Path.{_≡_};
 ghost use mathlib.Core.Bool.{true};
-ghost use Prim.Native.Nat.{_≤_};
+ghost use Prim.Native.Nat.{_<_};
 ghost use lib.ListN.{length};
 ghost use Rattle.book.specs.Columns.{bookOf, sound};
-ghost use Rattle.report.specs.Feeding.{Fed};
+ghost use Rattle.book.specs.History.{emptyBook};
+ghost use Rattle.reporting.specs.Stream.{longestLine};
+ghost use Rattle.report.specs.Feeding.{bookRows, Registered, Refused, Cleared};
 
 fn main() {
     let mut text = io::buffer();
@@ -43,7 +42,9 @@ fn report(
     marks: &mut [u32],
     levels: &mut [u32],
     limits: Limits,
-) {
+)
+    requires { ⌜ Cleared (now ids) (now groups) (now marks) (now levels) ⌝ }
+{
     let points = limits.points as usize;
     let room = 2000 * points;
     if room <= levels.len() {
@@ -59,153 +60,64 @@ fn report_in(
     levels: &mut [u32],
     points: usize,
     limits: Limits,
-) {
+)
+    requires { ⌜ bookOf (now ids) (now groups) (now marks) (now levels) ≡ emptyBook points bookRows ⌝ }
+{
     if !book::soundness::is_sound(ids, groups, marks, levels, points) {
         say::refused(9, 0);
         return;
     }
     let mut bytes = io::large_buffer();
-    if read_register(ids, groups, marks, levels, points, &mut bytes) {
-        print::report(ids, groups, marks, levels, points, limits);
-    }
-}
-
-// Reads the register into the book, and answers whether it was read to its end.
-fn read_register(
-    ids: &mut [u32],
-    groups: &mut [u32],
-    marks: &mut [u32],
-    levels: &mut [u32],
-    points: usize,
-    bytes: &mut [u8],
-) -> bool
-    requires { ⌜ sound points (bookOf (now ids) (now groups) (now marks) (now levels)) ≡ true ⌝ }
-{
-    let mut feed = Feed {
-        at: 0,
-        len: 0,
-        line: 1,
-        ended: false,
-        state: READING,
-    };
-    let mut turns = u64::MAX;
-    while turns > 0 {
-        turns -= 1;
-        feed = step(ids, groups, marks, levels, points, bytes, feed);
-        let state = feed.state;
-        if state == WHOLE {
-            return true;
+    let read = read_register(ids, groups, marks, levels, points, &mut bytes);
+    let state = read.state;
+    let refusal = read.refusal;
+    if state == WHOLE {
+        if refusal == 0 {
+            print::report(ids, groups, marks, levels, points, limits);
+            return;
         }
-        if state == STOPPED {
-            return false;
+        refuse(&bytes, read, points);
+        return;
+    }
+    if state == STOPPED {
+        refuse(&bytes, read, points);
+    }
+}
+
+// The register is refused.
+fn refuse(bytes: &[u8], read: Turn, points: usize)
+    requires { ⌜ Refused points (read .refusal) (read .line) ⌝ }
+{
+    say::refused(read.refusal, read.line);
+    explain(bytes, read, points);
+}
+
+// The sentence on a line that is refused.
+fn explain(bytes: &[u8], read: Turn, points: usize) {
+    let at = read.at;
+    let left = read.left;
+    if bytes.len() < at {
+        return;
+    }
+    if bytes.len() - at < left {
+        return;
+    }
+    explain_line(&bytes[at..at + left], read.refusal, read.line, points);
+}
+
+fn explain_line(rest: &[u8], refusal: u32, number: u64, points: usize) {
+    let end = line_end(rest, 0);
+    if rest.len() - end < 2 {
+        if 86 < rest.len() {
+            say::of_long_line(number, rest);
+            return;
         }
     }
-    false
-}
-
-// One step: a line is taken, or more bytes are read.
-fn step(
-    ids: &mut [u32],
-    groups: &mut [u32],
-    marks: &mut [u32],
-    levels: &mut [u32],
-    points: usize,
-    bytes: &mut [u8],
-    feed: Feed,
-) -> Feed
-    requires { ⌜ sound points (bookOf (now ids) (now groups) (now marks) (now levels)) ≡ true ⌝ }
-    requires { ⌜ Fed feed (length (now bytes)) ⌝ }
-    ensures { λ r. ⌜ sound points (bookOf (now (ids .exit)) (now (groups .exit)) (now (marks .exit)) (now (levels .exit))) ≡ true ⌝ }
-    ensures { λ r. ⌜ Fed r (length (now (bytes .exit))) ⌝ }
-{
-    let at = feed.at;
-    let len = feed.len;
-    match cut(&bytes[..len], at, feed.ended) {
-        Cut::Line(end, next) => {
-            if take_line(
-                ids,
-                groups,
-                marks,
-                levels,
-                points,
-                &bytes[at..end],
-                feed.line,
-            ) {
-                return past(feed, next);
-            }
-            feed::in_state(feed, STOPPED)
-        }
-        Cut::TooLong => {
-            say::refused(16, feed.line);
-            say::of_long_line(feed.line, &bytes[at..len]);
-            feed::in_state(feed, STOPPED)
-        }
-        Cut::More => more(bytes, feed),
-        Cut::Done => last(feed),
-    }
-}
-
-// The feed past a line that was taken.
-fn past(feed: Feed, next: usize) -> Feed
-    ensures { λ r. ⌜ (r .at ≡ next) × (r .len ≡ feed .len) ⌝ }
-{
-    Feed {
-        at: next,
-        len: feed.len,
-        line: std::num::wrapping_add_u64(feed.line, 1),
-        ended: feed.ended,
-        state: READING,
-    }
-}
-
-// More bytes are read. A read that fails is never taken for the end, or flights would drop out unseen.
-fn more(bytes: &mut [u8], feed: Feed) -> Feed
-    requires { ⌜ Fed feed (length (now bytes)) ⌝ }
-    ensures { λ r. ⌜ Fed r (length (now (bytes .exit))) ⌝ }
-{
-    let next = feed::read_on(bytes, feed);
-    if next.state == STOPPED {
-        say::refused(16, next.line);
-        say::of_read_error(next.line);
-    }
-    next
-}
-
-// No line is left: the register was read to its end, if it had a header at all.
-fn last(feed: Feed) -> Feed
-    ensures { λ r. ⌜ (r .at ≡ feed .at) × (r .len ≡ feed .len) ⌝ }
-{
-    if feed.line == 1 {
-        say::refused(16, 1);
-        say::of_header(&[]);
-        return feed::in_state(feed, STOPPED);
-    }
-    feed::in_state(feed, WHOLE)
-}
-
-// Takes a line, the header first and then rows, and answers whether to go on.
-fn take_line(
-    ids: &mut [u32],
-    groups: &mut [u32],
-    marks: &mut [u32],
-    levels: &mut [u32],
-    points: usize,
-    line: &[u8],
-    number: u64,
-) -> bool
-    requires { ⌜ sound points (bookOf (now ids) (now groups) (now marks) (now levels)) ≡ true ⌝ }
-    ensures { λ r. ⌜ sound points (bookOf (now (ids .exit)) (now (groups .exit)) (now (marks .exit)) (now (levels .exit))) ≡ true ⌝ }
-{
     if number == 1 {
-        return is_header(line, points);
+        say::of_header(&rest[..end]);
+        return;
     }
-    let refused = take_row(ids, groups, marks, levels, points, line).number();
-    if refused == 0 {
-        return true;
-    }
-    say::refused(refused, number);
-    say_of_row(refused, number, line, points);
-    false
+    say_of_row(refusal, number, &rest[..end], points);
 }
 
 // The sentence on a row that is refused, with its identity.
@@ -215,14 +127,31 @@ fn say_of_row(refused: u32, number: u64, line: &[u8], points: usize) {
     say::of_row(refused, number, line, fields.identity);
 }
 
-// Whether the first line is the header of a register with as many levels as there are limits.
-fn is_header(line: &[u8], points: usize) -> bool {
-    if let Number::Got(n) = register::header::register_points(line) {
-        if n as usize == points {
-            return true;
+// Reads the register into the book.
+fn read_register(
+    ids: &mut [u32],
+    groups: &mut [u32],
+    marks: &mut [u32],
+    levels: &mut [u32],
+    points: usize,
+    bytes: &mut [u8],
+) -> Turn
+    requires { ⌜ sound points (bookOf (now ids) (now groups) (now marks) (now levels)) ≡ true ⌝ }
+    requires { ⌜ longestLine < length (now bytes) ⌝ }
+    ensures { λ r. ⌜ Registered points (bookOf (now (ids .entry)) (now (groups .entry)) (now (marks .entry)) (now (levels .entry))) r (bookOf (now (ids .exit)) (now (groups .exit)) (now (marks .exit)) (now (levels .exit))) ⌝ }
+{
+    let mut left = 0;
+    let mut line = 1;
+    let mut turns = u64::MAX;
+    while turns > 0 {
+        turns -= 1;
+        let turn = feed::read_on(ids, groups, marks, levels, points, bytes, left, line);
+        let state = turn.state;
+        if state != READING {
+            return turn;
         }
+        left = turn.left;
+        line = turn.line;
     }
-    say::refused(16, 1);
-    say::of_header(line);
-    false
+    feed::failed(line)
 }

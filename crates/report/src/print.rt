@@ -6,16 +6,20 @@ use level::Verdict;
 use libc::STDOUT_FILENO;
 use register::limits::Limits;
 use reporting::totals::added_up;
+ghost use Rattle.book.specs.Columns.{bookOf};
+ghost use Rattle.report.specs.Feeding.{Reported};
 
 // The whole report. Rule 10 is found before anything is printed, and is the same at every point.
-pub fn report(
+pub(crate) fn report(
     ids: &[u32],
     groups: &[u32],
     marks: &[u32],
     levels: &[u32],
     points: usize,
     limits: Limits,
-) {
+)
+    requires { ⌜ Reported points (bookOf (now ids) (now groups) (now marks) (now levels)) ⌝ }
+{
     let days = limits.days;
     let first = load::load_at(ids, groups, marks, levels, points, 0, days);
     let refused = first.refused;

@@ -1,2 +1,4 @@
+pub mod Bookings
 pub mod Intakes
+pub mod Readings
 pub mod Streams

@@ -1,3 +1,5 @@
+pub mod Booking
 pub mod Intake
+pub mod Reading
 pub mod Stream
 pub mod Totals

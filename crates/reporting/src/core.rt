@@ -1,49 +1,12 @@
-// The steps of the report over a book that is known to be sound: a line out of the bytes read so far, and a row into the book.
-use crate::Cut;
+// A row into a book that is known to be sound.
 use crate::Taken;
 use register::row::read_layout;
-use text::core::line_end;
 ghost use mathlib.Core.Path.{_≡_};
 ghost use mathlib.Core.Bool.{true};
 ghost use Prim.Native.Nat.{_≤_};
-ghost use lib.ListN.{length, drop};
 ghost use Rattle.book.specs.Columns.{bookOf, sound};
 ghost use Rattle.movement.specs.Limits.{maxPoints};
-ghost use Rattle.reporting.specs.Stream.{cutOf, lastCut};
 ghost use Rattle.reporting.specs.Intake.{RowTaken, LevelsTaken};
-
-// The longest line of a register on its layout, with its CRLF.
-const LONGEST_LINE: usize = 86;
-
-// What stands next in the bytes read so far, from `at` on; `ended`: no byte follows them.
-pub fn cut(bytes: &[u8], at: usize, ended: bool) -> Cut
-    requires { ⌜ at ≤ length (now bytes) ⌝ }
-    ensures { λ r. ⌜ r ≡ cutOf (drop at (now (bytes .entry))) at ended ⌝ }
-{
-    let end = line_end(bytes, at);
-    if 2 <= bytes.len() - end {
-        return Cut::Line(end, end + 2);
-    }
-    last_cut(bytes, at, ended)
-}
-
-// The same where no line end follows.
-fn last_cut(bytes: &[u8], at: usize, ended: bool) -> Cut
-    requires { ⌜ at ≤ length (now bytes) ⌝ }
-    ensures { λ r. ⌜ r ≡ lastCut (drop at (now (bytes .entry))) at ended ⌝ }
-{
-    let n = bytes.len();
-    if ended {
-        if n == at {
-            return Cut::Done;
-        }
-        return Cut::Line(n, n);
-    }
-    if LONGEST_LINE < n - at {
-        return Cut::TooLong;
-    }
-    Cut::More
-}
 
 // A row of a register into the book: 16, then *enter*, then *supply* where its levels are not blank.
 pub fn take_row(

@@ -4,6 +4,7 @@ ghost use mathlib.Core.Path.{_≡_};
 ghost use Rattle.reporting.specs.Intake.{takenNumber};
 
 pub mod core;
+pub mod feeding;
 pub mod totals;
 
 // What a register's row did to the book.
@@ -24,13 +25,4 @@ impl Taken {
             Taken::Refused(n) => n,
         }
     }
-}
-
-// What stands next in the bytes read so far: a line that ends before `end`, with the next one at `next`; a line that is too long for any
-// layout; a line whose end has still to be read; or nothing more.
-pub enum Cut {
-    Line(usize, usize),
-    TooLong,
-    More,
-    Done,
 }

@@ -7,7 +7,6 @@ use native.Mathlib.Omega.{arith}
 use lib.ListN.{length}
 use borrow.Author.Needs.{needs}
 use Rattle.book.specs.Columns.{bookOf, sound}
-use Rattle.report.specs.Feeding.{Fed}
 use Rattle.report.proofs.print.report.Statement.{statement}
 use Rattle.report.proofs.print.report.Tie as tie
 use Rattle.report.proofs.print.report.Reads as reads
