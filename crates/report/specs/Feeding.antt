@@ -4,13 +4,13 @@ use Prim.Native.Nat.{ℕ, _-_, _≤_, _<_}
 use mathlib.Core.Path.{_≡_}
 use mathlib.Core.Bool.{true}
 use mathlib.Core.List.{List, [], _++_}
-use lib.ListN.{length, take, drop, replicate}
+use lib.ListN.{length, take, drop}
 use lib.IntN.{ℤ, pos}
 use Rattle.io.specs.Counts.{clamped}
-use Rattle.book.specs.Columns.{Book, bookOf, sound}
-use Rattle.book.specs.History.{emptyBook}
+use Rattle.book.specs.Columns.{Book, sound}
 use Rattle.reporting.specs.Stream.{longestLine}
 use Rattle.reporting.specs.Reading.{Reading, readingAt, closing, registered, readOn, Onward, Unended, PieceTaken, LastTaken}
+use Rattle.report_rules.specs.Report.{endless}
 use Rattle.report.specs.declared.feed.Turn.{Turn}
 
 -- the states of a reading: to be read on, read to its end, refused before it, and failed
@@ -22,6 +22,16 @@ whole = 1
 
 abbrev pub stopped : ℕ
 stopped = 2
+
+abbrev pub failed : ℕ
+failed = 3
+
+-- a read that failed in a line: 16 at that line
+abbrev pub failedAt : ℕ → Turn
+failedAt line = record { at = 0; left = 0; line = line; refusal = 16; state = failed }
+
+abbrev pub offIn : Reading → Reading
+offIn s = record { refusal = 16; line = s .line; book = s .book }
 
 -- the bytes that wait for their line's end stand in front of the buffer, and there is room behind them
 pub record Waiting (bytes : List ℕ) (left line : ℕ) : Type 0 where
@@ -36,6 +46,7 @@ pub record Pieced (p : ℕ) (s : Reading) (bytes : List ℕ) (t : Turn) (b′ : 
   pub more : t .state ≡ reading → t .refusal ≡ 0
   pub stops : t .state ≡ stopped → t .refusal ≡ 0 → ⊥
   pub ends : t .state ≡ whole → ⊥
+  pub states : t .state ≤ stopped
 
 pub record Lasted (p : ℕ) (s : Reading) (bytes : List ℕ) (t : Turn) (b′ : Book) : Type 0 where
   pub taken : LastTaken p s bytes (readingAt (t .refusal) (t .line) b′)
@@ -52,6 +63,9 @@ pub record Answered (p : ℕ) (s : Reading) (bytes : List ℕ) (left : ℕ) (ans
   pub waits : t .state ≡ reading → Waiting bytes′ (t .left) (t .line)
   pub ends : t .state ≡ whole → (answer ≡ pos 0) × (readingAt (t .refusal) (t .line) b′ ≡ closing (readOn p s (take left bytes)))
   pub stops : t .state ≡ stopped → (u : List ℕ) → readingAt (t .refusal) (t .line) b′ ≡ closing (readOn p s (take left bytes ++ cameOf answer bytes left ++ u))
+  pub fails : t .state ≡ failed → (cameOf answer bytes left ≡ []) × (readingAt (t .refusal) (t .line) b′ ≡ offIn s)
+  pub refused : t .state ≡ stopped → t .refusal ≡ 0 → ⊥
+  pub states : t .state ≤ failed
 
 -- one turn, from a reading s and the bytes that waited, on to a reading at b′
 pub record Turned (p : ℕ) (s : Reading) (waited : List ℕ) (t : Turn) (b′ : Book) (bytes′ : List ℕ) : Type 0 where
@@ -61,6 +75,9 @@ pub record Turned (p : ℕ) (s : Reading) (waited : List ℕ) (t : Turn) (b′ :
   pub waits : t .state ≡ reading → Waiting bytes′ (t .left) (t .line)
   pub ends : t .state ≡ whole → (got ≡ []) × (readingAt (t .refusal) (t .line) b′ ≡ closing (readOn p s waited))
   pub stops : t .state ≡ stopped → (u : List ℕ) → readingAt (t .refusal) (t .line) b′ ≡ closing (readOn p s (waited ++ got ++ u))
+  pub fails : t .state ≡ failed → (got ≡ []) × (readingAt (t .refusal) (t .line) b′ ≡ offIn s)
+  pub refused : t .state ≡ stopped → t .refusal ≡ 0 → ⊥
+  pub states : t .state ≤ failed
 
 -- a register: `all` are the bytes that came, in their order
 pub record Registered (p : ℕ) (b : Book) (t : Turn) (b′ : Book) : Type 0 where
@@ -68,26 +85,7 @@ pub record Registered (p : ℕ) (b : Book) (t : Turn) (b′ : Book) : Type 0 whe
   pub kept : sound p b′ ≡ true
   pub ends : t .state ≡ whole → readingAt (t .refusal) (t .line) b′ ≡ registered p b all
   pub stops : t .state ≡ stopped → (u : List ℕ) → readingAt (t .refusal) (t .line) b′ ≡ registered p b (all ++ u)
-
--- the book's rows
-abbrev pub bookRows : ℕ
-bookRows = 2000
-
--- what is reported: the book that a register gives, read whole, and refused nowhere
-pub record Reported (p : ℕ) (b : Book) : Type 0 where
-  pub all : List ℕ
-  pub line : ℕ
-  pub is : readingAt 0 line b ≡ registered p (emptyBook p bookRows) all
-
--- what is refused: the refusal and the line that a register gives, with some book
-pub record Refused (p refusal line : ℕ) : Type 0 where
-  pub all : List ℕ
-  pub book : Book
-  pub is : readingAt refusal line book ≡ registered p (emptyBook p bookRows) all
-
--- columns with nothing in them, and room for the levels of eight points
-pub record Cleared (ids groups marks levels : List ℕ) : Type 0 where
-  pub ids-none : ids ≡ replicate bookRows 0
-  pub groups-none : groups ≡ replicate bookRows 0
-  pub marks-none : marks ≡ replicate bookRows 0
-  pub levels-none : levels ≡ replicate 16000 0
+  pub fails : t .state ≡ failed → readingAt (t .refusal) (t .line) b′ ≡ registered p b (all ++ endless)
+  -- read to its end, refused before it, or failed; and the last two are refused
+  pub states : (t .state ≡ whole → ⊥) → (t .state ≡ stopped → ⊥) → t .state ≡ failed
+  pub refused : (t .state ≡ whole → ⊥) → t .refusal ≡ 0 → ⊥

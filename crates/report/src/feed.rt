@@ -1,18 +1,18 @@
 // The bytes as they come: limits.csv whole, and the register through a buffer of fixed size.
-use crate::say;
 use libc::STDIN_FILENO;
-use reporting::feeding::Arrived;
-use reporting::feeding::take_last;
-use reporting::feeding::take_piece;
-use reporting::feeding::what_came;
+use reporting::core::feeding::Arrived;
+use reporting::core::feeding::take_last;
+use reporting::core::feeding::take_piece;
+use reporting::core::feeding::what_came;
 ghost use mathlib.Core.Path.{_≡_};
 ghost use mathlib.Core.Bool.{true};
 ghost use Prim.Native.Nat.{_+_, _^_, _≤_, _<_};
 ghost use lib.ListN.{length, take};
 ghost use Rattle.io.specs.Counts.{Counts};
 ghost use Rattle.book.specs.Columns.{bookOf, sound};
+ghost use Rattle.reporting.specs.Stream.{longestLine};
 ghost use Rattle.reporting.specs.Reading.{readingAt, Unended};
-ghost use Rattle.report.specs.Feeding.{Waiting, Answered, Turned, Pieced, Lasted};
+ghost use Rattle.report.specs.Feeding.{failedAt, Waiting, Answered, Turned, Pieced, Lasted, Registered};
 
 // Where the reading stands: `left` bytes wait in front of the buffer for the end of line `line`, and `state` says whether to read on. A line that is
 // refused stands at `at`.
@@ -33,23 +33,43 @@ pub const STOPPED: u32 = 2;
 
 pub const FAILED: u32 = 3;
 
-// Puts limits.csv at the start of the buffer and answers its length; one that can't be opened or read counts as empty, and past the
-// buffer's 4,096 bytes lies a third line, which is refused as such.
+// Puts limits.csv at the start of the buffer and answers its length. One that can't be opened or read counts as empty. Past the buffer's
+// 4,096 bytes nothing of it counts any more.
 pub fn limits_text(text: &mut [u8]) -> usize
     ensures { λ r. ⌜ Counts r (now (text .exit)) ⌝ }
 {
     let fd = os::open_read(b"limits.csv");
-    let n = io::read_full(fd, text);
+    let n = all_of(fd, text);
     libc::close(fd);
     n
 }
 
-// The input can't be read on. That is never taken for the end, or flights would drop out unseen.
-pub(crate) fn failed(line: u64) -> Turn
-    ensures { λ r. ⌜ r .state ≡ 3 ⌝ }
+// Reads a file to its end, or until the buffer is full. A read that fails is never an end: then nothing of it counts.
+fn all_of(fd: i32, text: &mut [u8]) -> usize
+    ensures { λ r. ⌜ Counts r (now (text .exit)) ⌝ }
 {
-    say::refused(16, line);
-    say::of_read_error(line);
+    let mut n = 0;
+    while n < text.len() {
+        let answer = libc::read(fd, &mut text[n..]);
+        match what_came(answer, &text[n..]) {
+            Arrived::Bytes(k) => {
+                n += k;
+            }
+            Arrived::End => {
+                return n;
+            }
+            Arrived::Failed => {
+                return 0;
+            }
+        }
+    }
+    n
+}
+
+// The input can't be read on. That is never taken for the end, or flights would drop out unseen.
+fn failed(line: u64) -> Turn
+    ensures { λ r. ⌜ r ≡ failedAt line ⌝ }
+{
     Turn {
         at: 0,
         left: 0,
@@ -146,7 +166,7 @@ fn answered(
 }
 
 // One turn: bytes are read behind those that wait, and the lines that they end are taken.
-pub(crate) fn read_on(
+fn read_on(
     ids: &mut [u32],
     groups: &mut [u32],
     marks: &mut [u32],
@@ -175,4 +195,33 @@ pub(crate) fn read_on(
         line,
         answer,
     )
+}
+
+// Reads the register into the book.
+pub(crate) fn read_register(
+    ids: &mut [u32],
+    groups: &mut [u32],
+    marks: &mut [u32],
+    levels: &mut [u32],
+    points: usize,
+    bytes: &mut [u8],
+) -> Turn
+    requires { ⌜ sound points (bookOf (now ids) (now groups) (now marks) (now levels)) ≡ true ⌝ }
+    requires { ⌜ longestLine < length (now bytes) ⌝ }
+    ensures { λ r. ⌜ Registered points (bookOf (now (ids .entry)) (now (groups .entry)) (now (marks .entry)) (now (levels .entry))) r (bookOf (now (ids .exit)) (now (groups .exit)) (now (marks .exit)) (now (levels .exit))) ⌝ }
+{
+    let mut left = 0;
+    let mut line = 1;
+    let mut turns = u64::MAX;
+    while turns > 0 {
+        turns -= 1;
+        let turn = read_on(ids, groups, marks, levels, points, bytes, left, line);
+        let state = turn.state;
+        if state != READING {
+            return turn;
+        }
+        left = turn.left;
+        line = turn.line;
+    }
+    failed(line)
 }

@@ -1,38 +1,58 @@
 // The report program: limits.csv in the current folder and a register on standard input make the report on standard output. It moves bytes;
 // what it decides is decided in the libraries below. For a person, a refusal also gets a sentence on standard error.
+mod explain;
 mod feed;
-mod print;
 mod say;
 
-use feed::READING;
 use feed::STOPPED;
 use feed::Turn;
 use feed::WHOLE;
+use libc::STDOUT_FILENO;
 use register::limits::Limits;
-use text::core::line_end;
+use report_text::core::put_refused;
+use report_text::core::put_report;
 ghost use mathlib.Core.Path.{_≡_};
-ghost use mathlib.Core.Bool.{true};
-ghost use Prim.Native.Nat.{_<_};
-ghost use lib.ListN.{length};
-ghost use Rattle.book.specs.Columns.{bookOf, sound};
+ghost use Prim.Native.Nat.{_≤_};
+ghost use lib.ListN.{length, take};
+ghost use Rattle.book.specs.Columns.{bookOf};
 ghost use Rattle.book.specs.History.{emptyBook};
-ghost use Rattle.reporting.specs.Stream.{longestLine};
-ghost use Rattle.report.specs.Feeding.{bookRows, Registered, Refused, Cleared};
+ghost use Rattle.report_text.specs.Text.{refusedText, bookText};
+ghost use Rattle.report_text.specs.Room.{longestReport, WroteWithin, LimitsFit};
+ghost use Rattle.text.specs.Put.{Wrote};
+ghost use Rattle.report_rules.specs.Report.{bookRows, Written};
+ghost use Rattle.report.specs.Steps.{Cleared, Sized, AnsweredIn, WrittenIn};
 
 fn main() {
     let mut text = io::buffer();
     let n = feed::limits_text(&mut text);
-    let limits = register::limits::read_limits(&text[..n]);
-    if limits.refusal != 0 {
-        say::refused(limits.refusal, limits.line as u64);
-        say::of_limits(limits.refusal, limits.line as u64, &text[..n]);
-        return;
+    let mut out = io::buffer();
+    let size = answer(&text[..n], &mut out);
+    write(&text[..n], &out[..size]);
+}
+
+// The one write on standard output: no other text than the report's may be handed to it.
+fn write(limits: &[u8], text: &[u8])
+    requires { ⌜ Written (now limits) (now text) ⌝ }
+{
+    io::write_all(STDOUT_FILENO, text);
+}
+
+// The text that answers limits.csv and the register, at the front of the buffer.
+fn answer(text: &[u8], out: &mut [u8]) -> usize
+    requires { ⌜ longestReport ≤ length (now out) ⌝ }
+    ensures { λ r. ⌜ WrittenIn (now (text .entry)) (now (out .exit)) r ⌝ }
+{
+    let limits = register::limits::read_limits(text);
+    let refusal = limits.refusal;
+    if refusal != 0 {
+        say::of_limits(refusal, limits.line as u64, text);
+        return put_refused(out, refusal, limits.line as u64);
     }
     let mut ids = [0u32; 2000];
     let mut groups = [0u32; 2000];
     let mut marks = [0u32; 2000];
     let mut levels = [0u32; 16000];
-    report(&mut ids, &mut groups, &mut marks, &mut levels, limits);
+    report(&mut ids, &mut groups, &mut marks, &mut levels, limits, out)
 }
 
 // The report of a register, into these columns; of the levels only as many as the points need.
@@ -42,116 +62,69 @@ fn report(
     marks: &mut [u32],
     levels: &mut [u32],
     limits: Limits,
-)
+    out: &mut [u8],
+) -> usize
     requires { ⌜ Cleared (now ids) (now groups) (now marks) (now levels) ⌝ }
+    requires { ⌜ LimitsFit limits × (longestReport ≤ length (now out)) ⌝ }
+    ensures { λ r. ⌜ AnsweredIn limits (now (out .exit)) r ⌝ }
 {
-    let points = limits.points as usize;
-    let room = 2000 * points;
-    if room <= levels.len() {
-        report_in(ids, groups, marks, &mut levels[..room], points, limits);
-    }
+    let room = 2000 * limits.points as usize;
+    report_in(ids, groups, marks, &mut levels[..room], limits, out)
 }
 
-// The book is found sound once; each row keeps it so.
+// The register is read into the book; then its report is written, or its refusal.
 fn report_in(
     ids: &mut [u32],
     groups: &mut [u32],
     marks: &mut [u32],
     levels: &mut [u32],
-    points: usize,
     limits: Limits,
-)
-    requires { ⌜ bookOf (now ids) (now groups) (now marks) (now levels) ≡ emptyBook points bookRows ⌝ }
+    out: &mut [u8],
+) -> usize
+    requires { ⌜ bookOf (now ids) (now groups) (now marks) (now levels) ≡ emptyBook (limits .points) bookRows ⌝ }
+    requires { ⌜ LimitsFit limits × (longestReport ≤ length (now out)) ⌝ }
+    ensures { λ r. ⌜ AnsweredIn limits (now (out .exit)) r ⌝ }
 {
-    if !book::soundness::is_sound(ids, groups, marks, levels, points) {
-        say::refused(9, 0);
-        return;
-    }
+    let points = limits.points as usize;
     let mut bytes = io::large_buffer();
-    let read = read_register(ids, groups, marks, levels, points, &mut bytes);
+    let read = feed::read_register(ids, groups, marks, levels, points, &mut bytes);
     let state = read.state;
-    let refusal = read.refusal;
     if state == WHOLE {
-        if refusal == 0 {
-            print::report(ids, groups, marks, levels, points, limits);
-            return;
-        }
-        refuse(&bytes, read, points);
-        return;
+        return answer_whole(ids, groups, marks, levels, limits, &bytes, read, out);
     }
-    if state == STOPPED {
-        refuse(&bytes, read, points);
-    }
+    refuse(&bytes, read, limits, out)
 }
 
-// The register is refused.
-fn refuse(bytes: &[u8], read: Turn, points: usize)
-    requires { ⌜ Refused points (read .refusal) (read .line) ⌝ }
+// The answer to a register that was read to its end.
+fn answer_whole(
+    ids: &[u32],
+    groups: &[u32],
+    marks: &[u32],
+    levels: &[u32],
+    limits: Limits,
+    bytes: &[u8],
+    read: Turn,
+    out: &mut [u8],
+) -> usize
+    requires { ⌜ LimitsFit limits × (longestReport ≤ length (now out)) ⌝ }
+    ensures { λ r. ⌜ Sized limits (read .refusal) (read .line) (bookOf (now (ids .entry)) (now (groups .entry)) (now (marks .entry)) (now (levels .entry))) (now (out .exit)) r ⌝ }
 {
-    say::refused(read.refusal, read.line);
-    explain(bytes, read, points);
+    let refusal = read.refusal;
+    if refusal != 0 {
+        return refuse(bytes, read, limits, out);
+    }
+    let report = put_report(out, ids, groups, marks, levels, limits);
+    if report.refused != 0 {
+        say::of_book(report.refused);
+    }
+    report.size
 }
 
-// The sentence on a line that is refused.
-fn explain(bytes: &[u8], read: Turn, points: usize) {
-    let at = read.at;
-    let left = read.left;
-    if bytes.len() < at {
-        return;
-    }
-    if bytes.len() - at < left {
-        return;
-    }
-    explain_line(&bytes[at..at + left], read.refusal, read.line, points);
-}
-
-fn explain_line(rest: &[u8], refusal: u32, number: u64, points: usize) {
-    let end = line_end(rest, 0);
-    if rest.len() - end < 2 {
-        if 86 < rest.len() {
-            say::of_long_line(number, rest);
-            return;
-        }
-    }
-    if number == 1 {
-        say::of_header(&rest[..end]);
-        return;
-    }
-    say_of_row(refusal, number, &rest[..end], points);
-}
-
-// The sentence on a row that is refused, with its identity.
-fn say_of_row(refused: u32, number: u64, line: &[u8], points: usize) {
-    let layout = register::row::read_layout(line, (points % 256) as u32);
-    let fields = layout.fields;
-    say::of_row(refused, number, line, fields.identity);
-}
-
-// Reads the register into the book.
-fn read_register(
-    ids: &mut [u32],
-    groups: &mut [u32],
-    marks: &mut [u32],
-    levels: &mut [u32],
-    points: usize,
-    bytes: &mut [u8],
-) -> Turn
-    requires { ⌜ sound points (bookOf (now ids) (now groups) (now marks) (now levels)) ≡ true ⌝ }
-    requires { ⌜ longestLine < length (now bytes) ⌝ }
-    ensures { λ r. ⌜ Registered points (bookOf (now (ids .entry)) (now (groups .entry)) (now (marks .entry)) (now (levels .entry))) r (bookOf (now (ids .exit)) (now (groups .exit)) (now (marks .exit)) (now (levels .exit))) ⌝ }
+// The register is refused: its one line, and the sentence that goes with it.
+fn refuse(bytes: &[u8], read: Turn, limits: Limits, out: &mut [u8]) -> usize
+    requires { ⌜ longestReport ≤ length (now out) ⌝ }
+    ensures { λ r. ⌜ WroteWithin 51 (now (out .entry)) 0 (refusedText (read .refusal) (read .line)) (now (out .exit)) r ⌝ }
 {
-    let mut left = 0;
-    let mut line = 1;
-    let mut turns = u64::MAX;
-    while turns > 0 {
-        turns -= 1;
-        let turn = feed::read_on(ids, groups, marks, levels, points, bytes, left, line);
-        let state = turn.state;
-        if state != READING {
-            return turn;
-        }
-        left = turn.left;
-        line = turn.line;
-    }
-    feed::failed(line)
+    explain::refusal(bytes, read, limits.points);
+    put_refused(out, read.refusal, read.line)
 }

@@ -1,15 +1,5 @@
-// What a person reads on standard error when something is refused, and the one line that a refusal has on standard output.
+// What a person reads on standard error when something is refused.
 use libc::STDERR_FILENO;
-use libc::STDOUT_FILENO;
-
-// `refused,number,line` on standard output.
-pub fn refused(number: u32, line: u64) {
-    io::write_all(STDOUT_FILENO, b"refused,");
-    io::print_decimal(STDOUT_FILENO, number as u64);
-    io::write_all(STDOUT_FILENO, b",");
-    io::print_decimal(STDOUT_FILENO, line);
-    io::write_all(STDOUT_FILENO, b"\r\n");
-}
 
 // `file, line N: ` before a sentence, and ` (number)` after it.
 fn place(file: &[u8], line: u64) {

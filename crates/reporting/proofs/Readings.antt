@@ -9,7 +9,7 @@ use native.Mathlib.Omega.{arith}
 use lib.Dec.{eqb, leb, ltb}
 use lib.IntN.{ℤ, pos, negsuc}
 use lib.Signed.{ltZ}
-use lib.ListN.{length, getD, set, take, drop, length-append, length-drop, drop-of-length-le}
+use lib.ListN.{length, getD, set, take, drop, replicate, length-append, length-drop, length-replicate, drop-of-length-le}
 use lib.Seq.{drop-at, drop-drop, length-take-le, take-add, drop-set-lt, getD-drop, getD-take, take-suc, take-suc-set}
 use borrow.Author.Tests.{eq-eqb, ne-eqb, eqb-true, eqb-false, lt-leb, leb-true, ltb-true}
 use Rattle.text.specs.Line.{endAt, firstLine, linesOf, bareLine}
@@ -22,7 +22,7 @@ use Rattle.register.specs.Header.{headerOf, registerHeader}
 use Rattle.register.specs.Row.{layoutOf, offLayout}
 use Rattle.register.proofs.Longest.{long-row}
 use Rattle.io.specs.Counts.{clamped}
-use Rattle.reporting.specs.declared.feeding.Arrived.the-variants.{Bytes, End, Failed}
+use Rattle.reporting.specs.declared.core.feeding.Arrived.the-variants.{Bytes, End, Failed}
 use Rattle.reporting.specs.declared.Taken.{Taken}
 use Rattle.reporting.specs.Intake.{takenNumber, rowTaken, rowAfter, RowTaken}
 use Rattle.reporting.specs.Reading.{Reading, pointsRefusal, lineRefusal, lineAfter, lineRead, linesRead, readOn, readingAt, opening, closing, registered, LineTaken, Onward, Unended, LinesTaken, LastTaken, Waits, PieceTaken, arrivedOf}
@@ -150,6 +150,36 @@ onward-long p s xs z h l t =
     let some : 1 ≤ length (xs ++ t) = rw (length-append xs t) (omega arith) in
     rw (lines-step (xs ++ t) some, eq-eqb (s .refusal) 0 z, long-refused p (s .line) (s .book) line long, long-after p (s .line) (s .book) line long)
     (stuck p (offAt s) (linesOf (drop (length line + 2) (xs ++ t))) (λ e. absurd (omega arith)))
+
+-- Bytes that are not there: a line that no CRLF ends goes on for longer than any layout
+
+zeros-first : (k : ℕ) → getD {A = ℕ} (replicate k 0) 0 0 ≡ 0
+zeros-first zero = refl
+zeros-first (suc k) = refl
+
+zeros-line : (k : ℕ) → firstLine (replicate k 0) ≡ replicate {A = ℕ} k 0
+unfolding firstLine
+zeros-line zero = refl
+zeros-line (suc k) = ap (λ (l : List ℕ). 0 ∷ l) (zeros-line k)
+
+line-zeros : (xs : List ℕ) (k : ℕ) → Unended xs → firstLine (xs ++ replicate k 0) ≡ xs ++ replicate k 0
+unfolding firstLine
+line-zeros [] k h = zeros-line k
+line-zeros (c ∷ []) k h = rw (zeros-first k, and-false (eqb c 13)) (ap (λ (l : List ℕ). c ∷ l) (zeros-line k))
+line-zeros (c ∷ (d ∷ xs)) k h = go (eqb c 13 && eqb d 10) h (line-zeros (d ∷ xs) k)
+  where
+    go : (b : Bool) → suc (suc (length xs)) < length (cond b [] (c ∷ firstLine (d ∷ xs))) + 2
+        → (suc (length xs) < length (firstLine (d ∷ xs)) + 2 → firstLine ((d ∷ xs) ++ replicate k 0) ≡ (d ∷ xs) ++ replicate k 0)
+        → cond b [] (c ∷ firstLine ((d ∷ xs) ++ replicate k 0)) ≡ c ∷ ((d ∷ xs) ++ replicate k 0)
+    go true h r = absurd (omega arith)
+    go false h r = ap (λ (l : List ℕ). c ∷ l) (r (omega arith))
+
+pub endless-off : (p : ℕ) (s : Reading) (xs : List ℕ) → s .refusal ≡ 0 → Unended xs → readOn p s (xs ++ replicate 87 0) ≡ offAt s
+endless-off p s xs z h =
+    let long = xs ++ replicate 87 0 in
+    let size = length-append xs (replicate 87 0) in
+    let unended : Unended long = rw (line-zeros xs 87 h) (omega arith) in
+    ap (readOn p s) (sym (append-nil long)) ∙ onward-long p s long z unended (omega (arith, size, length-replicate {A = ℕ} 87 0)) []
 
 -- The whole
 

@@ -2,4 +2,3 @@ pub mod Booking
 pub mod Intake
 pub mod Reading
 pub mod Stream
-pub mod Totals

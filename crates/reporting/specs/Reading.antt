@@ -12,8 +12,8 @@ use Rattle.text.specs.Line.{firstLine, linesOf}
 use Rattle.text.specs.declared.number.Number.{Number}
 use Rattle.text.specs.declared.number.Number.the-variants.{Got, Off}
 use Rattle.register.specs.Header.{headerOf, registerHeader}
-use Rattle.reporting.specs.declared.feeding.Arrived.{Arrived}
-use Rattle.reporting.specs.declared.feeding.Arrived.the-variants.{Bytes, End, Failed}
+use Rattle.reporting.specs.declared.core.feeding.Arrived.{Arrived}
+use Rattle.reporting.specs.declared.core.feeding.Arrived.the-variants.{Bytes, End, Failed}
 use Rattle.reporting.specs.Stream.{longestLine}
 use Rattle.reporting.specs.Intake.{takenNumber, rowTaken, rowAfter}
 

@@ -1,4 +1,6 @@
-// A row into a book that is known to be sound.
+// A row into a book that is known to be sound, and a register's lines as they come.
+pub mod feeding;
+
 use crate::Taken;
 use register::row::read_layout;
 ghost use mathlib.Core.Path.{_≡_};

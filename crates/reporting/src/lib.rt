@@ -4,8 +4,6 @@ ghost use mathlib.Core.Path.{_≡_};
 ghost use Rattle.reporting.specs.Intake.{takenNumber};
 
 pub mod core;
-pub mod feeding;
-pub mod totals;
 
 // What a register's row did to the book.
 pub enum Taken {

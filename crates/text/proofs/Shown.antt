@@ -3,13 +3,13 @@ use Prim.Native.Nat.{ℕ, zero, suc, _+_, _-_, _*_, _/_, _%_, _<_, _≤_, _^_}
 use mathlib.Core.Path.{_≡_, refl, sym, ap, _∙_}
 use mathlib.Core.List.{List, [], _∷_, _++_}
 use mathlib.Core.Bool.{false, _&&_, and-false}
-use native.Mathlib.Nat.{pow-suc, pow-zero}
+use native.Mathlib.Nat.{pow-suc, pow-zero, pow-le-pow-right, zero-lt-suc}
 use native.Mathlib.Omega.{arith}
-use borrow.Author.Tests.{le-leb, lt-ltb, le-ltb, ltb-true, ltb-false, ne-eqb}
+use borrow.Author.Tests.{le-leb, lt-ltb, le-ltb, ltb-true, ltb-false, ne-eqb, eqb-true, eqb-false}
 use lib.ListN.{length, getD, length-append, List·getD-append}
 use lib.Seq.{take-append-seam, drop-append-add, getD-append-seam}
 use lib.Dec.{ltb, eqb}
-use Rattle.text.specs.Number.{isDigit, digitsOf, wholeOf, levelOf, joined, shown, showWhole, showTwo, showLevel}
+use Rattle.text.specs.Number.{isDigit, digitsOf, wholeOf, levelOf, joined, shown, showNumber, showWhole, showTwo, showLevel}
 use Rattle.text.specs.declared.number.Number.the-variants.{Got, Off}
 use Rattle.text.proofs.Digits.{either, digit-yes}
 
@@ -36,15 +36,38 @@ shown-fuel (suc k) n h =
     ∙ ap (λ t. t ++ ((48 + n % 10) ∷ [])) (shown-fuel k (n / 10) (tenth (suc k) n h))
     ∙ sym (shown-more (suc k) n m))
 
--- a whole number from its tenth and its last digit
-pub whole-one : (n : ℕ) → n < 10 → showWhole n ≡ (48 + n % 10) ∷ []
-whole-one n h = let e : n % 10 ≡ n = omega arith in rw e (shown-one 6 n h)
+-- nor do any more
+pub shown-enough : (m k n : ℕ) → k ≤ m → n < 10 ^ suc k → shown (suc m) n ≡ shown (suc k) n
+shown-enough zero k n le h = let e : k ≡ 0 = omega arith in rw e refl
+shown-enough (suc m) k n le h =
+    either (eqb k (suc m))
+    (λ yes. rw (eqb-true k (suc m) yes) refl)
+    (λ no. let less : k ≤ m = omega (arith, eqb-false k (suc m) no) in
+    let more : 10 ^ suc k ≤ 10 ^ suc m = pow-le-pow-right (zero-lt-suc 9) (omega arith) in
+    shown-fuel m n (omega arith) ∙ shown-enough m k n less h)
 
-pub whole-more : (n : ℕ) → 10 ≤ n → n < 10000000 → showWhole n ≡ showWhole (n / 10) ++ ((48 + n % 10) ∷ [])
-whole-more n h l = shown-more 6 n h ∙ ap (λ t. t ++ ((48 + n % 10) ∷ [])) (sym (shown-fuel 5 (n / 10) (omega arith)))
+-- a number from its tenth and its last digit
+pub shown-last : (k n : ℕ) → n < 10 → shown (suc k) n ≡ (48 + n % 10) ∷ []
+shown-last k n h = let e : n % 10 ≡ n = omega arith in rw e (shown-one k n h)
+
+pub shown-tenth : (k n : ℕ) → 10 ≤ n → n < 10 ^ suc (suc k)
+    → shown (suc (suc k)) n ≡ shown (suc (suc k)) (n / 10) ++ ((48 + n % 10) ∷ [])
+shown-tenth k n h l =
+    shown-more (suc k) n h ∙ ap (λ t. t ++ ((48 + n % 10) ∷ [])) (sym (shown-fuel k (n / 10) (tenth (suc k) n l)))
+
+pub shown-longer : (k n : ℕ) → 10 ≤ n → n < 10 ^ suc (suc k)
+    → length (shown (suc (suc k)) n) ≡ length (shown (suc (suc k)) (n / 10)) + 1
+shown-longer k n h l = ap length (shown-tenth k n h l) ∙ length-append (shown (suc (suc k)) (n / 10)) ((48 + n % 10) ∷ [])
+
+pub whole-one : (n : ℕ) → n < 10 → showWhole n ≡ (48 + n % 10) ∷ []
+whole-one n h = shown-last 6 n h
 
 pub whole-longer : (n : ℕ) → 10 ≤ n → n < 10000000 → length (showWhole n) ≡ length (showWhole (n / 10)) + 1
-whole-longer n h l = ap length (whole-more n h l) ∙ length-append (showWhole (n / 10)) ((48 + n % 10) ∷ [])
+whole-longer n h l = shown-longer 5 n h (omega arith)
+
+-- a whole number of up to seven digits is written as any other
+pub whole-number : (n : ℕ) → n < 10000000 → showNumber n ≡ showWhole n
+whole-number n h = shown-enough 19 6 n (omega arith) (omega arith)
 
 -- one digit more at the end of a run
 digits-snoc : (s : List ℕ) (v m d : ℕ) → d ≤ 9 → digitsOf v s ≡ Got m → digitsOf v (s ++ ((48 + d) ∷ [])) ≡ Got (m * 10 + d)

@@ -57,6 +57,10 @@ shown (suc k) n = cond (ltb n 10) ((48 + n) ∷ []) (shown k (n / 10) ++ ((48 + 
 abbrev pub showWhole : ℕ → List ℕ
 showWhole n = shown 7 n
 
+-- any number of the report, which may be larger: a line's number has up to 20 digits
+abbrev pub showNumber : ℕ → List ℕ
+showNumber n = shown 20 n
+
 -- two digits
 abbrev pub showTwo : ℕ → List ℕ
 showTwo n = (48 + n / 10) ∷ (48 + n % 10) ∷ []

@@ -5,7 +5,7 @@ ghost use mathlib.Core.Path.{_≡_};
 ghost use Prim.Native.Nat.{_+_, _≤_, _<_};
 ghost use mathlib.Core.List.{[], _∷_};
 ghost use lib.ListN.{length, drop};
-ghost use Rattle.text.specs.Number.{digitsOf, showWhole, showTwo, showLevel};
+ghost use Rattle.text.specs.Number.{digitsOf, showNumber, showWhole, showTwo, showLevel};
 ghost use Rattle.text.specs.Field.{upTo};
 ghost use Rattle.text.specs.Line.{endAt, firstLine};
 ghost use Rattle.text.specs.Put.{Wrote};
@@ -97,17 +97,25 @@ pub fn put_text(out: &mut [u8], at: usize, text: &[u8]) -> usize
     at + i
 }
 
-// A whole number: the digits of its tenth, if there are any, then its last digit.
-pub fn put_whole(out: &mut [u8], at: usize, n: u32) -> usize
-    requires { ⌜ (n < 10000000) × (at + length (showWhole n) ≤ length (now out)) ⌝ }
-    ensures { λ r. ⌜ Wrote (now (out .entry)) at (showWhole n) (now (out .exit)) r ⌝ }
+// A number: the digits of its tenth, if there are any, then its last digit.
+pub fn put_number(out: &mut [u8], at: usize, n: u64) -> usize
+    requires { ⌜ at + length (showNumber n) ≤ length (now out) ⌝ }
+    ensures { λ r. ⌜ Wrote (now (out .entry)) at (showNumber n) (now (out .exit)) r ⌝ }
 {
     let digit = 48 + (n % 10) as u8;
     if n < 10 {
         return put_byte(out, at, digit);
     }
-    let next = put_whole(out, at, n / 10);
+    let next = put_number(out, at, n / 10);
     put_byte(out, next, digit)
+}
+
+// A whole number of a file, which has at most seven digits.
+pub fn put_whole(out: &mut [u8], at: usize, n: u32) -> usize
+    requires { ⌜ (n < 10000000) × (at + length (showWhole n) ≤ length (now out)) ⌝ }
+    ensures { λ r. ⌜ Wrote (now (out .entry)) at (showWhole n) (now (out .exit)) r ⌝ }
+{
+    put_number(out, at, n as u64)
 }
 
 // Two digits.

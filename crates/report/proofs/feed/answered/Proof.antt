@@ -21,7 +21,7 @@ use Rattle.report.proofs.feed.answered.Lts as lts
 use Rattle.report.proofs.feed.failed.Reads as failed-reads
 use Rattle.report.proofs.feed.last.Reads as last-reads
 use Rattle.report.proofs.feed.piece.Reads as piece-reads
-use Rattle.reporting.proofs.feeding.what_came.Reads as what-came-reads
+use Rattle.reporting.proofs.core.feeding.what_came.Reads as what-came-reads
 
 inside : (c : tie.Start) → c .args .left ≤ length (c .args .bytes .now)
 inside c = omega (arith, c .pre .1 .0 .short, c .pre .1 .0 .room)
@@ -165,7 +165,11 @@ same-length-11 c = search needs
 
 -- src/feed.rt:125:1
 returns-3 : tie.Need-returns-3
-returns-3 c = answered-failed (c .before .before .before .before .before .before .before .before .before .before .before .pre .0) (c .failed .ensures)
+returns-3 c =
+    let told = c .before in
+    let w = told .before .before in
+    let s = w .before .before .before .before .before .before .before .before in
+    answered-failed (s .pre .0) refl (sym (is w) ∙ told .enum-told2 .given .1) (c .failed .ensures)
 
 pub answered-spec : {M : Type 1} → statement M
 answered-spec =

@@ -1,0 +1,69 @@
+-- The texts of the program's steps, and which answer each is.
+-- Assumes nothing.
+use mathlib.Core.Path.{_≡_, refl, sym, ap, _∙_}
+use mathlib.Core.Bool.{true}
+use mathlib.Core.List.{List, [], _++_}
+use Prim.Native.Nat.{ℕ, _≤_, _<_}
+use native.Mathlib.Omega.{arith}
+use lib.Dec.{eqb}
+use lib.ListN.{length, take}
+use borrow.Author.Tests.{eqb-true, eqb-false}
+use Rattle.text.specs.Put.{Wrote}
+use Rattle.text.proofs.Puts.{wrote-front, wrote-fits}
+use Rattle.text.proofs.Digits.{either}
+use Rattle.book.specs.Columns.{Book}
+use Rattle.book.specs.History.{emptyBook}
+use Rattle.register.specs.declared.limits.Limits.{Limits}
+use Rattle.register.specs.Limits.{limitsOf}
+use Rattle.reporting.specs.Reading.{Reading, readingAt, registered}
+use Rattle.report_text.specs.Text.{refusedText, bookText}
+use Rattle.report_text.specs.Room.{WroteWithin}
+use Rattle.report_rules.specs.Report.{bookRows, registerText, reportOf, endless}
+use Rattle.report_rules.specs.Report.Came.{whole, stopped, failed}
+use Rattle.report_rules.proofs.Answers.{reading-refused, reading-reported, register-text, report-refused, answers-accepted}
+use Rattle.report.specs.declared.feed.Turn.{Turn}
+use Rattle.report.specs.Feeding as state
+use Rattle.report.specs.Feeding.{Registered}
+use Rattle.report.specs.Steps.{Sized, AnsweredIn, WrittenIn}
+
+pub sized-refused : (l : Limits) (b : Book) {s e : List ℕ} {r n size : ℕ} → (r ≡ 0 → ⊥) → WroteWithin 51 s 0 (refusedText r n) e size → Sized l r n b e size
+sized-refused l b {s} {e} {r} {n} {size} ne w =
+    record { fits = wrote-fits (w .wrote); text = wrote-front (w .wrote) ∙ sym (reading-refused l (readingAt r n b) ne) }
+
+pub sized-report : (l : Limits) (b : Book) {s e : List ℕ} {r size : ℕ} (n : ℕ) → r ≡ 0 → Wrote s 0 (bookText l b) e size → Sized l r n b e size
+sized-report l b {s} {e} {r} {size} n z w =
+    record { fits = wrote-fits w; text = wrote-front w ∙ sym (reading-reported l (readingAt r n b) z) }
+
+-- a register that was read to its end, and one that was not
+module _ (l : Limits) {b₀ b : Book} {t : Turn} {out : List ℕ} {size : ℕ} (k : Registered (l .points) b₀ t b) (none : b₀ ≡ emptyBook (l .points) bookRows)
+    (w : Sized l (t .refusal) (t .line) b out size) where
+  text-of : (register : List ℕ) → readingAt (t .refusal) (t .line) b ≡ registered (l .points) b₀ register → take size out ≡ registerText l register
+  text-of register e = w .text ∙ register-text l register (readingAt (t .refusal) (t .line) b) (rw none at e)
+
+  pub answered-whole : t .state ≡ state.whole → AnsweredIn l out size
+  answered-whole e = record { fits = w .fits; came = whole (k .all); is = text-of (k .all) (k .ends e) }
+
+  pub answered-other : (t .state ≡ state.whole → ⊥) → AnsweredIn l out size
+  answered-other ne =
+      either (eqb (t .state) state.stopped)
+      (λ yes. let e = eqb-true (t .state) state.stopped yes in
+      record { fits = w .fits; came = stopped (k .all); is = λ rest. text-of (k .all ++ rest) (k .stops e rest) })
+      (λ no. let e = k .states ne (eqb-false (t .state) state.stopped no) in
+      record { fits = w .fits; came = failed (k .all); is = text-of (k .all ++ endless) (k .fails e) })
+
+-- limits.csv refused, and accepted
+pub limits-refused : (limits : List ℕ) {l : Limits} {s e : List ℕ} {size : ℕ} → l ≡ limitsOf limits → (l .refusal ≡ 0 → ⊥)
+    → WroteWithin 51 s 0 (refusedText (l .refusal) (l .line)) e size → WrittenIn limits e size
+limits-refused limits {l} {s} {e} {size} q ne w =
+    record {
+      fits = wrote-fits (w .wrote);
+      written = record {
+        came = stopped [];
+        is = λ rest. wrote-front (w .wrote) ∙ rw q (sym (report-refused limits rest (rw q at ne)));
+      };
+    }
+
+pub limits-accepted : (limits : List ℕ) {l : Limits} {e : List ℕ} {size : ℕ} → l ≡ limitsOf limits → l .refusal ≡ 0 → AnsweredIn l e size → WrittenIn limits e size
+limits-accepted limits {l} {e} {size} q z a =
+    let b : AnsweredIn (limitsOf limits) e size = rw q at a in
+    record { fits = b .fits; written = record { came = b .came; is = answers-accepted limits (b .came) (take size e) (rw q at z) (b .is) } }

@@ -1,0 +1,66 @@
+-- `report::answer_whole` meets its contract: a refusal's one line, or the report of the book. Assumes nothing.
+use Rattle.book.specs.Columns.{Book, bookOf}
+use Rattle.report.proofs.Texts.{sized-refused, sized-report}
+use borrow.Author.Needs.{needs}
+use Rattle.report.proofs.answer_whole.Statement.{statement}
+use Rattle.report.proofs.answer_whole.Tie as tie
+
+-- where the function starts, and its book
+abbrev start : tie.After-slice-known → tie.Start
+start c = let columns = c .before .before .before .before in columns .before .before
+
+abbrev book : tie.Start → Book
+book s = bookOf (s .args .ids .now) (s .args .groups .now) (s .args .marks .now) (s .args .levels .now)
+
+refuse-requires : tie.Need-refuse-requires
+refuse-requires c κs = search needs
+
+same-length : tie.Need-same-length
+same-length c = search needs
+
+returns : tie.Need-returns
+returns c =
+    let written = c .before .before in
+    let test = written .before .before in
+    let s = start (test .before) in
+    sized-refused (s .args .limits) (book s) (test .if1 .taken) (written .refuse .ensures)
+
+put-report-requires : tie.Need-put-report-requires
+put-report-requires c κs = search needs
+
+of-book-requires : tie.Need-of-book-requires
+of-book-requires c κs = search needs
+
+same-length-2 : tie.Need-same-length-2
+same-length-2 c = search needs
+
+returns-2 : tie.Need-returns-2
+returns-2 c =
+    let written = c .before .before .before .before .before in
+    let test = written .before .before in
+    let s = start (test .before) in
+    sized-report (s .args .limits) (book s) (s .args .read .line) (test .if1 .left) (written .put-report .ensures .wrote)
+
+same-length-3 : tie.Need-same-length-3
+same-length-3 c = search needs
+
+returns-3 : tie.Need-returns-3
+returns-3 c =
+    let written = c .before .before .before .before in
+    let test = written .before .before in
+    let s = start (test .before) in
+    sized-report (s .args .limits) (book s) (s .args .read .line) (test .if1 .left) (written .put-report .ensures .wrote)
+
+pub answer-whole-spec : {M : Type 1} → statement M
+answer-whole-spec =
+    tie.close
+    (tie.spec
+    refuse-requires
+    same-length
+    returns
+    put-report-requires
+    of-book-requires
+    same-length-2
+    returns-2
+    same-length-3
+    returns-3)

@@ -1,0 +1,2 @@
+pub mod LimitsFits
+pub mod Answers

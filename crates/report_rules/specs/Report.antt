@@ -1,0 +1,58 @@
+-- The whole report, from bytes to bytes: document 01, "Files and the report program".
+-- Assumes nothing.
+use Prim.Native.Nat.{ℕ, _+_}
+use mathlib.Core.Path.{_≡_}
+use mathlib.Core.Bool.{cond}
+use mathlib.Core.List.{List, _++_}
+use lib.ListN.{replicate}
+use lib.Dec.{eqb}
+use Rattle.book.specs.History.{emptyBook}
+use Rattle.register.specs.declared.limits.Limits.{Limits}
+use Rattle.register.specs.Limits.{limitsOf}
+use Rattle.reporting.specs.Stream.{longestLine}
+use Rattle.reporting.specs.Reading.{Reading, registered}
+use Rattle.report_text.specs.Text.{refusedText, bookText}
+
+-- the report program's own book has 2,000 rows
+abbrev pub bookRows : ℕ
+bookRows = 2000
+
+-- the answer to a register that was read: the report of its book, or its refusal and line
+unfoldable pub readingText : Limits → Reading → List ℕ
+readingText l s = cond (eqb (s .refusal) 0) (bookText l (s .book)) (refusedText (s .refusal) (s .line))
+
+-- the answer to a register, where limits.csv is accepted: it is read into an empty book
+unfoldable pub registerText : Limits → List ℕ → List ℕ
+registerText l register = readingText l (registered (l .points) (emptyBook (l .points) bookRows) register)
+
+-- limits.csv is judged first
+unfoldable pub answerText : Limits → List ℕ → List ℕ
+answerText l register = cond (eqb (l .refusal) 0) (registerText l register) (refusedText (l .refusal) (l .line))
+
+-- the bytes of limits.csv and the bytes of the register give the bytes of the output
+unfoldable pub reportOf : (limits register : List ℕ) → List ℕ
+reportOf limits register = answerText (limitsOf limits) register
+
+-- How the register's bytes came
+
+-- to their end; up to a line that is refused, where the reading stops; or up to a read that failed
+pub data Came : Type 0 where
+  whole : List ℕ → Came
+  stopped : List ℕ → Came
+  failed : List ℕ → Came
+
+-- bytes of a line longer than any on its layout
+abbrev pub endless : List ℕ
+endless = replicate (longestLine + 1) 0
+
+-- The text that goes with it: of all bytes; the same whatever would follow; or, since a read that fails is never an end,
+-- that of a register whose line being read goes on for longer than any line on its layout
+abbrev pub Answers : (List ℕ → List ℕ) → Came → List ℕ → Type 0
+Answers answer (whole bytes) text = text ≡ answer bytes
+Answers answer (stopped bytes) text = (rest : List ℕ) → text ≡ answer (bytes ++ rest)
+Answers answer (failed bytes) text = text ≡ answer (bytes ++ endless)
+
+-- a text that may be written, where limits.csv has these bytes: it is the report's
+pub record Written (limits text : List ℕ) : Type 0 where
+  pub came : Came
+  pub is : Answers (reportOf limits) came text

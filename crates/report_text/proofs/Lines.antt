@@ -1,0 +1,41 @@
+-- The lines of a report, as the writers group them.
+-- Assumes nothing.
+use mathlib.Core.Path.{_≡_, refl, sym, ap, _∙_}
+use mathlib.Core.List.{List, [], _∷_, _++_, append-assoc}
+use Prim.Native.Nat.{ℕ, _+_}
+use Rattle.text.specs.Number.{showNumber}
+use Rattle.text.specs.Field.{joinedBy}
+use Rattle.text.specs.Spelled.{bytes}
+use Rattle.text.specs.Index.{listing}
+use native.Mathlib.Numerals.{add-one}
+use Rattle.report_text.specs.Text.{lineEnd, ended, line, refusedText}
+
+pub refused-is : (number n : ℕ)
+    → bytes "refused" ++ ((44 ∷ showNumber number) ++ ((44 ∷ showNumber n) ++ lineEnd)) ≡ refusedText number n
+unfolding refusedText ended joinedBy
+refused-is number n = simp append-assoc
+
+-- six fields, and the end of their line
+pub six-is : (a b c d e f : List ℕ)
+    → a ++ (((44 ∷ b) ++ ((44 ∷ c) ++ (44 ∷ d))) ++ ((44 ∷ e) ++ ((44 ∷ f) ++ lineEnd)))
+    ≡ line (a ∷ b ∷ c ∷ d ∷ e ∷ f ∷ []) ++ lineEnd
+unfolding joinedBy
+six-is a b c d e f = simp append-assoc
+
+-- one line more
+ended-snoc : (ls : List (List ℕ)) (l : List ℕ) → ended (ls ++ (l ∷ [])) ≡ ended ls ++ (l ++ lineEnd)
+unfolding ended
+ended-snoc [] l = refl
+ended-snoc (k ∷ ls) l = rw (ended-snoc ls l) (simp append-assoc)
+
+pub ended-none : (f : ℕ → List ℕ) → ended (listing f 0) ≡ []
+unfolding ended listing
+ended-none f = refl
+
+pub ended-more : (f : ℕ → List ℕ) (n : ℕ) → ended (listing f n) ++ (f n ++ lineEnd) ≡ ended (listing f (n + 1))
+unfolding listing
+ended-more f n = rw (add-one n) (sym (ended-snoc (listing f n) (f n)))
+
+pub ended-header : (l : List ℕ) (ls : List (List ℕ)) → (l ++ lineEnd) ++ ended ls ≡ ended (l ∷ ls)
+unfolding ended
+ended-header l ls = append-assoc l lineEnd (ended ls)

@@ -1,0 +1,106 @@
+-- `report_text::core::put_points` meets its contract. The loop's invariant: the lines of the points passed stand behind the header.
+-- Assumes nothing.
+use mathlib.Core.Path.{_≡_, refl, sym, ap, _∙_}
+use mathlib.Core.List.{List}
+use Prim.Native.Nat.{ℕ, _+_, _-_, _*_, _≤_, _<_}
+use native.Mathlib.Omega.{arith}
+use lib.ListN.{length, getD}
+use borrow.Author.Needs.{needs}
+use Rattle.book.specs.Columns.{Book, bookOf}
+use Rattle.text.specs.Put.{Wrote}
+use Rattle.report_text.proofs.Points.{Passed, points-none, points-more, points-all}
+use Rattle.report_text.proofs.Levels.{load-level}
+use Rattle.report_text.proofs.core.put_points.Statement.{statement}
+use Rattle.report_text.proofs.core.put_points.Tie as tie
+
+abbrev Inv-loop : tie.InvT-loop
+Inv-loop out₀ ids groups marks levels points days limit at₀ point₀ out at point =
+    Passed points days limit (bookOf ids groups marks levels) point out₀ at₀ out at
+    × (point ≤ points) × (at ≤ at₀ + 85 * point) × (length out ≡ length out₀)
+
+abbrev μ-loop : tie.MeasureT-loop
+μ-loop out₀ ids groups marks levels points days limit at₀ point₀ out at point = points - point
+
+-- where the function starts, from the header on
+abbrev start : tie.After-put-header Inv-loop μ-loop → tie.Start Inv-loop μ-loop
+start c = let limits = c .before .before .before .before in let columns = limits .before .before .before in columns .before .before
+
+cast-points : tie.Need-cast-points Inv-loop μ-loop
+cast-points c = search needs
+
+put-header-requires : tie.Need-put-header-requires Inv-loop μ-loop
+put-header-requires c κs = search needs
+
+loop-holds : tie.Need-loop-holds Inv-loop μ-loop
+loop-holds c = (points-none, omega arith, omega arith, refl)
+
+load-at-requires : tie.Need-load-at-requires Inv-loop μ-loop
+load-at-requires c κs = search needs
+
+mul-put-point : tie.Need-mul-put-point Inv-loop μ-loop
+mul-put-point c = search needs
+
+array-read-put-point : tie.Need-array-read-put-point Inv-loop μ-loop
+array-read-put-point c = search needs
+
+put-point-requires : tie.Need-put-point-requires Inv-loop μ-loop
+put-point-requires c κs =
+    let loaded = c .before in
+    let l = loaded .before .before in
+    let head = l .before .before .before in
+    let s = start head in
+    let few : l .loop .point < s .args .limits .points = loaded .before .loop-test .taken in (
+      omega (arith, few, s .pre .0 .few),
+      rw (loaded .load-at .ensures) (load-level _ _ _ _),
+      s .pre .0 .low (l .loop .point),
+      omega (arith, l .loop .inv, s .pre, head .put-header .ensures .within, head .put-header .kept .0),
+    )
+
+add-point : tie.Need-add-point Inv-loop μ-loop
+add-point c = search needs
+
+loop-less : tie.Need-loop-less Inv-loop μ-loop
+loop-less c = search needs
+
+loop-again : tie.Need-loop-again Inv-loop μ-loop
+loop-again c =
+    let written = c .before .before in
+    let loaded = written .before .before in
+    let l = loaded .before .before in
+    let head = l .before .before .before in
+    let s = start head in
+    let few : l .loop .point < s .args .limits .points = loaded .before .loop-test .taken in
+    let room : l .loop .at + 85 ≤ length (head .put-header .last .0) = omega (arith, l .loop .inv, few, s .pre, head .put-header .ensures .within, head .put-header .kept .0) in
+    (points-more (l .loop .inv .0) (written .put-point .ensures) (loaded .load-at .ensures) room, omega arith, omega (arith, written .put-point .ensures .within, l .loop .inv), written .put-point .kept .0 ∙ l .loop .inv .3)
+
+same-length : tie.Need-same-length Inv-loop μ-loop
+same-length c = search needs
+
+returns : tie.Need-returns Inv-loop μ-loop
+returns c =
+    let l = c .before in
+    let head = l .before .before .before in
+    let s = start head in
+    let q : l .loop .point ≡ s .args .limits .points = omega (arith, l .loop .inv, c .loop-test .left) in
+    let a = s .args in
+    points-all (a .limits) (bookOf (a .ids .now) (a .groups .now) (a .marks .now) (a .levels .now)) (head .put-header .ensures .wrote) (l .loop .inv .0) q
+    (omega (arith, l .loop .inv, s .pre, s .pre .0 .few, head .put-header .ensures .within, head .put-header .kept .0))
+
+pub put-points-spec : {M : Type 1} → statement M
+put-points-spec =
+    tie.close
+    (tie.spec
+    Inv-loop
+    μ-loop
+    cast-points
+    put-header-requires
+    loop-holds
+    load-at-requires
+    mul-put-point
+    array-read-put-point
+    put-point-requires
+    add-point
+    loop-less
+    loop-again
+    same-length
+    returns)

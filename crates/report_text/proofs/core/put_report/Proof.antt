@@ -1,0 +1,60 @@
+-- `report_text::core::put_report` meets its contract: the one line of rule 10, or the header and the points. Assumes nothing.
+use Rattle.book.specs.Columns.{Book, bookOf}
+use Rattle.report_text.proofs.Points.{report-refused, report-points, refusal-is}
+use borrow.Author.Needs.{needs}
+use Rattle.report_text.proofs.core.put_report.Statement.{statement}
+use Rattle.report_text.proofs.core.put_report.Tie as tie
+
+-- where the function starts, and its book
+abbrev start : tie.After-load-at → tie.Start
+start c = let limits = c .before .before .before .before in limits .before .before .before
+
+abbrev book : tie.Start → Book
+book s = bookOf (s .args .ids .now) (s .args .groups .now) (s .args .marks .now) (s .args .levels .now)
+
+cast-points : tie.Need-cast-points
+cast-points c = search needs
+
+load-at-requires : tie.Need-load-at-requires
+load-at-requires c κs = search needs
+
+put-refused-requires : tie.Need-put-refused-requires
+put-refused-requires c κs = search needs
+
+same-length : tie.Need-same-length
+same-length c = search needs
+
+returns : tie.Need-returns
+returns c =
+    let size = c .before .before in
+    let loaded = size .before .before .before in
+    let s = start loaded in
+    let q = refusal-is (s .args .limits) (book s) (loaded .load-at .ensures) in
+    record { wrote = report-refused (s .args .limits) (book s) q (size .before .before .if1 .taken) (size .put-refused .ensures .wrote); refused = q }
+
+put-points-requires : tie.Need-put-points-requires
+put-points-requires c κs = search needs
+
+same-length-2 : tie.Need-same-length-2
+same-length-2 c = search needs
+
+returns-2 : tie.Need-returns-2
+returns-2 c =
+    let size = c .before .before in
+    let loaded = size .before .before .before in
+    let s = start loaded in
+    let q = refusal-is (s .args .limits) (book s) (loaded .load-at .ensures) in
+    record { wrote = report-points (s .args .limits) (book s) q (size .before .before .if1 .left) (size .put-points .ensures); refused = q }
+
+pub put-report-spec : {M : Type 1} → statement M
+put-report-spec =
+    tie.close
+    (tie.spec
+    cast-points
+    load-at-requires
+    put-refused-requires
+    same-length
+    returns
+    put-points-requires
+    same-length-2
+    returns-2)

@@ -1,0 +1,75 @@
+-- The report as text, from the limits and a book, and the one line of a refusal: document 01, "Files and the report program".
+-- Assumes nothing.
+use Prim.Native.Nat.{ℕ, _+_}
+use mathlib.Core.Bool.{cond}
+use mathlib.Core.List.{List, [], _∷_, _++_}
+use lib.ListN.{getD}
+use lib.Dec.{eqb}
+use Rattle.level.specs.declared.Level.{Level}
+use Rattle.level.specs.declared.Level.the-variants.{BelowZero, At}
+use Rattle.level.specs.declared.Verdict.{Verdict}
+use Rattle.level.specs.declared.Verdict.the-variants.{Within, Over}
+use Rattle.level.specs.Level.{verdictOf}
+use Rattle.book.specs.Columns.{Book}
+use Rattle.counted.specs.declared.Load.{Load}
+use Rattle.counted.specs.Load.{bookLoad}
+use Rattle.text.specs.Number.{showNumber, showLevel}
+use Rattle.text.specs.Field.{joinedBy}
+use Rattle.text.specs.Index.{listing}
+use Rattle.text.specs.Spelled.{bytes}
+use Rattle.register.specs.declared.limits.Limits.{Limits}
+use Rattle.report_text.specs.Totals.{computedIn, missingIn}
+
+-- lines end in CRLF
+abbrev pub lineEnd : List ℕ
+lineEnd = 13 ∷ 10 ∷ []
+
+unfoldable pub ended : List (List ℕ) → List ℕ
+ended [] = []
+ended (l ∷ ls) = l ++ (lineEnd ++ ended ls)
+
+-- fields are parted by a comma
+abbrev pub line : List (List ℕ) → List ℕ
+line fields = joinedBy 44 fields
+
+-- the rounded level or `below`; `over` or `within`
+abbrev pub levelText : Level → List ℕ
+levelText BelowZero = bytes "below"
+levelText (At n) = showLevel n
+
+abbrev pub verdictText : Verdict → List ℕ
+verdictText Within = bytes "within"
+verdictText Over = bytes "over"
+
+-- one point: its number from 1, rounded level, limit, verdict, movements computed, movements without levels
+abbrev pub pointFields : (point limit : ℕ) → Load → List (List ℕ)
+pointFields point limit load =
+    showNumber (point + 1)
+    ∷ levelText (load .level)
+    ∷ showLevel limit
+    ∷ verdictText (verdictOf (load .level) limit)
+    ∷ showNumber (computedIn (load .counts))
+    ∷ showNumber (missingIn (load .counts))
+    ∷ []
+
+unfoldable pub pointLine : Limits → Book → ℕ → List ℕ
+pointLine l b point = line (pointFields point (getD (l .limits) point 0) (bookLoad (l .points) point b (l .days)))
+
+abbrev pub headerLine : List ℕ
+headerLine = bytes "point,level,limit,verdict,computed,missing"
+
+-- a refusal: its one line, refused,number,line
+unfoldable pub refusedText : (number line : ℕ) → List ℕ
+refusedText number n = ended (line (bytes "refused" ∷ showNumber number ∷ showNumber n ∷ []) ∷ [])
+
+-- the header, and a line for each point
+unfoldable pub pointsText : Limits → Book → List ℕ
+pointsText l b = ended (headerLine ∷ listing (pointLine l b) (l .points))
+
+-- the refusal of the whole book, 0 for none: every movement counts at every point, so it is that of the first point
+unfoldable pub bookRefusal : Limits → Book → ℕ
+bookRefusal l b = bookLoad (l .points) 0 b (l .days) .refused
+
+-- the report of a book; a refusal of the whole book has line 0
+unfoldable pub bookText : Limits → Book → List ℕ
+bookText l b = cond (eqb (bookRefusal l b) 0) (pointsText l b) (refusedText (bookRefusal l b) 0)

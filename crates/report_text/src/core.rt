@@ -1,0 +1,181 @@
+// The report's text, put into a buffer that has room for the longest.
+use crate::totals::added_up;
+use counted::Counts;
+use counted::Load;
+use level::Level;
+use level::Verdict;
+use load::load_at;
+use register::limits::Limits;
+use text::core::put_byte;
+use text::core::put_level;
+use text::core::put_number;
+use text::core::put_text;
+ghost use mathlib.Core.Path.{_≡_};
+ghost use mathlib.Core.List.{_∷_, _++_};
+ghost use Prim.Native.Nat.{_+_, _≤_, _<_};
+ghost use lib.ListN.{length};
+ghost use Rattle.level.specs.Level.{levelValue, verdictOf};
+ghost use Rattle.book.specs.Columns.{bookOf};
+ghost use Rattle.text.specs.Put.{Wrote};
+ghost use Rattle.text.specs.Number.{showNumber, showLevel};
+ghost use Rattle.report_text.specs.Totals.{computedIn, missingIn};
+ghost use Rattle.report_text.specs.Text.{lineEnd, line, levelText, verdictText, pointFields, headerLine, refusedText, pointsText};
+ghost use Rattle.report_text.specs.Room.{longestPoint, longestReport, WroteWithin, LimitsFit, Reported};
+
+// A report: how many bytes it has, and the refusal of the whole book, 0 for none.
+pub struct Report {
+    pub size: usize,
+    pub refused: u32,
+}
+
+// A comma and a number.
+fn put_field(out: &mut [u8], at: usize, n: u64) -> usize
+    requires { ⌜ at + 21 ≤ length (now out) ⌝ }
+    ensures { λ r. ⌜ WroteWithin 21 (now (out .entry)) at (44 ∷ showNumber n) (now (out .exit)) r ⌝ }
+{
+    let next = put_byte(out, at, b',');
+    put_number(out, next, n)
+}
+
+// The end of a line.
+fn put_end(out: &mut [u8], at: usize) -> usize
+    requires { ⌜ at + 2 ≤ length (now out) ⌝ }
+    ensures { λ r. ⌜ WroteWithin 2 (now (out .entry)) at lineEnd (now (out .exit)) r ⌝ }
+{
+    let next = put_byte(out, at, 13);
+    put_byte(out, next, 10)
+}
+
+// A refusal's one line.
+pub fn put_refused(out: &mut [u8], number: u32, line: u64) -> usize
+    requires { ⌜ longestReport ≤ length (now out) ⌝ }
+    ensures { λ r. ⌜ WroteWithin 51 (now (out .entry)) 0 (refusedText number line) (now (out .exit)) r ⌝ }
+{
+    let word = put_text(out, 0, b"refused");
+    let first = put_field(out, word, number as u64);
+    let second = put_field(out, first, line);
+    put_end(out, second)
+}
+
+// A comma, and a level or `below`.
+fn put_rounded(out: &mut [u8], at: usize, level: Level) -> usize
+    requires { ⌜ (levelValue level < 100000) × (at + 7 ≤ length (now out)) ⌝ }
+    ensures { λ r. ⌜ WroteWithin 7 (now (out .entry)) at (44 ∷ levelText level) (now (out .exit)) r ⌝ }
+{
+    let next = put_byte(out, at, b',');
+    match level {
+        Level::BelowZero => put_text(out, next, b"below"),
+        Level::At(n) => put_level(out, next, n),
+    }
+}
+
+// A comma, and `over` or `within`.
+fn put_verdict(out: &mut [u8], at: usize, verdict: Verdict) -> usize
+    requires { ⌜ at + 7 ≤ length (now out) ⌝ }
+    ensures { λ r. ⌜ WroteWithin 7 (now (out .entry)) at (44 ∷ verdictText verdict) (now (out .exit)) r ⌝ }
+{
+    let next = put_byte(out, at, b',');
+    match verdict {
+        Verdict::Within => put_text(out, next, b"within"),
+        Verdict::Over => put_text(out, next, b"over"),
+    }
+}
+
+// A comma, and a limit.
+fn put_limit(out: &mut [u8], at: usize, limit: u32) -> usize
+    requires { ⌜ (limit < 100000) × (at + 7 ≤ length (now out)) ⌝ }
+    ensures { λ r. ⌜ WroteWithin 7 (now (out .entry)) at (44 ∷ showLevel limit) (now (out .exit)) r ⌝ }
+{
+    let next = put_byte(out, at, b',');
+    put_level(out, next, limit)
+}
+
+// What a point has: the rounded level, the limit and the verdict.
+fn put_judged(out: &mut [u8], at: usize, level: Level, limit: u32) -> usize
+    requires { ⌜ (levelValue level < 100000) × (limit < 100000) × (at + 21 ≤ length (now out)) ⌝ }
+    ensures { λ r. ⌜ WroteWithin 21 (now (out .entry)) at ((44 ∷ levelText level) ++ ((44 ∷ showLevel limit) ++ (44 ∷ verdictText (verdictOf level limit)))) (now (out .exit)) r ⌝ }
+{
+    let rounded = put_rounded(out, at, level);
+    let next = put_limit(out, rounded, limit);
+    put_verdict(out, next, level::core::judge(level, limit))
+}
+
+// Movements computed and movements without levels, and the end of the line.
+fn put_totals(out: &mut [u8], at: usize, counts: [Counts; 18]) -> usize
+    requires { ⌜ at + 44 ≤ length (now out) ⌝ }
+    ensures { λ r. ⌜ WroteWithin 44 (now (out .entry)) at ((44 ∷ showNumber (computedIn counts)) ++ ((44 ∷ showNumber (missingIn counts)) ++ lineEnd)) (now (out .exit)) r ⌝ }
+{
+    let totals = added_up(counts);
+    let computed = put_field(out, at, totals.computed);
+    let missing = put_field(out, computed, totals.missing);
+    put_end(out, missing)
+}
+
+// The line of a point.
+fn put_point(out: &mut [u8], at: usize, point: usize, load: Load, limit: u32) -> usize
+    requires { ⌜ (point < 8) × (levelValue (load .level) < 100000) × (limit < 100000) × (at + longestPoint ≤ length (now out)) ⌝ }
+    ensures { λ r. ⌜ WroteWithin longestPoint (now (out .entry)) at (line (pointFields point limit load) ++ lineEnd) (now (out .exit)) r ⌝ }
+{
+    let counts = load.counts;
+    let level = load.level;
+    let number = put_number(out, at, (point + 1) as u64);
+    let judged = put_judged(out, number, level, limit);
+    put_totals(out, judged, counts)
+}
+
+// The header.
+fn put_header(out: &mut [u8]) -> usize
+    requires { ⌜ longestReport ≤ length (now out) ⌝ }
+    ensures { λ r. ⌜ WroteWithin 44 (now (out .entry)) 0 (headerLine ++ lineEnd) (now (out .exit)) r ⌝ }
+{
+    let next = put_text(out, 0, b"point,level,limit,verdict,computed,missing");
+    put_end(out, next)
+}
+
+// The header, and the line of each point.
+fn put_points(
+    out: &mut [u8],
+    ids: &[u32],
+    groups: &[u32],
+    marks: &[u32],
+    levels: &[u32],
+    limits: Limits,
+) -> usize
+    requires { ⌜ LimitsFit limits × (longestReport ≤ length (now out)) ⌝ }
+    ensures { λ r. ⌜ Wrote (now (out .entry)) 0 (pointsText limits (bookOf (now (ids .entry)) (now (groups .entry)) (now (marks .entry)) (now (levels .entry)))) (now (out .exit)) r ⌝ }
+{
+    let points = limits.points as usize;
+    let days = limits.days;
+    let limit = limits.limits;
+    let mut at = put_header(out);
+    let mut point = 0;
+    while point < points {
+        let load = load_at(ids, groups, marks, levels, points, point, days);
+        at = put_point(out, at, point, load, limit[point]);
+        point += 1;
+    }
+    at
+}
+
+// The report of a book, at the front of a buffer.
+pub fn put_report(
+    out: &mut [u8],
+    ids: &[u32],
+    groups: &[u32],
+    marks: &[u32],
+    levels: &[u32],
+    limits: Limits,
+) -> Report
+    requires { ⌜ LimitsFit limits × (longestReport ≤ length (now out)) ⌝ }
+    ensures { λ r. ⌜ Reported limits (bookOf (now (ids .entry)) (now (groups .entry)) (now (marks .entry)) (now (levels .entry))) (now (out .entry)) r (now (out .exit)) ⌝ }
+{
+    let points = limits.points as usize;
+    let first = load_at(ids, groups, marks, levels, points, 0, limits.days);
+    let refused = first.refused;
+    if refused != 0 {
+        let size = put_refused(out, refused, 0);
+        return Report { size, refused };
+    }
+    let size = put_points(out, ids, groups, marks, levels, limits);
+    Report { size, refused }
+}

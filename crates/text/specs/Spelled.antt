@@ -1,0 +1,10 @@
+-- A text spelled as such: its bytes. Every text of ours has plain characters, of one byte each. Assumes nothing.
+use Prim.Native.Nat.{ℕ}
+use Prim.Native.Char.{code}
+use Prim.Native.String as string
+use Prim.Native.String.{String}
+use mathlib.Core.List.{List, [], _∷_}
+
+abbrev pub bytes : String → List ℕ
+bytes string.[] = []
+bytes (string._∷_ c s) = code c ∷ bytes s
