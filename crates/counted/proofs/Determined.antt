@@ -20,7 +20,7 @@ use Rattle.counted.specs.declared.Judged.the-variants.{Refused, Given}
 use Rattle.counted.specs.Verdict.{limitFits, verdictRefusal, refusalNumber, overNumber, judged, judgedOf, bookVerdict, Judging}
 
 -- the answer of a verdict has the number that document 01 gives
-number-of : (n : ℕ) (v : Verdict) → refusalNumber (judged n v) ≡ n
+pub number-of : (n : ℕ) (v : Verdict) → refusalNumber (judged n v) ≡ n
 unfolding judged
 number-of n v = go (eqb n 0) refl
   where

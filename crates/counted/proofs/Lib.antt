@@ -3,5 +3,6 @@ pub mod FactorLaws
 pub mod TallyLaws
 pub mod ListLaws
 pub mod HistoryLaws
-pub mod CountedOnce
 pub mod Determined
+pub mod RefusalLaws
+pub mod CountedOnce
