@@ -5,4 +5,6 @@ pub mod ListLaws
 pub mod HistoryLaws
 pub mod Determined
 pub mod RefusalLaws
+pub mod Brings
+pub mod Formulas
 pub mod CountedOnce

@@ -25,7 +25,7 @@ use Rattle.counted.proofs.Determined.{number-of}
 
 -- The reasons
 
-range-exactly : (p n pt : ℕ) → (sizesFit p n && ltb pt p) ≡ true ↔ InRange p n pt
+pub range-exactly : (p n pt : ℕ) → (sizesFit p n && ltb pt p) ≡ true ↔ InRange p n pt
 unfolding sizesFit
 range-exactly p n pt =
     let b =

@@ -1,5 +1,5 @@
--- When a load and a verdict are refused: document 01, "Refusal numbers", with its own numbers. Each number is given exactly where its reason
--- holds and no earlier one does, so that two reasons exchanged are stopped here.
+-- When a load and a verdict are refused: document 01, "Refusal numbers", with its own numbers. Each number is given
+-- exactly where its reason holds and no earlier one does, so that two reasons exchanged are stopped here.
 -- Assumes nothing.
 use Prim.Native.Nat.{ℕ, _≤_, _<_}
 use mathlib.Core.Path.{_≡_}
