@@ -102,7 +102,7 @@ pub record TotalHolds (v u s : ℕ → ℕ) (total : ℕ) : Type 0 where
   pub known-is : known ≡ sumTo (λ g. cond (ltb 0 (v g)) (v g + u g) 0) 18
   pub unknown : ℕ
   pub unknown-is : unknown ≡ sumTo (λ g. cond (ltb 0 (v g)) 0 (u g)) 18
-  -- total = P·(V+U+W)/(V+U) rounded down (formula 11), P being the sum of what the groups give; 0 where none is computed
+  -- P being the sum of what the groups give, total = P·(V+U+W)/(V+U) rounded down (formula 11); 0 with none computed
   pub total-is : 0 < known → RoundedDown (over (known + unknown) known) (sumTo gives 18) total
   pub empty : known ≡ 0 → total ≡ 0
 
