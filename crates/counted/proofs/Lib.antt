@@ -5,6 +5,7 @@ pub mod ListLaws
 pub mod HistoryLaws
 pub mod Determined
 pub mod RefusalLaws
+pub mod RowRefusals
 pub mod Brings
 pub mod Formulas
 pub mod CountedOnce

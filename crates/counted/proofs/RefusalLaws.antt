@@ -9,7 +9,7 @@ use native.Mathlib.Omega.{arith}
 use lib.ListN.{length, getD}
 use lib.Dec.{eqb, leb, ltb}
 use borrow.Author.Tests.{eqb-true}
-use Rattle.movement.proofs.Exactly.{less, most, both, refused-first, refused-later, not-given}
+use Rattle.movement.proofs.Exactly.{less, most, both, opposite, refused-first, refused-later, not-given}
 use Rattle.refusal.specs.Refuse.{refuse}
 use Rattle.book.specs.History.{Held, Movement, movement, sizesFit, hasLevels}
 use Rattle.book.specs.History.Held.{none, holds}
@@ -65,12 +65,8 @@ pub ten-exactly : (pt : ℕ) (ms : List Movement) → noneComputed (sharesOf pt 
 unfolding noneComputed
 ten-exactly pt ms =
     rw (shares-computed pt ms, shares-count pt ms)
-    (go (both (not (someComputed ms)) (ltb 0 (length ms)) (Iff·trans (turned (someComputed ms)) (none-exactly ms)) (less 0 (length ms))))
+    (go (both (not (someComputed ms)) (ltb 0 (length ms)) (Iff·trans (opposite (someComputed ms)) (none-exactly ms)) (less 0 (length ms))))
   where
-    turned : (t : Bool) → not t ≡ true ↔ t ≡ false
-    turned true = (λ e. absurd (false≢true e), λ e. absurd (false≢true (sym e)))
-    turned false = (λ e. refl, λ e. refl)
-
     go : {t : Bool} → t ≡ true ↔ NoneHeld ms × (0 < length ms) → t ≡ true ↔ NoneComputed ms
     go b = (λ e. record { stand = b .0 e .1; none-held = b .0 e .0 }, λ n. b .1 (n .none-held, n .stand))
 

@@ -6,8 +6,12 @@ use mathlib.Core.Path.{_≡_}
 use mathlib.Core.Logic.{_↔_}
 use mathlib.Core.List.{List}
 use lib.ListN.{length, getD}
+use mathlib.Core.Bool.{true}
+use Rattle.book.specs.Columns.{Book, sound}
 use Rattle.book.specs.History.{Held, Movement, movement}
 use Rattle.book.specs.History.Held.{none}
+use Rattle.counted.specs.Load.{bookLoad}
+use Rattle.counted.specs.Verdict.{refusalNumber, bookVerdict}
 
 -- points 1 to 8, rows 1 to 50,000, and the point asked for is there
 pub record InRange (p n pt : ℕ) : Type 0 where
@@ -44,3 +48,16 @@ pub record VerdictNumbers (fits days limit none : Type 0) (r : ℕ) : Type 0 whe
   pub fifteen : r ≡ 15 ↔ fits × (days × ¬ limit)
   pub ten : r ≡ 10 ↔ fits × (days × (limit × none))
   pub answered : r ≡ 0 ↔ fits × (days × (limit × ¬ none))
+
+-- a row of a book is in use, and none in use is marked computed
+pub record NoneMarked (b : Book) : Type 0 where
+  pub stand : ¬ ((i : ℕ) → i < length (b .identities) → getD (b .identities) i 0 ≡ 0)
+  pub none-marked : (i : ℕ) → i < length (b .identities) → ¬ (getD (b .identities) i 0 ≡ 0) → getD (b .marks) i 0 ≡ 0
+
+-- the refusals of a load and of a verdict at point pt of any book b for p points, by its rows
+pub record BookRefusals (p pt : ℕ) (b : Book) (days : ℕ) : Type 0 where
+  pub load : LoadNumbers ((sound p b ≡ true) × (pt < p)) (DaysInRange days) (NoneMarked b)
+      (bookLoad p pt b days .refused)
+  pub verdict : (limit : ℕ)
+      → VerdictNumbers ((sound p b ≡ true) × (pt < p)) (DaysInRange days) (LimitInRange limit) (NoneMarked b)
+      (refusalNumber (bookVerdict p pt b days limit))

@@ -1,8 +1,8 @@
 -- A test passes exactly if its fact holds, and refusals in their order: each number exactly where its fact fails and every earlier one holds.
 -- Assumes nothing.
 use Prim.Native.Nat.{ℕ, suc, _≤_, _<_}
-use mathlib.Core.Path.{_≡_, refl}
-use mathlib.Core.Bool.{Bool, true, false, _&&_, false≢true}
+use mathlib.Core.Path.{_≡_, refl, sym}
+use mathlib.Core.Bool.{Bool, true, false, not, _&&_, false≢true}
 use mathlib.Core.Logic.{_↔_}
 use native.Mathlib.Nat.{lt-of-not-le, not-le-of-lt}
 use native.Mathlib.Omega.{arith}
@@ -24,6 +24,10 @@ same a b = (eqb-true a b, eq-eqb a b)
 
 pub both : (a b : Bool) {A B : Type 0} → a ≡ true ↔ A → b ≡ true ↔ B → (a && b) ≡ true ↔ A × B
 both a b f g = (λ e. (f .0 (and-left a b e), g .0 (and-right a b e)), λ h. rw (f .1 (h .0), g .1 (h .1)) refl)
+
+pub opposite : (t : Bool) → not t ≡ true ↔ t ≡ false
+opposite true = (λ e. absurd (false≢true e), λ e. absurd (false≢true (sym e)))
+opposite false = (λ e. refl, λ e. refl)
 
 pub not-less : (a b : ℕ) → (¬ (a < b)) ↔ b ≤ a
 not-less a b = (
