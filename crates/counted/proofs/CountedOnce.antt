@@ -4,7 +4,7 @@
 use mathlib.Core.Path.{_≡_, refl, sym, ap, subst, _∙_}
 use mathlib.Core.Bool.{Bool, true, false, cond, not, _&&_}
 use mathlib.Core.List.{List, [], _∷_}
-use Prim.Native.Nat.{ℕ, zero, suc, _+_, _*_, _<_}
+use Prim.Native.Nat.{ℕ, zero, suc, _+_, _*_, _^_, _≤_, _<_}
 use mathlib.Core.Logic.{_↔_}
 use native.Mathlib.Nat.{zero-div}
 use native.Mathlib.Omega.{arith}
@@ -18,7 +18,8 @@ use Rattle.movement.specs.Limits.{groupCount}
 use Rattle.refusal.specs.Refuse.{refuse}
 use Rattle.book.specs.Columns.{Book, sound}
 use Rattle.book.specs.History.{Movement, sizesFit, emptyBook, Made, booked, movements}
-use Rattle.book.proofs.History.{history-sound}
+use Rattle.book.proofs.Standing.{AllGood}
+use Rattle.book.proofs.History.{told-all, history-sound}
 use Rattle.counted.specs.declared.Group.{Group}
 use Rattle.counted.specs.declared.Counts.{Counts}
 use Rattle.counted.specs.declared.Load.{Load}
@@ -38,6 +39,7 @@ use Rattle.counted.proofs.HistoryLaws.{history-shares, history-grouped}
 use Rattle.counted.proofs.Determined.{over-exactly-when}
 use Rattle.counted.proofs.RefusalLaws.{range-exactly, days-exactly, limit-exactly, ten-exactly, load-numbers, verdict-numbers}
 use Rattle.counted.proofs.Formulas.{formulas}
+use Rattle.counted.proofs.TotalBound.{energy-small, total-small, mean-small}
 
 -- The counts of an answer
 
@@ -91,8 +93,14 @@ module _ (pt : ℕ) (ms : List Movement) (days : ℕ) (grouped : AllGrouped (sha
   unfolding generalFactor
   no-total z = energy ∙ never-divided (generalFactor (countsAt a)) _ (none-known z)
 
-  pub answer-counts : CountsEach (answer (tally (sharesOf pt ms)) days) pt ms days
-  answer-counts =
+  fits : (p : ℕ) → AllGood p ms → length ms ≤ 50000 → meanOf (a .total) days < 2 ^ 64
+  fits p good few =
+      let t = total-small (countsAt a) (λ g. energyOfGroup pt g ms) (λ g h. rw (counts-at (tally ss) days g h, list-computed pt g ms) (energy-small p pt g ms good)) in
+      let same = known-same (countsAt a) (counts ss) (counts-at (tally ss) days) in
+      omega (arith, mean-small (a .total) days, energy, same .0, same .1, all-standing ss grouped, shares-count pt ms)
+
+  pub answer-counts : (p : ℕ) → AllGood p ms → length ms ≤ 50000 → CountsEach (answer (tally (sharesOf pt ms)) days) pt ms days
+  answer-counts p good few =
       record {
         computed = λ g h. ap (λ (c : Counts). c .computed) (counts-at (tally ss) days g h) ∙ list-computed pt g ms;
         missing = λ g h. ap (λ (c : Counts). c .missing) (counts-at (tally ss) days g h) ∙ list-missing pt g ms;
@@ -105,6 +113,7 @@ module _ (pt : ℕ) (ms : List Movement) (days : ℕ) (grouped : AllGrouped (sha
         energy = energy;
         formulas = by-formulas;
         level = level;
+        fits = fits p good few;
         no-movement = λ z. (no-total z, rw (level, no-total z, zero-div (86400 * days)) (below-zero 0 (lit< tt)));
       }
 
@@ -168,25 +177,27 @@ module _ (p pt n : ℕ) (cs : List Made) where
   unfolding bookVerdict listVerdict judgedOf judged verdictRefusal
   verdict-afresh days limit = afresh (λ t ss. judgedOf t ss days limit) (λ xs ys. refl)
 
+  refusals : (days : ℕ) → LoadNumbers (InRange p n pt) (DaysInRange days) (NoneComputed (movements p n cs)) (bookLoad p pt book days .refused)
+  unfolding listLoad
+  refusals days =
+      rw (load-afresh days)
+      (load-numbers (sizesFit p n && ltb pt p) (sharesOf pt (movements p n cs)) days (range-exactly p n pt) (days-exactly days) (ten-exactly pt (movements p n cs)))
+
   counts-each : (days : ℕ) → bookLoad p pt book days .refused ≡ 0 → CountsEach (bookLoad p pt book days) pt (movements p n cs) days
   unfolding listLoad
   counts-each days z =
       let ss = sharesOf pt (movements p n cs) in
       let fits = sizesFit p n && ltb pt p in
       let e = load-afresh days ∙ load-answered fits ss days (rw (load-afresh days) at z) in
-      subst (λ (a : Load). CountsEach a pt (movements p n cs) days) (sym e) (answer-counts pt (movements p n cs) days (history-grouped p pt n cs))
+      let room : length (movements p n cs) ≤ 50000 = omega (arith, told-all p n cs .same, refusals days .answered .0 z .0 .rows .1) in
+      subst (λ (a : Load). CountsEach a pt (movements p n cs) days) (sym e)
+      (answer-counts pt (movements p n cs) days (history-grouped p pt n cs) p (told-all p n cs .good) room)
 
   never-refused : (days : ℕ) → sizesFit p n ≡ true → pt < p → daysFit days ≡ true → someComputed (movements p n cs) ≡ true
       → bookLoad p pt book days .refused ≡ 0
   unfolding listLoad loadOf loadRefusal noneComputed answer
   never-refused days sizes there fit some =
       rw (load-afresh days, sizes, lt-ltb pt p there, fit, shares-computed pt (movements p n cs), some) refl
-
-  refusals : (days : ℕ) → LoadNumbers (InRange p n pt) (DaysInRange days) (NoneComputed (movements p n cs)) (bookLoad p pt book days .refused)
-  unfolding listLoad
-  refusals days =
-      rw (load-afresh days)
-      (load-numbers (sizesFit p n && ltb pt p) (sharesOf pt (movements p n cs)) days (range-exactly p n pt) (days-exactly days) (ten-exactly pt (movements p n cs)))
 
   verdict-refusals : (days limit : ℕ)
       → VerdictNumbers (InRange p n pt) (DaysInRange days) (LimitInRange limit) (NoneComputed (movements p n cs)) (refusalNumber (bookVerdict p pt book days limit))

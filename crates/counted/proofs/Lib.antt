@@ -8,4 +8,5 @@ pub mod RefusalLaws
 pub mod RowRefusals
 pub mod Brings
 pub mod Formulas
+pub mod TotalBound
 pub mod CountedOnce

@@ -1,6 +1,6 @@
 -- Demand 3: a load worked afresh from the list of movements, without rows, and what it says of each movement.
 -- Assumes nothing.
-use Prim.Native.Nat.{ℕ, zero, suc, _+_, _*_, _%_, _<_}
+use Prim.Native.Nat.{ℕ, zero, suc, _+_, _*_, _%_, _^_, _<_}
 use mathlib.Core.Path.{_≡_}
 use mathlib.Core.Bool.{Bool, true, false, cond, not, _&&_, _||_}
 use mathlib.Core.List.{List, [], _∷_, _++_}
@@ -122,8 +122,9 @@ pub record CountsEach (a : Load) (pt : ℕ) (ms : List Movement) (days : ℕ) : 
   -- which is document 01's formulas 10 and 11
   pub formulas : TotalHolds (λ g. countsAt a g .computed) (λ g. countsAt a g .missing) (λ g. energyOfGroup pt g ms)
       (a .total)
-  -- its level is that of M, and M is that of the total answered
+  -- its level is that of M, and M is that of the total answered, and of 64 bits, for which levels are told
   pub level : a .level ≡ levelOf (meanOf (a .total) days)
+  pub fits : meanOf (a .total) days < 2 ^ 64
   -- with no movement the total is 0 and the level below zero
   pub no-movement : length ms ≡ 0 → (a .total ≡ 0) × (levelGiven (a .level) ≡ 0)
 
