@@ -9,6 +9,7 @@ use lib.ListN.{length, getD}
 use lib.Dec.{eqb, ltb}
 use Rattle.level.specs.Energy.{energyOf, meanOf}
 use Rattle.level.specs.Level.{levelOf, levelGiven, levelValue}
+use Rattle.level.specs.Neighbours.{Quotient}
 use Rattle.movement.specs.Limits.{groupCount}
 use Rattle.movement.specs.Period.{weightOf}
 use Rattle.movement.specs.Group.{groupPeriod}
@@ -18,7 +19,7 @@ use Rattle.counted.specs.declared.Counts.{Counts}
 use Rattle.counted.specs.declared.Load.{Load}
 use Rattle.counted.specs.declared.Judged.{Judged}
 use Rattle.counted.specs.Shares.{sharesOf}
-use Rattle.counted.specs.Factors.{Fraction, over, whole, times, plus, Equal, RoundedDown, scaledBy}
+use Rattle.counted.specs.Factors.{Fraction, whole, times, plus, Equal, scaledBy}
 use Rattle.counted.specs.Factors.{sumTo, groupFactor, generalFactor}
 use Rattle.counted.specs.Load.{daysFit, loadOf, bookLoad}
 use Rattle.counted.specs.Verdict.{refusalNumber, overNumber, judgedOf, bookVerdict}
@@ -95,7 +96,7 @@ weightTo f (suc n) =
 pub record TotalHolds (v u s : ℕ → ℕ) (total : ℕ) : Type 0 where
   -- a group with V > 0 gives S·(V+U)/V rounded down (formula 10), any other nothing
   pub gives : ℕ → ℕ
-  pub scaled : (g : ℕ) → g < 18 → 0 < v g → RoundedDown (over (v g + u g) (v g)) (s g) (gives g)
+  pub scaled : (g : ℕ) → g < 18 → 0 < v g → Quotient (s g * (v g + u g)) (v g) (gives g)
   pub nothing : (g : ℕ) → g < 18 → v g ≡ 0 → gives g ≡ 0
   -- V and U summed over the groups with V > 0, and W, the U of the others
   pub known : ℕ
@@ -103,7 +104,7 @@ pub record TotalHolds (v u s : ℕ → ℕ) (total : ℕ) : Type 0 where
   pub unknown : ℕ
   pub unknown-is : unknown ≡ sumTo (λ g. cond (ltb 0 (v g)) 0 (u g)) 18
   -- P being the sum of what the groups give, total = P·(V+U+W)/(V+U) rounded down (formula 11); 0 with none computed
-  pub total-is : 0 < known → RoundedDown (over (known + unknown) known) (sumTo gives 18) total
+  pub total-is : 0 < known → Quotient (sumTo gives 18 * (known + unknown)) known total
   pub empty : known ≡ 0 → total ≡ 0
 
 -- what an answered load over these days says of the movements that stand
