@@ -4,18 +4,22 @@
 use mathlib.Core.Path.{_≡_, refl, sym, ap, subst, _∙_}
 use mathlib.Core.Bool.{Bool, true, false, cond, not, _&&_}
 use mathlib.Core.List.{List, [], _∷_}
-use Prim.Native.Nat.{ℕ, zero, suc, _+_, _*_, _<_}
+use Prim.Native.Nat.{ℕ, zero, suc, _+_, _*_, _^_, _≤_, _<_}
+use mathlib.Core.Logic.{_↔_}
 use native.Mathlib.Nat.{zero-div}
 use native.Mathlib.Omega.{arith}
-use lib.ListN.{length, getD}
-use lib.Dec.{eqb, ltb}
+use lib.ListN.{length, getD, replicate}
+use lib.Dec.{eqb, ltb, lit<}
 use borrow.Author.Tests.{eqb-true, eqb-false, ltb-true, lt-ltb}
+use Rattle.level.specs.Energy.{meanOf}
 use Rattle.level.specs.Level.{levelOf}
+use Rattle.level.proofs.Promises.{below-zero}
 use Rattle.movement.specs.Limits.{groupCount}
 use Rattle.refusal.specs.Refuse.{refuse}
 use Rattle.book.specs.Columns.{Book, sound}
 use Rattle.book.specs.History.{Movement, sizesFit, emptyBook, Made, booked, movements}
-use Rattle.book.proofs.History.{history-sound}
+use Rattle.book.proofs.Standing.{AllGood}
+use Rattle.book.proofs.History.{told-all, history-sound}
 use Rattle.counted.specs.declared.Group.{Group}
 use Rattle.counted.specs.declared.Counts.{Counts}
 use Rattle.counted.specs.declared.Load.{Load}
@@ -24,13 +28,18 @@ use Rattle.counted.specs.Shares.{Share, anyComputed, sharesOf, bookShare
 use Rattle.counted.specs.Tally.{sumOf, tally, listFrom}
 use Rattle.counted.specs.Factors.{sumTo, scaledBy, known, unknown, knownSum, unknownSum, groupFactor, generalFactor}
 use Rattle.counted.specs.Load.{countsOf, scaledEnergy, scaledSum, totalOf, daysFit, noneComputed, loadRefusal, answer, refusedLoad, loadOf, bookLoad}
-use Rattle.counted.specs.Verdict.{verdictRefusal, judged, judgedOf, bookVerdict}
-use Rattle.counted.specs.Afresh.{listLoad, listVerdict, someComputed, computedIn, missingIn, energyOfGroup, countsAt, CountsEach, EachCountedOnce}
+use Rattle.counted.specs.Verdict.{verdictRefusal, refusalNumber, judged, judgedOf, bookVerdict}
+use Rattle.counted.specs.Refusals.{InRange, DaysInRange, LimitInRange, NoneComputed, LoadNumbers, VerdictNumbers}
+use Rattle.counted.specs.Afresh.{listLoad, listVerdict, someComputed, computedIn, missingIn, energyOfGroup, countsAt, TotalHolds, CountsEach, Alone, EachCountedOnce}
 use Rattle.counted.proofs.SumLaws.{sum-ext}
-use Rattle.counted.proofs.FactorLaws.{known-same, general-same, weights-all}
+use Rattle.counted.proofs.FactorLaws.{never-divided, known-same, general-same, weights-all}
 use Rattle.counted.proofs.TallyLaws.{counts, AllGrouped, counted-all, all-standing, some-known}
 use Rattle.counted.proofs.ListLaws.{shares-count, shares-computed, list-computed, list-missing, list-energy}
 use Rattle.counted.proofs.HistoryLaws.{history-shares, history-grouped}
+use Rattle.counted.proofs.Determined.{over-exactly-when}
+use Rattle.counted.proofs.RefusalLaws.{range-exactly, days-exactly, limit-exactly, ten-exactly, load-numbers, verdict-numbers}
+use Rattle.counted.proofs.Formulas.{formulas}
+use Rattle.counted.proofs.TotalBound.{energy-small, total-small, mean-small}
 
 -- The counts of an answer
 
@@ -69,8 +78,29 @@ module _ (pt : ℕ) (ms : List Movement) (days : ℕ) (grouped : AllGrouped (sha
       (ap (scaledBy (generalFactor (counts ss)))
       (sum-ext _ _ groupCount (λ g h. rw (counts-at (tally ss) days g h, list-energy pt g ms) refl)))
 
-  pub answer-counts : CountsEach (answer (tally (sharesOf pt ms)) days) pt ms
-  answer-counts =
+  by-formulas : TotalHolds (λ g. countsAt a g .computed) (λ g. countsAt a g .missing) (λ g. energyOfGroup pt g ms) (a .total)
+  by-formulas = rw energy (formulas (countsAt a) (λ g. energyOfGroup pt g ms))
+
+  level : a .level ≡ levelOf (meanOf (a .total) days)
+  unfolding answer
+  level = refl
+
+  none-known : length ms ≡ 0 → knownSum (countsAt a) ≡ 0
+  none-known z =
+      omega (arith, known-same (countsAt a) (counts ss) (counts-at (tally ss) days) .0, all-standing ss grouped, shares-count pt ms)
+
+  no-total : length ms ≡ 0 → a .total ≡ 0
+  unfolding generalFactor
+  no-total z = energy ∙ never-divided (generalFactor (countsAt a)) _ (none-known z)
+
+  fits : (p : ℕ) → AllGood p ms → length ms ≤ 50000 → meanOf (a .total) days < 2 ^ 64
+  fits p good few =
+      let t = total-small (countsAt a) (λ g. energyOfGroup pt g ms) (λ g h. rw (counts-at (tally ss) days g h, list-computed pt g ms) (energy-small p pt g ms good)) in
+      let same = known-same (countsAt a) (counts ss) (counts-at (tally ss) days) in
+      omega (arith, mean-small (a .total) days, energy, same .0, same .1, all-standing ss grouped, shares-count pt ms)
+
+  pub answer-counts : (p : ℕ) → AllGood p ms → length ms ≤ 50000 → CountsEach (answer (tally (sharesOf pt ms)) days) pt ms days
+  answer-counts p good few =
       record {
         computed = λ g h. ap (λ (c : Counts). c .computed) (counts-at (tally ss) days g h) ∙ list-computed pt g ms;
         missing = λ g h. ap (λ (c : Counts). c .missing) (counts-at (tally ss) days g h) ∙ list-missing pt g ms;
@@ -81,6 +111,10 @@ module _ (pt : ℕ) (ms : List Movement) (days : ℕ) (grouped : AllGrouped (sha
             let n : knownSum (countsAt a) + unknownSum (countsAt a) ≡ length ms = omega (arith, same .0, same .1, all-standing ss grouped, shares-count pt ms) in
             rw (← n) (weights-all (countsAt a) (omega (arith, same .0)));
         energy = energy;
+        formulas = by-formulas;
+        level = level;
+        fits = fits p good few;
+        no-movement = λ z. (no-total z, rw (level, no-total z, zero-div (86400 * days)) (below-zero 0 (lit< tt)));
       }
 
 -- a load that is not refused is an answer
@@ -95,6 +129,29 @@ load-answered fits ss days = go (eqb n 0) refl
         → cond t (answer (tally ss) days) (refusedLoad n) ≡ answer (tally ss) days
     go true e z = refl
     go false e z = absurd (eqb-false n 0 e z)
+
+-- and one that is refused has its number alone
+repeated-at : {A : Type 0} (n g : ℕ) (d : A) → getD (replicate n d) g d ≡ d
+repeated-at zero g d = refl
+repeated-at (suc n) zero d = refl
+repeated-at (suc n) (suc g) d = repeated-at n g d
+
+load-alone : (fits : Bool) (shares : List Share) (days : ℕ) → ¬ (loadOf fits shares days .refused ≡ 0) → Alone (loadOf fits shares days)
+unfolding loadOf answer refusedLoad
+load-alone fits shares days = go (eqb n 0) refl
+  where
+    n : ℕ
+    n = loadRefusal fits shares days
+
+    go : (t : Bool) → eqb n 0 ≡ t → ¬ (cond t (answer (tally shares) days) (refusedLoad n) .refused ≡ 0)
+        → Alone (cond t (answer (tally shares) days) (refusedLoad n))
+    go true e z = absurd (z refl)
+    go false e z =
+        record {
+          total = refl;
+          level = refl;
+          counts = λ g h. let c = repeated-at {A = Counts} groupCount g (record { computed = 0; missing = 0 }) in (ap (λ (x : Counts). x .computed) c, ap (λ (x : Counts). x .missing) c);
+        }
 
 -- After any calls on an empty book of n rows and p points
 
@@ -120,13 +177,21 @@ module _ (p pt n : ℕ) (cs : List Made) where
   unfolding bookVerdict listVerdict judgedOf judged verdictRefusal
   verdict-afresh days limit = afresh (λ t ss. judgedOf t ss days limit) (λ xs ys. refl)
 
-  counts-each : (days : ℕ) → bookLoad p pt book days .refused ≡ 0 → CountsEach (bookLoad p pt book days) pt (movements p n cs)
+  refusals : (days : ℕ) → LoadNumbers (InRange p n pt) (DaysInRange days) (NoneComputed (movements p n cs)) (bookLoad p pt book days .refused)
+  unfolding listLoad
+  refusals days =
+      rw (load-afresh days)
+      (load-numbers (sizesFit p n && ltb pt p) (sharesOf pt (movements p n cs)) days (range-exactly p n pt) (days-exactly days) (ten-exactly pt (movements p n cs)))
+
+  counts-each : (days : ℕ) → bookLoad p pt book days .refused ≡ 0 → CountsEach (bookLoad p pt book days) pt (movements p n cs) days
   unfolding listLoad
   counts-each days z =
       let ss = sharesOf pt (movements p n cs) in
       let fits = sizesFit p n && ltb pt p in
       let e = load-afresh days ∙ load-answered fits ss days (rw (load-afresh days) at z) in
-      subst (λ (a : Load). CountsEach a pt (movements p n cs)) (sym e) (answer-counts pt (movements p n cs) days (history-grouped p pt n cs))
+      let room : length (movements p n cs) ≤ 50000 = omega (arith, told-all p n cs .same, refusals days .answered .0 z .0 .rows .1) in
+      subst (λ (a : Load). CountsEach a pt (movements p n cs) days) (sym e)
+      (answer-counts pt (movements p n cs) days (history-grouped p pt n cs) p (told-all p n cs .good) room)
 
   never-refused : (days : ℕ) → sizesFit p n ≡ true → pt < p → daysFit days ≡ true → someComputed (movements p n cs) ≡ true
       → bookLoad p pt book days .refused ≡ 0
@@ -134,9 +199,29 @@ module _ (p pt n : ℕ) (cs : List Made) where
   never-refused days sizes there fit some =
       rw (load-afresh days, sizes, lt-ltb pt p there, fit, shares-computed pt (movements p n cs), some) refl
 
+  verdict-refusals : (days limit : ℕ)
+      → VerdictNumbers (InRange p n pt) (DaysInRange days) (LimitInRange limit) (NoneComputed (movements p n cs)) (refusalNumber (bookVerdict p pt book days limit))
+  unfolding listVerdict
+  verdict-refusals days limit =
+      rw (verdict-afresh days limit)
+      (verdict-numbers (sizesFit p n && ltb pt p) (sharesOf pt (movements p n cs)) days (range-exactly p n pt) (days-exactly days) (ten-exactly pt (movements p n cs)) limit (limit-exactly limit))
+
+  alone : (days : ℕ) → ¬ (bookLoad p pt book days .refused ≡ 0) → Alone (bookLoad p pt book days)
+  unfolding bookLoad
+  alone days = load-alone (sound p book && ltb pt p) (bookShares p pt book) days
+
   pub counted-once : (days : ℕ) → EachCountedOnce p n pt cs days
   counted-once days =
-      record { afresh = load-afresh days; verdict = verdict-afresh days; answered = never-refused days; counts = counts-each days }
+      record {
+        afresh = load-afresh days;
+        verdict = verdict-afresh days;
+        answered = never-refused days;
+        counts = counts-each days;
+        refusals = refusals days;
+        alone = alone days;
+        verdict-refusals = verdict-refusals days;
+        over = λ limit. over-exactly-when p pt book days limit;
+      }
 
 -- a book with no movement: total 0, and below zero
 pub no-movement : (days : ℕ) → daysFit days ≡ true → loadOf true [] days ≡ refusedLoad 0

@@ -3,12 +3,15 @@
 use mathlib.Core.Path.{_≡_, refl, sym, ap, _∙_}
 use mathlib.Core.Bool.{Bool, true, false, cond, not, _&&_}
 use mathlib.Core.List.{List}
-use Prim.Native.Nat.{ℕ}
+use Prim.Native.Nat.{ℕ, _<_}
+use mathlib.Core.Logic.{_↔_}
 use native.Mathlib.Omega.{arith}
 use lib.Dec.{eqb, ltb}
-use borrow.Author.Tests.{eqb-true}
+use borrow.Author.Tests.{eqb-true, eqb-false}
+use Rattle.level.specs.declared.Level.{Level}
 use Rattle.level.specs.declared.Verdict.{Verdict}
-use Rattle.level.specs.Level.{verdictOf, verdictNumber}
+use Rattle.level.specs.Level.{levelGiven, levelValue, verdictOf, verdictNumber}
+use Rattle.level.proofs.Neighbours.{by-neighbours}
 use Rattle.refusal.specs.Refuse.{refuse}
 use Rattle.book.specs.Columns.{Book, sound}
 use Rattle.counted.specs.declared.Load.{Load}
@@ -20,7 +23,7 @@ use Rattle.counted.specs.declared.Judged.the-variants.{Refused, Given}
 use Rattle.counted.specs.Verdict.{limitFits, verdictRefusal, refusalNumber, overNumber, judged, judgedOf, bookVerdict, Judging}
 
 -- the answer of a verdict has the number that document 01 gives
-number-of : (n : ℕ) (v : Verdict) → refusalNumber (judged n v) ≡ n
+pub number-of : (n : ℕ) (v : Verdict) → refusalNumber (judged n v) ≡ n
 unfolding judged
 number-of n v = go (eqb n 0) refl
   where
@@ -72,6 +75,25 @@ judging {p} {pt} {b} {days} {limit} {r} e =
       over = rw e (over-level (sound p b && ltb pt p) (bookShares p pt b) days limit);
       answer = e;
     }
+
+-- over exactly if a verdict is given and the load's level is, and is greater than the limit
+pub over-exactly-when : (p pt : ℕ) (b : Book) (days limit : ℕ)
+    → overNumber (bookVerdict p pt b days limit) ≡ 1
+    ↔ (refusalNumber (bookVerdict p pt b days limit) ≡ 0) × (levelGiven (bookLoad p pt b days .level) ≡ 1) × (limit < levelValue (bookLoad p pt b days .level))
+over-exactly-when p pt b days limit = go (eqb (refusalNumber r) 0) refl (judging {r = r} refl .over)
+  where
+    r : Judged
+    r = bookVerdict p pt b days limit
+
+    l : Level
+    l = bookLoad p pt b days .level
+
+    go : (t : Bool) → eqb (refusalNumber r) 0 ≡ t → overNumber r ≡ cond t (verdictNumber (verdictOf l limit)) 0
+        → overNumber r ≡ 1 ↔ (refusalNumber r ≡ 0) × (levelGiven l ≡ 1) × (limit < levelValue l)
+    go true e o =
+        let w = by-neighbours .over l limit in
+        (λ h. let h' = w .0 (sym o ∙ h) in (eqb-true _ 0 e, h' .0, h' .1), λ h. o ∙ w .1 (h .1, h .2))
+    go false e o = (λ h. absurd (omega arith), λ h. absurd (eqb-false _ 0 e (h .0)))
 
 pub same-load : (p pt : ℕ) (b : Book) (days : ℕ) (r s : Load) → r ≡ bookLoad p pt b days → s ≡ bookLoad p pt b days → r ≡ s
 same-load p pt b days r s e f = e ∙ sym f

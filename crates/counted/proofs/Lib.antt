@@ -3,5 +3,10 @@ pub mod FactorLaws
 pub mod TallyLaws
 pub mod ListLaws
 pub mod HistoryLaws
-pub mod CountedOnce
 pub mod Determined
+pub mod RefusalLaws
+pub mod RowRefusals
+pub mod Brings
+pub mod Formulas
+pub mod TotalBound
+pub mod CountedOnce

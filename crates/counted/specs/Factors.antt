@@ -1,4 +1,5 @@
--- Fractions of whole numbers, and the two factors of a load as fractions: document 01, "Energy and load". Both the load and demand 3 use these.
+-- Fractions of whole numbers, and the two factors of a load as fractions: document 01, "Energy and load".
+-- Both the load and demand 3 use these.
 -- Assumes nothing.
 use Prim.Native.Nat.{ℕ, zero, suc, _+_, _*_, _/_, _≤_, _<_}
 use mathlib.Core.Path.{_≡_}

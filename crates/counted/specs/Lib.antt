@@ -3,4 +3,5 @@ pub mod Tally
 pub mod Factors
 pub mod Load
 pub mod Verdict
+pub mod Refusals
 pub mod Afresh

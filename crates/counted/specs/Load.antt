@@ -51,12 +51,22 @@ loadRefusal fits ss days = refuse 9 fits (refuse 11 (daysFit days) (refuse 10 (n
 -- total, level, and V and U of each group
 unfoldable pub answer : (ℕ → Group) → ℕ → Load
 answer f days =
-    record { refused = 0; total = totalOf f; level = levelOf (meanOf (totalOf f) days); counts = listFrom (λ g. countsOf (f g)) 0 groupCount }
+    record {
+      refused = 0;
+      total = totalOf f;
+      level = levelOf (meanOf (totalOf f) days);
+      counts = listFrom (λ g. countsOf (f g)) 0 groupCount;
+    }
 
 -- a refusal's number alone
 unfoldable pub refusedLoad : ℕ → Load
 refusedLoad n =
-    record { refused = n; total = 0; level = BelowZero; counts = replicate groupCount (record { computed = 0; missing = 0 }) }
+    record {
+      refused = n;
+      total = 0;
+      level = BelowZero;
+      counts = replicate groupCount (record { computed = 0; missing = 0 });
+    }
 
 unfoldable pub loadOf : Bool → List Share → ℕ → Load
 loadOf fits ss days =

@@ -1,4 +1,5 @@
--- What each movement brings to a point: its group, and its energy there or none. From the rows of a book, and from the list of movements.
+-- What each movement brings to a point: its group, and its energy there or none.
+-- From the rows of a book, and from the list of movements.
 -- Assumes nothing.
 use Prim.Native.Nat.{ℕ, zero, suc, _+_, _*_}
 use mathlib.Core.Bool.{Bool, true, false, cond}
@@ -46,7 +47,9 @@ rowShare x g m l = cond (eqb x 0) [] (cond (eqb m 0) (lacks g) (has g (energyIn 
 unfoldable pub sharesTo : ℕ → ℕ → Book → ℕ → List Share
 sharesTo p pt b zero = []
 sharesTo p pt b (suc n) =
-    sharesTo p pt b n ++ rowShare (getD (b .identities) n 0) (getD (b .groups) n 0) (getD (b .marks) n 0) (getD (b .levels) (n * p + pt) 0)
+    sharesTo p pt b n
+    ++ rowShare (getD (b .identities) n 0) (getD (b .groups) n 0) (getD (b .marks) n 0)
+    (getD (b .levels) (n * p + pt) 0)
 
 unfoldable pub bookShares : ℕ → ℕ → Book → List Share
 bookShares p pt b = sharesTo p pt b (length (b .identities))

@@ -39,7 +39,8 @@ unfoldable pub judged : ℕ → Verdict → Judged
 judged n v = cond (eqb n 0) (Given v) (Refused n)
 
 unfoldable pub judgedOf : Bool → List Share → ℕ → ℕ → Judged
-judgedOf fits ss days limit = judged (verdictRefusal fits ss days limit) (verdictOf (answer (tally ss) days .level) limit)
+judgedOf fits ss days limit =
+    judged (verdictRefusal fits ss days limit) (verdictOf (answer (tally ss) days .level) limit)
 
 -- the verdict at point pt of a book with p points
 unfoldable pub bookVerdict : ℕ → ℕ → Book → ℕ → ℕ → Judged
@@ -48,5 +49,6 @@ bookVerdict p pt b days limit = judgedOf (sound p b && ltb pt p) (bookShares p p
 -- what the call for a verdict promises of its answer r
 pub record Judging (p pt : ℕ) (b : Book) (days limit : ℕ) (r : Judged) : Type 0 where
   pub number : refusalNumber r ≡ verdictRefusal (sound p b && ltb pt p) (bookShares p pt b) days limit
-  pub over : overNumber r ≡ cond (eqb (refusalNumber r) 0) (verdictNumber (verdictOf (bookLoad p pt b days .level) limit)) 0
+  pub over : overNumber r
+      ≡ cond (eqb (refusalNumber r) 0) (verdictNumber (verdictOf (bookLoad p pt b days .level) limit)) 0
   pub answer : r ≡ bookVerdict p pt b days limit

@@ -1,5 +1,6 @@
-// What a load is made of and what it answers: document 01, "Energy and load". The rules stand in specs/, and in proofs/ that every movement is
-// counted once (demand 3). There is no code here but the types: the crate `load` has the functions.
+// What a load is made of and what it answers: document 01, "Energy and load". The rules stand in specs/, and in
+// proofs/ that every movement is counted once (demand 3). There is no code here but the types: the crate `load` has
+// the functions.
 
 // V, U and S of a group: its movements computed and not, and the energy of the computed ones.
 pub struct Group {
@@ -17,7 +18,8 @@ pub struct Counts {
     pub missing: u32,
 }
 
-// A load: a refusal's number, and zeros with it, or 0 with the total energy, the level, and V and U of each group by its number.
+// A load: a refusal's number, and zeros with it, or 0 with the total energy, the level, and V and U of each group by
+// its number.
 pub struct Load {
     pub refused: u32,
     pub total: u64,

@@ -3,16 +3,15 @@
 use mathlib.Core.Path.{_≡_, refl, sym, ap, _∙_}
 use mathlib.Core.Bool.{Bool, true, false, cond, _&&_, true≢false}
 use mathlib.Core.Logic.{⊎-elim}
-use Prim.Native.Nat.{ℕ, zero, suc, _+_, _≤_, _<_}
+use Prim.Native.Nat.{ℕ, zero, suc, _+_, _^_, _≤_, _<_}
 use native.Mathlib.Nat.{eq-or-lt-of-le}
 use native.Mathlib.Omega.{arith}
 use lib.Dec.{eqb, leb, ltb}
 use borrow.Author.Tests.{le-leb, leb-true, leb-false, le-ltb, lt-ltb}
 use Rattle.level.specs.declared.Level.{Level}
 use Rattle.level.specs.declared.Level.the-variants.{BelowZero, At}
-use Rattle.level.specs.Limits.{maxMean}
 use Rattle.level.specs.Level.{levelGiven, levelValue, verdictNumber, bound, firstFrom, levelOf, verdictOf}
-use Rattle.level.proofs.LevelLaws.{bound-mono, bound-top}
+use Rattle.level.proofs.LevelLaws.{bound-last}
 
 -- the number found passes the test, where some number that is tried does
 first-passes : (test : ℕ → Bool) (i f k : ℕ) → i ≤ k → k < i + f → test k ≡ true → test (firstFrom test i f) ≡ true
@@ -40,20 +39,20 @@ pub below-zero : (m : ℕ) → m < 1000 → levelGiven (levelOf m) ≡ 0
 unfolding levelOf
 below-zero m h = rw (lt-ltb m 1000 h) refl
 
--- any other has a level: the smallest n with m ≤ bound n
+-- any other of 64 bits has a level: the smallest n with m ≤ bound n
 pub record Smallest (m : ℕ) (l : Level) : Type 0 where
   pub given : levelGiven l ≡ 1
   pub reaches : m ≤ bound (levelValue l)
   pub no-smaller : (j : ℕ) → j < levelValue l → bound j < m
 
-pub smallest : (m : ℕ) → 1000 ≤ m → m ≤ maxMean → Smallest m (levelOf m)
+pub smallest : (m : ℕ) → 1000 ≤ m → m < 2 ^ 64 → Smallest m (levelOf m)
 unfolding levelOf
 smallest m lo hi =
     let test : ℕ → Bool = λ n. leb m (bound n) in
     rw (le-ltb m 1000 lo)
     (record {
       given = refl;
-      reaches = leb-true m _ (first-passes test 0 20000 13999 (omega arith) (omega arith) (le-leb m (bound 13999) (omega (arith, bound-top))));
+      reaches = leb-true m _ (first-passes test 0 20000 19999 (omega arith) (omega arith) (le-leb m (bound 19999) (omega (arith, bound-last))));
       no-smaller = λ j l. leb-false m (bound j) (first-misses test 0 20000 j (omega arith) l);
     })
 

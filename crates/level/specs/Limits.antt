@@ -1,4 +1,4 @@
--- How large the numbers of a load may be: proved for more movements than a book holds, so that a larger book needs nothing new here.
+-- How large the numbers of a load may be: for more movements than a book holds, so a larger book needs nothing new.
 -- Assumes nothing.
 use Prim.Native.Nat.{ℕ, _*_, _/_, _^_}
 

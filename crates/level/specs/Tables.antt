@@ -1,11 +1,16 @@
 -- The two tables of document 01, "Energy and load", by their rules.
 -- Assumes nothing.
-use Prim.Native.Nat.{ℕ, zero, suc, _+_, _*_, _^_, _<_}
+use Prim.Native.Nat.{ℕ, zero, suc, _+_, _*_, _^_, _≤_, _<_}
 use mathlib.Core.Path.{_≡_}
 use mathlib.Core.List.{List}
 use mathlib.Core.Bool.{cond}
 use lib.Dec.{leb}
 use lib.ListN.{getD}
+
+-- x is the largest whole number whose p-th power is at most v: its own is, and that of the next is not
+pub record Root (p v x : ℕ) : Type 0 where
+  pub low : x ^ p ≤ v
+  pub high : v < suc x ^ p
 
 -- the largest x up to n with x ^ p at most v
 unfoldable pub largestUpTo : ℕ → ℕ → ℕ → ℕ

@@ -48,7 +48,7 @@ fn bound_at(b: &[u64; 1000], powers: &[u64; 14], n: u32) -> u64
     if q < 3 {
         b[k] * powers[q] / 1000
     } else {
-        b[k] * powers[q - 3]
+        b[k] * (powers[q] / 1000)
     }
 }
 

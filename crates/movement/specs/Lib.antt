@@ -3,4 +3,5 @@ pub mod Group
 pub mod Kind
 pub mod Limits
 pub mod Period
+pub mod Ranges
 pub mod Rules

@@ -7,13 +7,15 @@ use lib.ListN.{length}
 use lib.Dec.{ltb, leb, eqb}
 use Rattle.refusal.specs.Range.{allWithin}
 use Rattle.refusal.specs.Refuse.{refuse}
-use Rattle.movement.specs.Limits.{typeCount, kindCount, secondsADay, maxMass, massNotCounted, maxIdentity, maxLevel}
+use Rattle.movement.specs.Limits.{typeCount, kindCount, secondsADay, maxMass, massNotCounted}
+use Rattle.movement.specs.Limits.{maxIdentity, maxLevel}
 use Rattle.movement.specs.Aircraft.{aircraftNumbered, massFits}
 
 -- rule 1: type, kind, time and mass in their ranges, and no small movement of 6,000 kg or more
 unfoldable pub fieldsFit : (type kind second mass : ℕ) → Bool
 fieldsFit type kind second mass =
-    ((ltb type typeCount && ltb kind kindCount) && (ltb second secondsADay && leb mass maxMass)) && massFits (aircraftNumbered type) mass
+    ((ltb type typeCount && ltb kind kindCount) && (ltb second secondsADay && leb mass maxMass))
+    && massFits (aircraftNumbered type) mass
 
 -- rule 2: a movement counts only if its mass is more than 150 kg
 unfoldable pub counts : (mass : ℕ) → Bool

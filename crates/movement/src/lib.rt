@@ -1,4 +1,5 @@
-// An aircraft movement: document 01, "Movements and the book". Its type, kind and period, its group, its weight, and the rules that judge it (1, 2, 3 and 7).
+// An aircraft movement: document 01, "Movements and the book". Its type, kind and period, its group, its weight, and
+// the rules that judge it (1, 2, 3 and 7).
 pub mod aircraft;
 pub mod core;
 pub mod kind;

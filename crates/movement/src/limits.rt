@@ -1,5 +1,5 @@
-// The ranges of document 01, "Numbers and sizes" and "Movements and the book", in one place. specs/Limits.antt has each again, for the contracts:
-// the prover refuses any use of one that differs from the other.
+// The ranges of document 01, "Numbers and sizes" and "Movements and the book", in one place. specs/Limits.antt has
+// each again, for the contracts: the prover refuses any use of one that differs from the other.
 
 // Rows of a book, and points.
 pub const MAX_ROWS: usize = 50_000;
