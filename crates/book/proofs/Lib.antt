@@ -1,7 +1,7 @@
 -- Laws. `Scans` and `Search` serve the loops that read a column; `Shapes` and `RowFacts` say what
 -- soundness gives; `Accepted` is about one call; `Blocks`, `Standing`, `Reading` and `Steps` tie rows to the list of movements; `Kept`: calls keep a book
 -- sound; `Rooms`: what a call's rows may rely on;
--- `History` has the theorem, and `Folds` the same for any sum.
+-- `History` has the theorem.
 pub mod Scans
 pub mod Search
 pub mod Shapes
@@ -14,4 +14,3 @@ pub mod Steps
 pub mod Kept
 pub mod Rooms
 pub mod History
-pub mod Folds
