@@ -14,3 +14,4 @@ pub mod Steps
 pub mod Kept
 pub mod Rooms
 pub mod History
+pub mod SoundBook
