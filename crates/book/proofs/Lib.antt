@@ -15,3 +15,6 @@ pub mod Kept
 pub mod Rooms
 pub mod History
 pub mod SoundBook
+pub mod Chain
+pub mod Order
+pub mod Lookup

@@ -70,7 +70,7 @@ pairs-rise (x ∷ (y ∷ ys)) h =
 
 -- One row
 
-all-within : (top : ℕ) (ls : List ℕ) → ((j : ℕ) → j < length ls → getD ls j 0 ≤ top) → allWithin top ls ≡ true
+pub all-within : (top : ℕ) (ls : List ℕ) → ((j : ℕ) → j < length ls → getD ls j 0 ≤ top) → allWithin top ls ≡ true
 unfolding allWithin
 all-within top [] h = refl
 all-within top (l ∷ ls) h = rw (le-leb l top (h 0 (omega arith))) (all-within top ls (λ j k. h (suc j) (omega arith)))
