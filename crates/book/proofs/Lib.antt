@@ -18,3 +18,4 @@ pub mod SoundBook
 pub mod Chain
 pub mod Order
 pub mod Lookup
+pub mod Outcome

@@ -140,19 +140,26 @@ stands-found x p (y ∷ ys) gs ms ls = by (eqb y x) (stands-found x p ys (drop 1
     by true ih = lt-ltb 0 (suc (length ys)) (omega arith)
     by false ih = leb·suc-suc (suc (firstAt at ys)) (length ys) ∙ ih
 
+found-none : (r : Row) → isFound r ≡ false → r ≡ nowhere
+unfolding isFound
+found-none nowhere e = refl
+found-none (row g m ls) e = absurd (true≢false e)
+
 found-decides : (r : Row) → Decides (isFound r) (r ≡ nowhere)
 unfolding isFound
-found-decides r = decides (isFound r) (λ e z. true≢false (sym e ∙ ap isFound z)) (none r)
-  where
-    none : (r : Row) → isFound r ≡ false → r ≡ nowhere
-    none nowhere e = refl
-    none (row g m ls) e = absurd (true≢false e)
+found-decides r = decides (isFound r) (λ e z. true≢false (sym e ∙ ap isFound z)) (found-none r)
 
 stands-decides : (x p : ℕ) (b : Book) → Decides (stands x (b .identities)) (found x p b ≡ nowhere)
 stands-decides x p b =
     let e = stands-found x p (b .identities) (b .groups) (b .marks) (b .levels) in
     let d = found-decides (found x p b) in
     record { fails = λ h. e ∙ d .fails h; passes = λ n. e ∙ d .passes n }
+
+pub not-standing : (x p : ℕ) (b : Book) → stands x (b .identities) ≡ false → found x p b ≡ nowhere
+not-standing x p b e = found-none (found x p b) (sym (stands-found x p (b .identities) (b .groups) (b .marks) (b .levels)) ∙ e)
+
+pub standing-found : (x p : ℕ) (b : Book) → stands x (b .identities) ≡ true → found x p b ≡ nowhere → ⊥
+standing-found x p b e z = true≢false (sym e ∙ stands-decides x p b .fails z)
 
 new-decides : (x p : ℕ) (b : Book) → Decides (not (stands x (b .identities))) (found x p b ≡ nowhere → ⊥)
 new-decides x p b = turned (stands x (b .identities)) (stands-decides x p b)

@@ -6,4 +6,5 @@ pub mod Reasons
 pub mod SoundBook
 pub mod Lookup
 pub mod Order
+pub mod Outcome
 pub mod Chain
