@@ -31,11 +31,11 @@ use Rattle.book.proofs.SoundBook.{sound-exactly, all-within}
 -- A test and the reason that it fails for
 
 -- the test fails exactly for this reason
-record Decides (ok : Bool) (Reason : Type 0) : Type 0 where
-  fails : Reason → ok ≡ false
-  passes : (Reason → ⊥) → ok ≡ true
+pub record Decides (ok : Bool) (Reason : Type 0) : Type 0 where
+  pub fails : Reason → ok ≡ false
+  pub passes : (Reason → ⊥) → ok ≡ true
 
-decides : {Reason : Type 0} (ok : Bool) → (ok ≡ true → Reason → ⊥) → (ok ≡ false → Reason) → Decides ok Reason
+pub decides : {Reason : Type 0} (ok : Bool) → (ok ≡ true → Reason → ⊥) → (ok ≡ false → Reason) → Decides ok Reason
 decides true never known = record { fails = λ r. absurd (never refl r); passes = λ _. refl }
 decides false never known = record { fails = λ _. refl; passes = λ n. absurd (n (known refl)) }
 
@@ -44,7 +44,7 @@ decides-not : {Holds : Type 0} (ok : Bool) → (ok ≡ true → Holds) → (Hold
 decides-not ok holds back = decides ok (λ e n. n (holds e)) (λ e h. true≢false (sym (back h) ∙ e))
 
 -- one number of the order
-given-by : {Reason Rest : Type 0} {r n rest : ℕ} (ok : Bool) → r ≡ refuse n ok rest → Decides ok Reason → (ok ≡ true → r ≡ rest → Rest)
+pub given-by : {Reason Rest : Type 0} {r n rest : ℕ} (ok : Bool) → r ≡ refuse n ok rest → Decides ok Reason → (ok ≡ true → r ≡ rest → Rest)
     → Given r n Reason Rest
 given-by {Reason} {Rest} {r} {n} {rest} ok e d go =
     record {
@@ -54,7 +54,7 @@ given-by {Reason} {Rest} {r} {n} {rest} ok e d go =
 
 -- The reasons
 
-sound-decides : (p : ℕ) (b : Book) → Decides (sound p b) (SoundBook p b → ⊥)
+pub sound-decides : (p : ℕ) (b : Book) → Decides (sound p b) (SoundBook p b → ⊥)
 sound-decides p b = decides-not (sound p b) (sound-exactly p b .only) (sound-exactly p b .passes)
 
 small-fits : (t m : ℕ) → massFits (aircraftNumbered t) m ≡ true → t ≡ 1 → m < 6000
