@@ -36,7 +36,7 @@ use Rattle.book.proofs.Order.{not-standing, standing-found, mark-found,
 
 -- The rows of a list of movements are found as the list says
 
-none-found : (x p n : ℕ) (gs ms ls : List ℕ) → 1 ≤ x → foundFrom x p (replicate n 0) gs ms ls ≡ nowhere
+pub none-found : (x p n : ℕ) (gs ms ls : List ℕ) → 1 ≤ x → foundFrom x p (replicate n 0) gs ms ls ≡ nowhere
 unfolding foundFrom
 none-found x p zero gs ms ls l = refl
 none-found x p (suc n) gs ms ls l = rw (ne-eqb 0 x (omega arith)) (none-found x p n (drop 1 gs) (drop 1 ms) (drop p ls) l)
@@ -65,12 +65,16 @@ rows-found x p u ms l g = found-listed x p u ms l g
 
 -- How each change of the list is found
 
+pub listed-none : (x p : ℕ) → listed x p [] ≡ nowhere
+unfolding listed
+listed-none x p = refl
+
 -- the first movement is looked at, then the others
-listed-this : (x p : ℕ) (a : Movement) (ms : List Movement) → a .identity ≡ x → listed x p (a ∷ ms) ≡ rowHeld p (a .group) (a .held)
+pub listed-this : (x p : ℕ) (a : Movement) (ms : List Movement) → a .identity ≡ x → listed x p (a ∷ ms) ≡ rowHeld p (a .group) (a .held)
 unfolding listed
 listed-this x p a ms e = rw (eq-eqb (a .identity) x e) refl
 
-listed-later : (x p : ℕ) (a : Movement) (ms : List Movement) → (a .identity ≡ x → ⊥) → listed x p (a ∷ ms) ≡ listed x p ms
+pub listed-later : (x p : ℕ) (a : Movement) (ms : List Movement) → (a .identity ≡ x → ⊥) → listed x p (a ∷ ms) ≡ listed x p ms
 unfolding listed
 listed-later x p a ms e = rw (ne-eqb (a .identity) x e) refl
 
@@ -117,7 +121,7 @@ holding-other y p h {x} n (later {a} {ms} e r) =
     ap (listed y p) (holding-later x h a ms e) ∙ listed-cons y p a (holding x h ms) ms (holding-other y p h n r)
 
 -- no identity comes again after a higher one
-below-none : (x p : ℕ) (ms : List Movement) → Below x ms → Rising ms → listed x p ms ≡ nowhere
+pub below-none : (x p : ℕ) (ms : List Movement) → Below x ms → Rising ms → listed x p ms ≡ nowhere
 unfolding listed
 below-none x p [] b r = refl
 below-none x p (a ∷ ms) b r = rw (ne-eqb (a .identity) x (omega arith)) (below-none x p ms (below ms (r .0)) (r .1))

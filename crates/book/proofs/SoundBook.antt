@@ -1,7 +1,7 @@
 -- The test of soundness passes exactly the books that are sound in document 01's words. Assumes nothing.
 use mathlib.Core.Path.{_≡_, refl, sym, ap, subst, _∙_}
 use mathlib.Core.Bool.{Bool, true, false, cond, _&&_, _||_, true≢false}
-use mathlib.Core.Logic.{_⊎_, inl, inr, ⊎-elim}
+use mathlib.Core.Logic.{inl, inr}
 use mathlib.Core.List.{List, [], _∷_}
 use Prim.Native.Nat.{ℕ, zero, suc, _+_, _*_, _≤_, _<_}
 use native.Mathlib.Nat.{zero-mul, suc-mul, le-of-suc-le-suc, not-suc-le-zero}
@@ -16,16 +16,12 @@ use Rattle.refusal.proofs.Ranges.{within-at}
 use Rattle.movement.specs.Limits.{maxRows, maxPoints, maxIdentity, maxLevel, groupCount}
 use Rattle.book.specs.Columns.{Book, shapeFits, shaped, follows, followed, rising, headSound, topLevel, rowSound, rowsSound, sound}
 use Rattle.book.specs.Calls.{Call, refusal}
-use Rattle.book.specs.SoundBook.{SoundRow, SoundBook, SoundExactly, SizesRefused}
+use Rattle.book.specs.SoundBook.{SoundRow, Later, SoundBook, SoundExactly, SizesRefused}
 use Rattle.book.proofs.Scans.{room}
 use Rattle.book.proofs.Shapes.{sound-fits, sound-rises, sound-rows}
 use Rattle.book.proofs.RowFacts.{row-at, row-facts}
 
 -- Rising identities, by pairs of rows
-
--- z may stand somewhere after x
-abbrev Later : (x z : ℕ) → Type 0
-Later x z = (z ≡ 0) ⊎ ((1 ≤ x) × (x < z))
 
 follows-later : (x y : ℕ) → follows x y ≡ true → Later x y
 unfolding follows

@@ -47,8 +47,8 @@ pub record KeepsOthers (p x : ℕ) (b b′ : Book) : Type 0 where
   pub rows : length (b′ .identities) ≡ length (b .identities)
   pub others : (y : ℕ) → 1 ≤ y → (y ≡ x → ⊥) → found y p b′ ≡ found y p b
 
--- *enter*: x was not there, and stands with the group 6·type + 3·kind + period, not computed. Day is from 07:00:00 to before 19:00:00, evening to
--- before 23:00:00, night otherwise
+-- *enter*: x was not there, and stands with the group 6·type + 3·kind + period, not computed.
+-- Day is from 07:00:00 to before 19:00:00, evening to before 23:00:00, night otherwise
 pub record Enters (p x t k s : ℕ) (b b′ : Book) : Type 0 where
   pub kept : KeepsOthers p x b b′
   pub new : found x p b ≡ nowhere
@@ -69,7 +69,7 @@ pub record TakesBack (p x : ℕ) (b b′ : Book) : Type 0 where
   pub held : markFound (found x p b) ≡ 1
   pub found= : found x p b′ ≡ bare p (groupFound (found x p b))
 
--- *withdraw*: x stood and is found no more; the room and the identity are free again, so that any movement of this identity can be entered
+-- *withdraw*: x stood and is found no more; the room and the identity are free again: any movement may be entered as x
 pub record Withdraws (p x : ℕ) (b b′ : Book) : Type 0 where
   pub kept : KeepsOthers p x b b′
   pub stood : found x p b ≡ nowhere → ⊥

@@ -1,4 +1,4 @@
--- The order of refusals of each call on a book: document 01, "Refusal numbers", each reason in its words and its numbers spelled out.
+-- The order of refusals of each call on a book: document 01, "Refusal numbers", each reason in its words.
 -- Assumes nothing.
 use Prim.Native.Nat.{ℕ, _≤_}
 use mathlib.Core.Path.{_≡_}

@@ -1,5 +1,4 @@
--- A sound book in document 01's words, by look-up at each row and with its numbers spelled out: what `sound` has to decide.
--- Assumes nothing.
+-- A sound book in document 01's words, by look-up at each row and with its numbers spelled out. Assumes nothing.
 use Prim.Native.Nat.{ℕ, _+_, _*_, _≤_, _<_}
 use mathlib.Core.Path.{_≡_}
 use mathlib.Core.Bool.{true}
@@ -20,6 +19,10 @@ pub record SoundRow (p : ℕ) (b : Book) (i : ℕ) : Type 0 where
   -- an unused row is zero throughout
   pub unused : getD (b .identities) i 0 ≡ 0 → (getD (b .groups) i 0 ≡ 0) × (getD (b .marks) i 0 ≡ 0)
 
+-- of two rows the later, of identity z, is unused, or the earlier, of identity x, is used and lower
+abbrev pub Later : (x z : ℕ) → Type 0
+Later x z = (z ≡ 0) ⊎ ((1 ≤ x) × (x < z))
+
 pub record SoundBook (p : ℕ) (b : Book) : Type 0 where
   -- 1 to 8 points and 1 to 50,000 rows
   pub points : (1 ≤ p) × (p ≤ 8)
@@ -28,9 +31,8 @@ pub record SoundBook (p : ℕ) (b : Book) : Type 0 where
   pub groups : length (b .groups) ≡ length (b .identities)
   pub marks : length (b .marks) ≡ length (b .identities)
   pub levels : length (b .levels) ≡ length (b .identities) * p
-  -- rows stand in rising identity with no gap, and unused rows come last: of two rows the later is unused, or the earlier is used and lower
-  pub rising : (i j : ℕ) → i < j → j < length (b .identities)
-      → (getD (b .identities) j 0 ≡ 0) ⊎ ((1 ≤ getD (b .identities) i 0) × (getD (b .identities) i 0 < getD (b .identities) j 0))
+  -- rows stand in rising identity with no gap, and unused rows come last
+  pub rising : (i j : ℕ) → i < j → j < length (b .identities) → Later (getD (b .identities) i 0) (getD (b .identities) j 0)
   pub row : (i : ℕ) → i < length (b .identities) → SoundRow p b i
 
 -- a book passes the test exactly if it is sound

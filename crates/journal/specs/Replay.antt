@@ -11,7 +11,7 @@ use Rattle.book.specs.Order.{Given}
 use Rattle.book.specs.Chain.{Chain}
 use Rattle.journal.specs.Journal.{laidOut, callsOf, madeFor, written}
 
--- the replay of the journal j on the book b, with room for answers, was answered r and left the book b′ and the room room′
+-- the replay of the journal j on the book b, with a room for answers, was answered r and left b′ and room′
 pub record ReplayHolds (p : ℕ) (b : Book) (j room : List ℕ) (r : ℕ) (b′ : Book) (room′ : List ℕ) : Type 0 where
   -- 16 for numbers off the layout, then 9, and 14 last
   pub order : Given r 16 (laidOut j ≡ false)

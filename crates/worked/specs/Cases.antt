@@ -39,8 +39,8 @@ Answered t kg answer =
     (p n x k s : ℕ) → (1 ≤ p) × (p ≤ 8) → (1 ≤ n) × (n ≤ 50000) → (1 ≤ x) × (x ≤ 99999) → k ≤ 1 → s ≤ 86399
     → refusal p (emptyBook p n) (enter x t k s kg) ≡ answer
 
--- what each says: of the row that *enter* makes and the load reads, of the very *enter*, of the energy that the load adds up,
--- and of the contours that the calls list and print
+-- what each says: of the row that *enter* makes and the load reads, of the very *enter*, of the energy that the load
+-- adds up, and of the contours that the calls list and print
 abbrev pub Holds : Case → Type 0
 Holds (period second number) = InPeriod second number
 Holds (mass type kg refusal) = Answered type kg refusal
