@@ -32,7 +32,8 @@ pub record SoundBook (p : ℕ) (b : Book) : Type 0 where
   pub marks : length (b .marks) ≡ length (b .identities)
   pub levels : length (b .levels) ≡ length (b .identities) * p
   -- rows stand in rising identity with no gap, and unused rows come last
-  pub rising : (i j : ℕ) → i < j → j < length (b .identities) → Later (getD (b .identities) i 0) (getD (b .identities) j 0)
+  pub rising : (i j : ℕ) → i < j → j < length (b .identities)
+      → Later (getD (b .identities) i 0) (getD (b .identities) j 0)
   pub row : (i : ℕ) → i < length (b .identities) → SoundRow p b i
 
 -- a book passes the test exactly if it is sound
