@@ -1,19 +1,19 @@
 -- Laws on calls: what an accepted call says of the book, and the book after a call. Assumes nothing.
 use mathlib.Core.Path.{_≡_, refl, sym, _∙_}
-use mathlib.Core.Bool.{Bool, true, false, not, _&&_}
+use mathlib.Core.Bool.{Bool, true, false, cond, not, _&&_}
 use mathlib.Core.List.{List}
 use Prim.Native.Nat.{ℕ, _≤_, _<_}
 use native.Mathlib.Omega.{arith}
 use lib.ListN.{length, getD}
 use lib.Dec.{eqb, leb, ltb}
-use borrow.Author.Tests.{ltb-true, leb-true, eqb-true, eq-eqb, ne-eqb}
+use borrow.Author.Tests.{ltb-true, leb-true, eqb-true, eqb-false, eq-eqb, ne-eqb}
 use Rattle.refusal.specs.Refuse.{refuse}
 use Rattle.refusal.proofs.Laws.{and-left, and-right, refuse-none}
 use Rattle.movement.specs.Limits.{maxIdentity, maxMass, typeCount, kindCount, secondsADay}
 use Rattle.movement.specs.Aircraft.{aircraftNumbered, massFits}
 use Rattle.movement.specs.Rules.{fieldsFit, counts, movementRefusal, identityFits, levelsFit}
 use Rattle.book.specs.Columns.{Book, indexOf, stands, sound}
-use Rattle.book.specs.Calls.{Call, Called, enterRefusal, supplyRefusal, takeBackRefusal, withdrawRefusal, soundRefusal, refusal, changed, after}
+use Rattle.book.specs.Calls.{Call, Called, refusedOr, enterRefusal, supplyRefusal, takeBackRefusal, withdrawRefusal, soundRefusal, refusal, changed, after}
 
 -- The tests that an accepted call passed
 
@@ -23,12 +23,20 @@ pub record Entered (ids : List ℕ) (x t k s m : ℕ) : Type 0 where
   pub new : not (stands x ids) ≡ true
   pub unused : stands 0 ids ≡ true
 
+-- no refusal at first, and none further on
+pub neither-refused : (r rest : ℕ) → refusedOr r rest ≡ 0 → (r ≡ 0) × (rest ≡ 0)
+neither-refused r rest e = by (eqb r 0) refl e
+  where
+    by : (t : Bool) → eqb r 0 ≡ t → cond t rest r ≡ 0 → (r ≡ 0) × (rest ≡ 0)
+    by true z e = (eqb-true r 0 z, e)
+    by false z e = absurd (eqb-false r 0 z e)
+
 pub entered : (ids : List ℕ) (x t k s m : ℕ) → enterRefusal ids x t k s m ≡ 0 → Entered ids x t k s m
-unfolding enterRefusal
+unfolding enterRefusal movementRefusal
 entered ids x t k s m e =
-    let r₁ = refuse-none 1 (fieldsFit t k s m) _ (omega arith) e in
-    let r₂ = refuse-none 2 (counts m) _ (omega arith) (r₁ .1) in
-    let r₃ = refuse-none 3 (identityFits x) _ (omega arith) (r₂ .1) in
+    let n = neither-refused (movementRefusal t k s m) _ e in
+    let r₁ = refuse-none 1 (fieldsFit t k s m) _ (omega arith) (n .0) in
+    let r₃ = refuse-none 3 (identityFits x) _ (omega arith) (n .1) in
     let r₄ = refuse-none 4 (not (stands x ids)) _ (omega arith) (r₃ .1) in
     let r₆ = refuse-none 6 (stands 0 ids) _ (omega arith) (r₄ .1) in
     record { fields = r₁ .0; identity= = r₃ .0; new = r₄ .0; unused = r₆ .0 }
@@ -81,21 +89,13 @@ supplied p ids x ls e =
 
 -- rules 1 and 2 refuse an entry as they refuse its movement
 pub enter-refused : (ids : List ℕ) (x t k s m : ℕ) → (movementRefusal t k s m ≡ 0 → ⊥) → movementRefusal t k s m ≡ enterRefusal ids x t k s m
-unfolding enterRefusal movementRefusal
-enter-refused ids x t k s m h = by (fieldsFit t k s m) (counts m) (refuse 3 (identityFits x) (refuse 4 (not (stands x ids)) (refuse 6 (stands 0 ids) 0))) h
-  where
-    by : (a b : Bool) (rest : ℕ) → (refuse 1 a (refuse 2 b 0) ≡ 0 → ⊥) → refuse 1 a (refuse 2 b 0) ≡ refuse 1 a (refuse 2 b rest)
-    by false b rest h = refl
-    by true false rest h = refl
-    by true true rest h = absurd (h refl)
+unfolding enterRefusal
+enter-refused ids x t k s m h = rw (ne-eqb (movementRefusal t k s m) 0 h) refl
 
 pub enter-allowed : (ids : List ℕ) (x t k s m : ℕ) → movementRefusal t k s m ≡ 0
     → enterRefusal ids x t k s m ≡ refuse 3 (identityFits x) (refuse 4 (not (stands x ids)) (refuse 6 (stands 0 ids) 0))
-unfolding enterRefusal movementRefusal
-enter-allowed ids x t k s m e =
-    let r₁ = refuse-none 1 (fieldsFit t k s m) _ (omega arith) e in
-    let r₂ = refuse-none 2 (counts m) _ (omega arith) (r₁ .1) in
-    rw (r₁ .0, r₂ .0) refl
+unfolding enterRefusal
+enter-allowed ids x t k s m e = rw e refl
 
 -- a take back is refused as a withdrawal is, and then for the mark
 pub take-back-mark : (ids ms : List ℕ) (x : ℕ) → withdrawRefusal ids x ≡ 0 → takeBackRefusal ids ms x ≡ refuse 8 (eqb (getD ms (indexOf x ids) 0) 1) 0

@@ -10,9 +10,9 @@ use lib.ListN.{length, replicate, length-replicate, getD}
 use lib.Dec.{eqb, leb, ltb, leb·suc-suc}
 use borrow.Author.Tests.{lt-ltb, le-ltb, eq-eqb, ne-eqb, eqb-true, eqb-false}
 use Rattle.refusal.specs.Refuse.{refuse}
-use Rattle.movement.specs.Rules.{fieldsFit, counts, identityFits, levelsFit}
+use Rattle.movement.specs.Rules.{movementRefusal, identityFits, levelsFit}
 use Rattle.book.specs.Columns.{Book, firstAt, indexOf, stands, sound}
-use Rattle.book.specs.Calls.{Call, enterRefusal, supplyRefusal, takeBackRefusal, withdrawRefusal, soundRefusal, refusal, changed, after}
+use Rattle.book.specs.Calls.{Call, refusedOr, enterRefusal, supplyRefusal, takeBackRefusal, withdrawRefusal, soundRefusal, refusal, changed, after}
 use Rattle.book.specs.Calls.Call.{enter, supply, takeBack, withdraw}
 use Rattle.book.specs.History.{Held, Movement, Made, made, step, listOf, booked, answered, acceptedByRows, accepted, listAnswered, movements, standing, hasLevels, computed, sizesFit, standingRefusal, listRefusal, markOf, column, identityCell, markCell, levelCells, rowsOf, emptyBook, times, inOrder, HistoryHolds}
 use Rattle.book.specs.History.Held.{none, holds}
@@ -85,11 +85,10 @@ sound-points p q u ms g r = by (eqb q p) refl
 sound-by-list : (p u : ℕ) (ms : List Movement) (c : Call) → AllGood p ms → soundRefusal p (rowsOf p u ms) c ≡ standingRefusal p (u + length ms) ms c
 unfolding soundRefusal enterRefusal supplyRefusal takeBackRefusal withdrawRefusal standingRefusal rowsOf
 sound-by-list p u ms (enter x t k s m) g =
-    refuse-same 1 (fieldsFit t k s m) refl λ _.
-    refuse-same 2 (counts m) refl λ _.
-    refuse-same 3 (identityFits x) refl λ e.
+    ap (refusedOr (movementRefusal t k s m))
+    (refuse-same 3 (identityFits x) refl λ e.
     refuse-same 4 (not (stands x (ids u ms))) (ap not (stands-is x u ms (identity-in x e .0))) λ _.
-    refuse-same 6 (stands 0 (ids u ms)) (unused-is p u ms g) λ _. refl
+    refuse-same 6 (stands 0 (ids u ms)) (unused-is p u ms g) λ _. refl)
 sound-by-list p u ms (supply x ls) g =
     refuse-same 3 (identityFits x) refl λ e.
     refuse-same 7 (levelsFit p ls) refl λ _.

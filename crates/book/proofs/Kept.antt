@@ -12,7 +12,7 @@ use Rattle.book.proofs.Standing.{book-sound}
 use Rattle.book.proofs.Reading.{Read, book-read}
 use Rattle.book.proofs.Steps.{stepped}
 
-read-rows : {p : ℕ} {b : Book} (r : Read p (b .identities) (b .groups) (b .marks) (b .levels)) → b ≡ rowsOf p (r .unused) (r .list)
+pub read-rows : {p : ℕ} {b : Book} (r : Read p (b .identities) (b .groups) (b .marks) (b .levels)) → b ≡ rowsOf p (r .unused) (r .list)
 unfolding rowsOf
 read-rows r = λ i. bookOf (r .ids i) (r .groups i) (r .marks i) (r .levels i)
 

@@ -1,7 +1,8 @@
--- Laws. `Scans` and `Search` serve the loops that read a column; `Shapes` and `RowFacts` say what
--- soundness gives; `Accepted` is about one call; `Blocks`, `Standing`, `Reading` and `Steps` tie rows to the list of movements; `Kept`: calls keep a book
--- sound; `Rooms`: what a call's rows may rely on;
--- `History` has the theorem, and `Folds` the same for any sum.
+-- Laws. `Scans` and `Search` serve the loops that read a column; `Shapes` and `RowFacts` say what soundness gives;
+-- `Accepted` is about one call; `Blocks`, `Standing`, `Reading` and `Steps` tie rows to the list of movements;
+-- `Kept`: calls keep a book sound; `Rooms`: what a call's rows may rely on.
+-- Theorems: `History` (any calls on an empty book), `Chain` (calls that are really made), `SoundBook` (soundness in
+-- document 01's words), `Order` (each refusal for its reason), `Lookup` and `Outcome` (what a call does, by look-up).
 pub mod Scans
 pub mod Search
 pub mod Shapes
@@ -14,4 +15,8 @@ pub mod Steps
 pub mod Kept
 pub mod Rooms
 pub mod History
-pub mod Folds
+pub mod SoundBook
+pub mod Chain
+pub mod Order
+pub mod Lookup
+pub mod Outcome

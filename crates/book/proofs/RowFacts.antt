@@ -22,7 +22,7 @@ top-bound m = by (eqb m 0)
     by true = omega arith
     by false = omega arith
 
-row-at : (p : ℕ) (xs gs ms ls : List ℕ) (i : ℕ) → rowsSound p xs gs ms ls ≡ true → length gs ≡ length xs → length ms ≡ length xs → i < length xs
+pub row-at : (p : ℕ) (xs gs ms ls : List ℕ) (i : ℕ) → rowsSound p xs gs ms ls ≡ true → length gs ≡ length xs → length ms ≡ length xs → i < length xs
     → rowSound (getD xs i 0) (getD gs i 0) (getD ms i 0) (take p (drop (i * p) ls)) ≡ true
 unfolding rowsSound
 row-at p [] gs ms ls i e hg hm h = absurd (not-suc-le-zero h)

@@ -48,7 +48,7 @@ pub first-cons : (f : ℕ → Bool) (u : ℕ) (a : Movement) (ms : List Movement
 unfolding column firstAt
 first-cons f u a ms e = rw e refl
 
-place-at : (p x u : ℕ) (ms : List Movement) → AllGood p ms → Place x ms (placeOf x (ids u ms))
+pub place-at : (p x u : ℕ) (ms : List Movement) → AllGood p ms → Place x ms (placeOf x (ids u ms))
 unfolding placeOf column
 place-at p x u [] s = subst (Place x []) (sym (first-zeros (λ y. eqb y 0 || leb x y) (u * 1) refl)) last
 place-at p x u (a ∷ ms) s = by (leb x (a .identity)) refl (place-at p x u ms (s .1))

@@ -6,7 +6,7 @@ use mathlib.Core.List.{List, [], _∷_}
 use lib.ListN.{getD, replicate}
 use lib.Dec.{eqb}
 use Rattle.refusal.specs.Refuse.{refuse}
-use Rattle.movement.specs.Rules.{fieldsFit, counts, identityFits, levelsFit}
+use Rattle.movement.specs.Rules.{movementRefusal, identityFits, levelsFit}
 use Rattle.movement.specs.Group.{groupOf}
 use Rattle.book.specs.Columns.{Book, bookOf, sound, indexOf, stands, placeOf, opened, closed, replaced}
 
@@ -18,13 +18,17 @@ pub data Call : Type 0 where
 
 -- What refuses each call on a sound book: 0 is no refusal
 
+-- a refusal, or where it is none what the rest says
+abbrev pub refusedOr : ℕ → ℕ → ℕ
+refusedOr r rest = cond (eqb r 0) rest r
+
+-- rules 1 and 2 are those of the movement
 unfoldable pub enterRefusal : (identities : List ℕ) (identity type kind time mass : ℕ) → ℕ
 enterRefusal ids x t k s m =
-    refuse 1 (fieldsFit t k s m)
-    (refuse 2 (counts m)
+    refusedOr (movementRefusal t k s m)
     (refuse 3 (identityFits x)
     (refuse 4 (not (stands x ids))
-    (refuse 6 (stands 0 ids) 0))))
+    (refuse 6 (stands 0 ids) 0)))
 
 unfoldable pub supplyRefusal : (points : ℕ) (identities : List ℕ) (identity : ℕ) (levels : List ℕ) → ℕ
 supplyRefusal p ids x ls =

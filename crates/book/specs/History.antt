@@ -4,14 +4,14 @@ use mathlib.Core.Path.{_≡_}
 use Prim.Native.Nat.{ℕ, suc, _*_, _-_, _≤_}
 use mathlib.Core.Bool.{Bool, true, false, cond, not, _&&_, _||_}
 use mathlib.Core.List.{List, [], _∷_, _++_}
-use lib.ListN.{length, take, drop, replicate}
+use lib.ListN.{length, replicate}
 use lib.Dec.{eqb, leb, ltb}
 use Rattle.refusal.specs.Refuse.{refuse}
 use Rattle.movement.specs.Limits.{maxRows, maxPoints}
-use Rattle.movement.specs.Rules.{fieldsFit, counts, identityFits, levelsFit}
+use Rattle.movement.specs.Rules.{movementRefusal, identityFits, levelsFit}
 use Rattle.movement.specs.Group.{groupOf}
 use Rattle.book.specs.Columns.{Book, bookOf, sound}
-use Rattle.book.specs.Calls.{Call, refusal, after}
+use Rattle.book.specs.Calls.{Call, refusedOr, refusal, after}
 use Rattle.book.specs.Calls.Call.{enter, supply, takeBack, withdraw}
 
 -- The list of movements
@@ -87,11 +87,10 @@ sizesFit p n = (leb 1 p && leb p maxPoints) && (leb 1 n && leb n maxRows)
 -- the refusal of a call where these movements stand, in a book of n rows and p points: 9 for another number of points, and then as document 01 says
 unfoldable pub standingRefusal : ℕ → ℕ → List Movement → Call → ℕ
 standingRefusal p n ms (enter x t k s m) =
-    refuse 1 (fieldsFit t k s m)
-    (refuse 2 (counts m)
+    refusedOr (movementRefusal t k s m)
     (refuse 3 (identityFits x)
     (refuse 4 (not (standing x ms))
-    (refuse 6 (ltb (length ms) n) 0))))
+    (refuse 6 (ltb (length ms) n) 0)))
 standingRefusal p n ms (supply x ls) =
     refuse 3 (identityFits x)
     (refuse 7 (levelsFit p ls)
@@ -204,20 +203,3 @@ pub record HistoryHolds (p n : ℕ) (cs : List Made) : Type 0 where
   pub same : acceptedByRows (emptyBook p n) cs ≡ accepted p n [] cs
   -- the book stays sound, where its size is in range
   pub kept : sound p (booked (emptyBook p n) cs) ≡ sizesFit p n
-
--- Folds: any sum over the rows of a book, and the same sum over the list of movements
-
--- over the rows in use: group, mark and levels of each
-unfoldable pub foldRows : {A : Type 0} → ℕ → (A → ℕ → ℕ → List ℕ → A) → A → List ℕ → List ℕ → List ℕ → List ℕ → A
-foldRows p f r [] gs ms ls = r
-foldRows p f r (x ∷ xs) [] ms ls = r
-foldRows p f r (x ∷ xs) (g ∷ gs) [] ls = r
-foldRows p f r (x ∷ xs) (g ∷ gs) (m ∷ ms) ls = foldRows p f (cond (eqb x 0) r (f r g m (take p ls))) xs gs ms (drop p ls)
-
-unfoldable pub foldBook : {A : Type 0} → ℕ → (A → ℕ → ℕ → List ℕ → A) → A → Book → A
-foldBook p f r b = foldRows p f r (b .identities) (b .groups) (b .marks) (b .levels)
-
--- over the movements, worked afresh
-unfoldable pub foldList : {A : Type 0} → ℕ → (A → ℕ → ℕ → List ℕ → A) → A → List Movement → A
-foldList p f r [] = r
-foldList p f r (a ∷ ms) = foldList p f (f r (a .group) (markOf (a .held)) (levelsOf p (a .held))) ms

@@ -2,3 +2,9 @@ pub mod Columns
 pub mod Calls
 pub mod History
 pub mod Rows
+pub mod Reasons
+pub mod SoundBook
+pub mod Lookup
+pub mod Order
+pub mod Outcome
+pub mod Chain

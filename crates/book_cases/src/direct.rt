@@ -1,4 +1,5 @@
-// Each call by itself, on a book of one row and one point: accepted, and for another number of points, which is 9 before any other fault.
+// Each call by itself, on a book of one row and one point: accepted, and for another number of points, which is 9 before any other
+// fault. And an entry in books whose columns fit 8 and 9 points.
 use crate::printing::case;
 
 fn enter(ids: &mut [u32], groups: &mut [u32], marks: &mut [u32], levels: &mut [u32]) {
@@ -39,6 +40,33 @@ pub(crate) fn calls() {
     supply(&ids, &groups, &mut marks, &mut levels, &given);
     take_back(&ids, &groups, &mut marks, &mut levels);
     withdraw(&mut ids, &mut groups, &mut marks, &mut levels);
+}
+
+// An entry in a book of one row whose columns fit its number of points.
+fn enter_for(levels: &mut [u32], points: usize, name: &[u8], want: u32) {
+    let mut ids = [0u32; 1];
+    let mut groups = [0u32; 1];
+    let mut marks = [0u32; 1];
+    let entered = calls::enter(
+        &mut ids,
+        &mut groups,
+        &mut marks,
+        levels,
+        points,
+        4,
+        0,
+        0,
+        0,
+        151,
+    );
+    case(name, entered, want);
+}
+
+pub(crate) fn sizes() {
+    let mut eight = [0u32; 8];
+    let mut nine = [0u32; 9];
+    enter_for(&mut eight, 8, b"enter 4 for 8 points, with 8 levels", 0);
+    enter_for(&mut nine, 9, b"enter 4 for 9 points, with 9 levels", 9);
 }
 
 fn replay(

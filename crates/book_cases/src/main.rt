@@ -210,5 +210,6 @@ fn main() {
     show_column(&marks, b"marks, should be 0 0 1\n");
     show_column(&levels, b"levels, should be 0 0 0 0 12000 0\n");
     direct::calls();
+    direct::sizes();
     direct::replays();
 }

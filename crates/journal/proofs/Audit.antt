@@ -1,21 +1,25 @@
 -- What a journal is good for: any sequence of calls can be kept as one, and a replay of it on an empty book gives the columns and answers that the
 -- sequence's history means. Assumes nothing.
-use mathlib.Core.Path.{_≡_, refl, sym, ap, _∙_}
-use mathlib.Core.Bool.{Bool, true, false, cond, _&&_}
+use mathlib.Core.Path.{_≡_, refl, sym, ap, subst, _∙_}
+use mathlib.Core.Bool.{Bool, true, false, cond, _&&_, true≢false}
 use mathlib.Core.List.{List, [], _∷_, _++_}
 use Prim.Native.Nat.{ℕ, _+_, _-_, _≤_, _<_}
 use native.Mathlib.Omega.{arith}
 use lib.ListN.{length, take, drop, length-append}
 use lib.Seq.{take-append-seam, drop-append-seam}
 use lib.Dec.{eqb, leb}
-use borrow.Author.Tests.{le-leb, eq-eqb}
-use Rattle.book.specs.Columns.{Book}
-use Rattle.book.specs.Calls.{Call}
+use borrow.Author.Tests.{leb-true, leb-false, le-leb, eq-eqb, ne-eqb}
+use Rattle.book.specs.Columns.{Book, sound}
+use Rattle.book.specs.Calls.{Call, after}
 use Rattle.book.specs.Calls.Call.{enter, supply, takeBack, withdraw}
-use Rattle.book.specs.History.{Made, movements, listAnswered, rowsOf, emptyBook}
+use Rattle.book.specs.History.{Made, movements, booked, answered, listAnswered, rowsOf, emptyBook}
+use Rattle.book.specs.Chain.{Chain}
+use Rattle.book.specs.Chain.Chain.{done, called}
 use Rattle.book.proofs.History.{history}
+use Rattle.book.proofs.Order.{decides, given-by, sound-decides}
 use Rattle.journal.specs.Journal.{widthOf, callAt, whole, callsOf, laidOut, madeFor, written, replayRefusal, Replayed}
-use Rattle.journal.specs.Spelling.{spelled, journalOf}
+use Rattle.journal.specs.Spelling.{spelled, journalOf, Spelled}
+use Rattle.journal.specs.Replay.{ReplayHolds}
 use Rattle.journal.proofs.Reading.{calls-more, laid-more, nothing-left}
 
 -- A call that is spelled is read back
@@ -52,6 +56,23 @@ whole-spelled c rest =
 rest-spelled : (c : Call) (rest : List ℕ) → drop (widthOf (spelled c ++ rest)) (spelled c ++ rest) ≡ rest
 rest-spelled c rest = ap (λ n. drop n (spelled c ++ rest)) (width-spelled c rest) ∙ drop-append-seam (spelled c) rest
 
+calls-spelled : (c : Call) (rest : List ℕ) → callsOf (spelled c ++ rest) ≡ c ∷ callsOf rest
+calls-spelled c rest =
+    let n : 0 < length (spelled c ++ rest) = omega (arith, some-spelled c, length-append (spelled c) rest) in
+    calls-more (spelled c ++ rest) n (whole-spelled c rest) ∙ (λ i. call-spelled c rest i ∷ callsOf (rest-spelled c rest i))
+
+-- the numbers of each call, one by one
+pub spelled-so : Spelled
+unfolding spelled
+spelled-so =
+    record {
+      nothing = nothing-left [] (omega arith) .1;
+      enter= = λ x t k s m rest. calls-spelled (enter x t k s m) rest;
+      supply= = λ x ls rest. calls-spelled (supply x ls) rest;
+      take-back= = λ x rest. calls-spelled (takeBack x) rest;
+      withdraw= = λ x rest. calls-spelled (withdraw x) rest;
+    }
+
 -- every sequence of calls has its journal
 pub journal-calls : (cs : List Call) → (laidOut (journalOf cs) ≡ true) × (callsOf (journalOf cs) ≡ cs)
 unfolding journalOf
@@ -60,11 +81,41 @@ journal-calls (c ∷ cs) =
     let rest = journalOf cs in
     let j = spelled c ++ rest in
     let n : 0 < length j = omega (arith, some-spelled c, length-append (spelled c) rest) in
-    let w = whole-spelled c rest in
     let ih = journal-calls cs in (
-      laid-more j n w ∙ ap laidOut (rest-spelled c rest) ∙ ih .0,
-      calls-more j n w ∙ (λ i. call-spelled c rest i ∷ callsOf (rest-spelled c rest i)) ∙ ap (λ (ds : List Call). c ∷ ds) (ih .1),
+      laid-more j n (whole-spelled c rest) ∙ ap laidOut (rest-spelled c rest) ∙ ih .0,
+      calls-spelled c rest ∙ ap (λ (ds : List Call). c ∷ ds) (ih .1),
     )
+
+-- A replay
+
+-- making the calls is making each, one after the other
+made-chain : (b : Book) (cs : List Made) → Chain b cs (answered b cs) (booked b cs)
+unfolding booked answered
+made-chain b [] = done
+made-chain b (c ∷ cs) = called (record { answer = refl; book = refl }) (made-chain (after (c .points) b (c .call)) cs)
+
+pub replay-made : {p r : ℕ} {b b′ : Book} {j room room′ : List ℕ} → Replayed p b j room r b′ room′ → ReplayHolds p b j room r b′ room′
+unfolding replayRefusal
+replay-made {p} {r} {b} {b′} {j} {room} {room′} k =
+    let calls = length (callsOf j) in
+    let n = length room in
+    let none : r ≡ 0 → eqb (replayRefusal p b j n) 0 ≡ true = λ z. eq-eqb (replayRefusal p b j n) 0 (sym (k .answer) ∙ z) in
+    let some : (r ≡ 0 → ⊥) → eqb (replayRefusal p b j n) 0 ≡ false = λ h. ne-eqb (replayRefusal p b j n) 0 (λ z. h (k .answer ∙ z)) in
+    record {
+      order =
+          given-by (laidOut j) (k .answer) (decides (laidOut j) (λ e f. true≢false (sym e ∙ f)) (λ e. e)) λ _ e₁₆.
+          given-by (sound p b) e₁₆ (sound-decides p b) λ _ e₉.
+          given-by (leb calls n) e₉ (decides (leb calls n) (λ e f. omega (arith, leb-true calls n e)) (leb-false calls n)) λ _ e₁₄. e₁₄;
+      calls = λ z.
+          subst (Chain b (madeFor p (callsOf j)) (answered b (madeFor p (callsOf j))))
+          (sym (k .book ∙ ap (λ (t : Bool). cond t (booked b (madeFor p (callsOf j))) b) (none z)))
+          (made-chain b (madeFor p (callsOf j)));
+      answers = λ z. k .answers ∙ ap (λ (t : Bool). cond t (written (answered b (madeFor p (callsOf j))) room) room) (none z);
+      refused = λ h. (
+        k .book ∙ ap (λ (t : Bool). cond t (booked b (madeFor p (callsOf j))) b) (some h),
+        k .answers ∙ ap (λ (t : Bool). cond t (written (answered b (madeFor p (callsOf j))) room) room) (some h),
+      );
+    }
 
 -- A replay on an empty book
 

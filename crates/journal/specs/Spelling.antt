@@ -1,9 +1,11 @@
 -- How calls are spelled as the numbers of a journal. Assumes nothing.
 use Prim.Native.Nat.{ℕ}
+use mathlib.Core.Path.{_≡_}
 use mathlib.Core.List.{List, [], _∷_, _++_}
 use lib.ListN.{length}
 use Rattle.book.specs.Calls.{Call}
 use Rattle.book.specs.Calls.Call.{enter, supply, takeBack, withdraw}
+use Rattle.journal.specs.Journal.{callsOf}
 
 unfoldable pub spelled : Call → List ℕ
 spelled (enter x t k s m) = 1 ∷ x ∷ t ∷ k ∷ s ∷ m ∷ []
@@ -14,3 +16,12 @@ spelled (withdraw x) = 4 ∷ x ∷ []
 unfoldable pub journalOf : List Call → List ℕ
 journalOf [] = []
 journalOf (c ∷ cs) = spelled c ++ journalOf cs
+
+-- how a journal is read, number by number
+pub record Spelled : Type 0 where
+  pub nothing : callsOf [] ≡ []
+  pub enter= : (x t k s m : ℕ) (rest : List ℕ)
+      → callsOf (1 ∷ x ∷ t ∷ k ∷ s ∷ m ∷ rest) ≡ enter x t k s m ∷ callsOf rest
+  pub supply= : (x : ℕ) (ls rest : List ℕ) → callsOf (2 ∷ x ∷ length ls ∷ (ls ++ rest)) ≡ supply x ls ∷ callsOf rest
+  pub take-back= : (x : ℕ) (rest : List ℕ) → callsOf (3 ∷ x ∷ rest) ≡ takeBack x ∷ callsOf rest
+  pub withdraw= : (x : ℕ) (rest : List ℕ) → callsOf (4 ∷ x ∷ rest) ≡ withdraw x ∷ callsOf rest

@@ -1,31 +1,81 @@
 -- The cases marked P hold.
 -- Assumes nothing.
 use mathlib.Core.Path.{_≡_, refl, sym, ap, _∙_}
-use Prim.Native.Nat.{ℕ, _+_, _*_, _/_, _%_, _^_, _≤_, _<_}
+use mathlib.Core.Logic.{_⊎_, inl, inr, ⊎-elim}
+use mathlib.Core.List.{[]}
+use Prim.Native.Nat.{ℕ, zero, suc, _+_, _*_, _/_, _%_, _^_, _≤_, _<_}
+use native.Mathlib.Omega.{arith}
 use lib.Dec.{lit<, lit≤, ltb}
-use borrow.Author.Tests.{lt-ltb}
-use Rattle.movement.specs.Limits.{kindCount, secondsADay}
-use Rattle.movement.specs.Period.{periodOf, periodNumber}
-use Rattle.movement.specs.Group.{groupOf, groupPeriod}
-use Rattle.movement.specs.Rules.{fieldsFit, counts, movementRefusal}
-use Rattle.movement.proofs.Numbers.{group-period}
+use borrow.Author.Tests.{lt-ltb, le-leb, eq-eqb, ne-eqb}
+use Rattle.movement.specs.Limits.{kindCount, secondsADay, maxIdentity, maxPoints, maxRows}
+use Rattle.movement.specs.Period.{periodNumber, periodNumbered}
+use Rattle.movement.specs.Group.{groupPeriod}
+use Rattle.movement.specs.Rules.{fieldsFit, counts, movementRefusal, identityFits}
+use Rattle.book.specs.Calls.{refusedOr, refusal}
+use Rattle.book.specs.Calls.Call.{enter}
+use Rattle.book.specs.History.{made, emptyBook, booked, movements, accepted, listOf, listRefusal, standingRefusal, sizesFit, standing}
+use Rattle.book.proofs.History.{history-refusal}
+use Rattle.book.proofs.Lookup.{call-does}
 use Rattle.level.specs.Tables.{tableA}
 use Rattle.level.specs.Energy.{energyOf}
 use Rattle.level.proofs.RootLaws.{root-only}
 use Rattle.lines.specs.Contours.{waiting, follow, without, swept, crossedTo}
 use Rattle.text.specs.Number.{shown}
 use Rattle.wkt.specs.Text.{placeText, pointsText, linesText, textOf}
-use Rattle.worked.specs.Cases.{Case, Holds, AllHold, cases, hill, hillFrame, hillContours, hillText}
+use Rattle.worked.specs.Cases.{Case, InPeriod, Answered, Holds, AllHold, cases, hill, hillFrame, hillContours, hillText}
 use Rattle.worked.specs.Cases.Case.{period, mass, energy, contour}
 
--- a period of a group is that of its second
-of-period : (second number : ℕ) → periodNumber (periodOf second) ≡ number → Holds (period second number)
-of-period second number e type kind = ap periodNumber (group-period type kind second) ∙ e
+-- a group's period is read from its number
+loaded-as : (t k number : ℕ) → number < 3 → periodNumber (groupPeriod (6 * t + 3 * k + number)) ≡ number
+unfolding groupPeriod
+loaded-as t k number h = ap (λ n. periodNumber (periodNumbered n)) {x = (6 * t + 3 * k + number) % 3} {y = number} (omega arith) ∙ numbered number h
+  where
+    numbered : (n : ℕ) → n < 3 → periodNumber (periodNumbered n) ≡ n
+    numbered zero h = refl
+    numbered (suc zero) h = refl
+    numbered (suc (suc zero)) h = refl
+    numbered (suc (suc (suc n))) h = absurd (omega arith)
+
+in-day : (s : ℕ) → 25200 ≤ s → s < 68400 → InPeriod s 0
+in-day s h k = record { stored = λ p x t i m b b′ q. call-does (enter x t i s m) q .day h k; loaded = λ t i. loaded-as t i 0 (omega arith) }
+
+in-evening : (s : ℕ) → 68400 ≤ s → s < 82800 → InPeriod s 1
+in-evening s h k = record { stored = λ p x t i m b b′ q. call-does (enter x t i s m) q .evening h k; loaded = λ t i. loaded-as t i 1 (omega arith) }
+
+in-night : (s : ℕ) → (82800 ≤ s) ⊎ (s < 25200) → InPeriod s 2
+in-night s h =
+    record {
+      stored = λ p x t i m b b′ q.
+          let e = call-does (enter x t i s m) q in ⊎-elim (e .late) (e .early) h;
+      loaded = λ t i. loaded-as t i 2 (omega arith);
+    }
+
+-- an *enter* on an empty book is refused as its movement is
+enter-empty : (p n x t k s m : ℕ) → (1 ≤ p) × (p ≤ 8) → (1 ≤ n) × (n ≤ 50000) → (1 ≤ x) × (x ≤ 99999)
+    → refusal p (emptyBook p n) (enter x t k s m) ≡ movementRefusal t k s m
+unfolding identityFits booked movements accepted listOf listRefusal standingRefusal sizesFit standing
+enter-empty p n x t k s m hp hn hx =
+    history-refusal p n [] (made p (enter x t k s m))
+    ∙ rw (
+      eq-eqb p p refl,
+      le-leb 1 p (hp .0),
+      le-leb p maxPoints (hp .1),
+      le-leb 1 n (hn .0),
+      le-leb n maxRows (hn .1),
+      le-leb 1 x (hx .0),
+      le-leb x maxIdentity (hx .1),
+    )
+    (itself (movementRefusal t k s m))
+  where
+    itself : (r : ℕ) → refusedOr r 0 ≡ r
+    itself zero = refl
+    itself (suc r) = rw (ne-eqb (suc r) 0 (omega arith)) refl
 
 -- a refusal of type and mass is the same for every kind and second in range
-of-mass : (type kg refusal : ℕ) → movementRefusal type 0 0 kg ≡ refusal → Holds (mass type kg refusal)
+of-mass : (type kg answer : ℕ) → movementRefusal type 0 0 kg ≡ answer → Answered type kg answer
 unfolding movementRefusal fieldsFit
-of-mass type kg refusal e kind second k s = rw (lt-ltb kind kindCount k, lt-ltb second secondsADay s) e
+of-mass type kg answer e p n x k s hp hn hx hk hs =
+    enter-empty p n x type k s kg hp hn hx ∙ rw (lt-ltb k kindCount (omega arith), lt-ltb s secondsADay (omega arith)) e
 
 -- A(0) and A(500)
 a-0 : tableA 0 ≡ 1000000
@@ -53,12 +103,12 @@ also one rest = (one, rest)
 pub all-hold : AllHold cases
 unfolding movementRefusal fieldsFit counts
 all-hold =
-    also (of-period 25199 2 refl)
-    (also (of-period 25200 0 refl)
-    (also (of-period 68399 0 refl)
-    (also (of-period 68400 1 refl)
-    (also (of-period 82799 1 refl)
-    (also (of-period 82800 2 refl)
+    also (in-night 25199 (inr (omega arith)))
+    (also (in-day 25200 (omega arith) (omega arith))
+    (also (in-day 68399 (omega arith) (omega arith))
+    (also (in-evening 68400 (omega arith) (omega arith))
+    (also (in-evening 82799 (omega arith) (omega arith))
+    (also (in-night 82800 (inl (omega arith)))
     (also (of-mass 0 150 2 refl)
     (also (of-mass 0 151 0 refl)
     (also (of-mass 1 5999 0 refl)

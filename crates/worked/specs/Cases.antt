@@ -1,13 +1,16 @@
 -- The cases of document 01, "Numbers worked by hand", that are marked P.
 -- Assumes nothing.
-use Prim.Native.Nat.{ℕ, _^_, _<_}
+use Prim.Native.Nat.{ℕ, _+_, _*_, _^_, _≤_, _<_}
 use mathlib.Core.Path.{_≡_}
 use mathlib.Core.Bool.{true}
 use mathlib.Core.List.{List, [], _∷_}
-use Rattle.movement.specs.Limits.{kindCount, secondsADay}
 use Rattle.movement.specs.Period.{periodNumber}
-use Rattle.movement.specs.Group.{groupOf, groupPeriod}
-use Rattle.movement.specs.Rules.{movementRefusal}
+use Rattle.movement.specs.Group.{groupPeriod}
+use Rattle.book.specs.Columns.{Book}
+use Rattle.book.specs.Calls.{Called, refusal}
+use Rattle.book.specs.Calls.Call.{enter}
+use Rattle.book.specs.History.{emptyBook}
+use Rattle.book.specs.Lookup.{found, bare}
 use Rattle.level.specs.Energy.{energyOf}
 use Rattle.network.specs.declared.Frame.{Frame}
 use Rattle.lines.specs.Picture.{picture}
@@ -24,12 +27,23 @@ pub data Case : Type 0 where
   -- a network has these contours at level v, which print as this text
   contour : (levels : List ℕ) (frame : Frame) (v : ℕ) (contours : List Contour) (text : List ℕ) → Case
 
--- what each says: of the group that *enter* gives and the load reads, of the rules that *enter* refuses by, of the energy that the load adds up,
--- and of the contours that the calls list and print
+-- an accepted *enter* at this second stores a group of the period of this number, which the load reads from it
+pub record InPeriod (second number : ℕ) : Type 0 where
+  pub stored : (p x t k m : ℕ) (b b′ : Book) → Called p b (enter x t k second m) 0 b′
+      → found x p b′ ≡ bare p (6 * t + 3 * k + number)
+  pub loaded : (t k : ℕ) → periodNumber (groupPeriod (6 * t + 3 * k + number)) ≡ number
+
+-- an *enter* of this type and mass, on an empty book of any size, is answered so
+abbrev pub Answered : (type kg answer : ℕ) → Type 0
+Answered t kg answer =
+    (p n x k s : ℕ) → (1 ≤ p) × (p ≤ 8) → (1 ≤ n) × (n ≤ 50000) → (1 ≤ x) × (x ≤ 99999) → k ≤ 1 → s ≤ 86399
+    → refusal p (emptyBook p n) (enter x t k s kg) ≡ answer
+
+-- what each says: of the row that *enter* makes and the load reads, of the very *enter*, of the energy that the load
+-- adds up, and of the contours that the calls list and print
 abbrev pub Holds : Case → Type 0
-Holds (period second number) = (type kind : ℕ) → periodNumber (groupPeriod (groupOf type kind second)) ≡ number
-Holds (mass type kg refusal) =
-    (kind second : ℕ) → kind < kindCount → second < secondsADay → movementRefusal type kind second kg ≡ refusal
+Holds (period second number) = InPeriod second number
+Holds (mass type kg refusal) = Answered type kg refusal
 Holds (energy c e) = energyOf c ≡ e
 Holds (contour levels frame v contours text) =
     (contoursOf (picture levels (frame .columns) (frame .rows) v) ≡ contours) × (networkText levels frame v ≡ text)

@@ -1,0 +1,25 @@
+-- What a replay means for whoever makes it: every outcome that its contract allows. Assumes nothing.
+use Prim.Native.Nat.{ℕ, _<_}
+use mathlib.Core.Path.{_≡_}
+use mathlib.Core.Bool.{false}
+use mathlib.Core.List.{List}
+use lib.ListN.{length}
+use Rattle.book.specs.Columns.{Book}
+use Rattle.book.specs.History.{answered}
+use Rattle.book.specs.SoundBook.{SoundBook}
+use Rattle.book.specs.Order.{Given}
+use Rattle.book.specs.Chain.{Chain}
+use Rattle.journal.specs.Journal.{laidOut, callsOf, madeFor, written}
+
+-- the replay of the journal j on the book b, with a room for answers, was answered r and left b′ and room′
+pub record ReplayHolds (p : ℕ) (b : Book) (j room : List ℕ) (r : ℕ) (b′ : Book) (room′ : List ℕ) : Type 0 where
+  -- 16 for numbers off the layout, then 9, and 14 last
+  pub order : Given r 16 (laidOut j ≡ false)
+      (Given r 9 (SoundBook p b → ⊥)
+      (Given r 14 (length room < length (callsOf j))
+      (r ≡ 0)))
+  -- an accepted one made every call, one after the other, and wrote the answer of each
+  pub calls : r ≡ 0 → Chain b (madeFor p (callsOf j)) (answered b (madeFor p (callsOf j))) b′
+  pub answers : r ≡ 0 → room′ ≡ written (answered b (madeFor p (callsOf j))) room
+  -- a refused one changes nothing
+  pub refused : (r ≡ 0 → ⊥) → (b′ ≡ b) × (room′ ≡ room)
