@@ -119,7 +119,7 @@ pub record Told (p n : ℕ) (b : Book) (ms : List Movement) : Type 0 where
   pub good : AllGood p ms
   pub rising : Rising ms
 
-refusal-told : (p n : ℕ) (b : Book) (ms : List Movement) (c : Made) → Told p n b ms → refusal (c .points) b (c .call) ≡ listRefusal p n ms c
+pub refusal-told : (p n : ℕ) (b : Book) (ms : List Movement) (c : Made) → Told p n b ms → refusal (c .points) b (c .call) ≡ listRefusal p n ms c
 refusal-told p n b ms c t =
     ap (λ (k : Book). refusal (c .points) k (c .call)) (t .rows)
     ∙ refusal-by-list p (t .unused) ms c (t .good) (t .rising)

@@ -1,2 +1,4 @@
 pub mod LimitsFits
 pub mod Answers
+pub mod Rows
+pub mod Flights

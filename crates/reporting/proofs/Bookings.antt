@@ -32,7 +32,7 @@ layout-booked p b l =
     (λ yes. either (eqb (l .fields .computed) 0) (λ blank. rw (yes, blank) refl) (λ given. rw (yes, given) refl))
     (λ no. rw no (sym (after-refused p b (entering l) (eqb-false (refusal p b (entering l)) 0 no))))
 
-row-booked : (p : ℕ) (b : Book) (line : List ℕ) → rowAfter p b line ≡ booked b (rowCalls p b line)
+pub row-booked : (p : ℕ) (b : Book) (line : List ℕ) → rowAfter p b line ≡ booked b (rowCalls p b line)
 unfolding rowAfter rowCalls booked
 row-booked p b line =
     either (eqb (layoutOf p line .refusal) 0) (λ yes. rw yes (layout-booked p b (layoutOf p line))) (λ no. rw no refl)

@@ -1,0 +1,111 @@
+-- No flight drops out: what a register that is accepted leaves standing, and what its report says of it. Document 01, "Files and the report
+-- program". Assumes nothing.
+use Prim.Native.Nat.{ℕ, suc, _+_, _-_, _≤_, _<_}
+use mathlib.Core.Path.{_≡_}
+use mathlib.Core.Bool.{Bool, true, cond, not}
+use mathlib.Core.List.{List, [], _∷_}
+use lib.ListN.{length, getD, take, drop}
+use lib.Dec.{eqb, ltb}
+use Rattle.level.specs.Level.{verdictOf}
+use Rattle.movement.specs.Group.{groupOf}
+use Rattle.movement.specs.Rules.{fieldsFit}
+use Rattle.book.specs.Columns.{Book, sound}
+use Rattle.book.specs.History.{Movement, movement, hasLevels, emptyBook, movements, rowsOf}
+use Rattle.book.specs.History.Held.{none, holds}
+use Rattle.counted.specs.Load.{bookLoad}
+use Rattle.text.specs.Line.{linesOf}
+use Rattle.text.specs.Field.{fieldOf}
+use Rattle.text.specs.Number.{showNumber, showLevel}
+use Rattle.text.specs.Spelled.{bytes}
+use Rattle.register.specs.declared.row.Layout.{Layout}
+use Rattle.register.specs.declared.limits.Limits.{Limits}
+use Rattle.register.specs.Limits.{limitsOf}
+use Rattle.register.specs.Row.{layoutOf}
+use Rattle.reporting.specs.declared.Taken.the-variants.{PassedOver}
+use Rattle.reporting.specs.Intake.{rowTaken}
+use Rattle.reporting.specs.Reading.{registered}
+use Rattle.reporting.specs.Booking.{registerCalls}
+use Rattle.report_text.specs.Text.{levelText, verdictText, bookRefusal}
+use Rattle.report_rules.specs.Report.{bookRows, reportOf}
+
+-- The flights of a register
+
+-- its rows are its lines behind the header
+abbrev pub rowsIn : List ℕ → List (List ℕ)
+rowsIn register = drop 1 (linesOf register)
+
+-- a row's movement: identity, group by type, kind and time, and its levels, or none where they are blank
+abbrev pub flightOf : ℕ → Layout → Movement
+flightOf p row =
+    movement (row .fields .identity) (groupOf (row .fields .ty) (row .fields .kind) (row .fields .time))
+    (cond (eqb (row .fields .computed) 0) none (holds (take p (row .levels))))
+
+-- a flight is a row over 150 kg
+unfoldable pub flightsIn : ℕ → List (List ℕ) → List Movement
+flightsIn p [] = []
+flightsIn p (row ∷ rows) =
+    cond (ltb 150 (layoutOf p row .fields .mass)) (flightOf p (layoutOf p row) ∷ flightsIn p rows) (flightsIn p rows)
+
+-- how many of some movements pass a test
+unfoldable pub howMany : (Movement → Bool) → List Movement → ℕ
+howMany test [] = 0
+howMany test (m ∷ ms) = cond (test m) 1 0 + howMany test ms
+
+-- What stands
+
+-- the book that a register of p points gives, and the movements that its calls leave standing
+abbrev pub bookIn : ℕ → List ℕ → Book
+bookIn p register = registered p (emptyBook p bookRows) register .book
+
+abbrev pub standingIn : ℕ → List ℕ → List Movement
+standingIn p register = movements p bookRows (registerCalls p (emptyBook p bookRows) register)
+
+-- a register of p points that is refused nowhere:
+pub record AllStand (p : ℕ) (register : List ℕ) : Type 0 where
+  -- every row is on its layout
+  pub read : (i : ℕ) → i < length (rowsIn register) → layoutOf p (getD (rowsIn register) i []) .refusal ≡ 0
+  -- the movements standing are its flights, each once: whatever is asked of a movement, as many of them pass
+  pub each : (test : Movement → Bool) → howMany test (standingIn p register) ≡ howMany test (flightsIn p (rowsIn register))
+  pub count : length (standingIn p register) ≡ length (flightsIn p (rowsIn register))
+  -- and the book holds them and nothing else: the rows behind them are unused
+  pub book : bookIn p register ≡ rowsOf p (bookRows - length (standingIn p register)) (standingIn p register)
+
+-- What is printed
+
+-- field k of the line of a point, as the report's own bytes have it
+abbrev pub printed : List ℕ → ℕ → ℕ → List ℕ
+printed text point k = fieldOf 44 k (getD (linesOf text) (suc point) [])
+
+abbrev pub computed : Movement → Bool
+computed m = hasLevels (m .held)
+
+-- the line of a point: its number from 1, level, limit, verdict, and the flights with levels and without
+pub record PointSays (l : Limits) (register text : List ℕ) (point : ℕ) : Type 0 where
+  pub number : printed text point 0 ≡ showNumber (point + 1)
+  pub level : printed text point 1 ≡ levelText (bookLoad (l .points) point (bookIn (l .points) register) (l .days) .level)
+  pub limit : printed text point 2 ≡ showLevel (getD (l .limits) point 0)
+  pub verdict : printed text point 3
+      ≡ verdictText (verdictOf (bookLoad (l .points) point (bookIn (l .points) register) (l .days) .level) (getD (l .limits) point 0))
+  pub with-levels : printed text point 4 ≡ showNumber (howMany computed (flightsIn (l .points) (rowsIn register)))
+  pub without : printed text point 5 ≡ showNumber (howMany (λ m. not (computed m)) (flightsIn (l .points) (rowsIn register)))
+
+-- limits and register accepted, and at least one flight computed or none standing: the report
+pub record ReportSays (limits register : List ℕ) : Type 0 where
+  pub header : getD (linesOf (reportOf limits register)) 0 [] ≡ bytes "point,level,limit,verdict,computed,missing"
+  -- a line for each point and no other
+  pub lines : length (linesOf (reportOf limits register)) ≡ 1 + limitsOf limits .points
+  pub points : (point : ℕ) → point < limitsOf limits .points → PointSays (limitsOf limits) register (reportOf limits register) point
+  -- no flight drops out: the two numbers printed at each point add up to the flights of the register
+  pub adds-up : howMany computed (flightsIn (limitsOf limits .points) (rowsIn register))
+      + howMany (λ m. not (computed m)) (flightsIn (limitsOf limits .points) (rowsIn register))
+      ≡ length (flightsIn (limitsOf limits .points) (rowsIn register))
+
+-- A row is passed over exactly where its layout is right, rule 1 holds and its mass is 150 kg or less, whatever stands in a sound book
+pub record Light (p : ℕ) (row : List ℕ) : Type 0 where
+  pub read : layoutOf p row .refusal ≡ 0
+  pub rule-1 : let f = layoutOf p row .fields in fieldsFit (f .ty) (f .kind) (f .time) (f .mass) ≡ true
+  pub light : layoutOf p row .fields .mass ≤ 150
+
+pub record PassedExactly (p : ℕ) (b : Book) (row : List ℕ) : Type 0 where
+  pub when : rowTaken p b row ≡ PassedOver → Light p row
+  pub only : sound p b ≡ true → Light p row → rowTaken p b row ≡ PassedOver
