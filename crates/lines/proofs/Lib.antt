@@ -4,4 +4,5 @@ pub mod Steps
 pub mod Waiting
 pub mod Cycles
 pub mod Sums
+pub mod Orders
 pub mod Every
