@@ -6,3 +6,4 @@ pub mod Cycles
 pub mod Sums
 pub mod Orders
 pub mod Every
+pub mod Following
