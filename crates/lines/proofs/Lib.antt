@@ -7,3 +7,5 @@ pub mod Sums
 pub mod Orders
 pub mod Every
 pub mod Following
+pub mod Only
+pub mod Rings

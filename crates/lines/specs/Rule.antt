@@ -1,4 +1,5 @@
--- How a contour goes from edge to edge: document 01, "Network and contours", said of the levels themselves. Assumes nothing.
+-- How a contour goes from edge to edge: document 01, "Network and contours", said of the levels themselves.
+-- Assumes nothing.
 use mathlib.Core.Path.{_≡_}
 use mathlib.Core.Bool.{true}
 use mathlib.Core.Logic.{_⊎_, _↔_}
@@ -41,7 +42,7 @@ module _ (levels : List ℕ) (nx ny v : ℕ) where
   abbrev pub IsCrossed : Edge → Type 0
   IsCrossed e = crossed lines e ≡ true
 
-  -- Each crossing heads across its edge with the in end on its left, into the square there, entered by that side, or out.
+  -- Each crossing heads across its edge with the in end on its left, into the square there, or out.
   pub record Heads (row col : ℕ) : Type 0 where
     -- west end in: north; west end out: south
     pub north : In levels nx v row col → row + 1 < ny → aheadOf lines (Horizontal row col) ≡ Square row col South
@@ -92,4 +93,5 @@ module _ (levels : List ℕ) (nx ny v : ℕ) where
     pub four : (row col : ℕ) (s : Side) → Entering row col s → ((t : Side) → IsCrossed (sideEdge row col t))
         → CutsOff row col s
     -- one that heads out of the network leads to no edge
-    pub none : (e : Edge) → WithinEdge nx ny e → aheadOf lines e ≡ Outside → nextAt lines (numberOf nx ny e) ≡ edges nx ny
+    pub none : (e : Edge) → WithinEdge nx ny e → aheadOf lines e ≡ Outside
+        → nextAt lines (numberOf nx ny e) ≡ edges nx ny
