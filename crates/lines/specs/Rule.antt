@@ -5,11 +5,10 @@ use mathlib.Core.Bool.{true}
 use mathlib.Core.Logic.{_⊎_, _↔_}
 use mathlib.Core.List.{List}
 use Prim.Native.Nat.{ℕ, _+_, _-_, _*_, _≤_, _<_}
-use lib.ListN.{getD}
 use Rattle.network.specs.declared.Edge.{Edge}
 use Rattle.network.specs.declared.Edge.the-variants.{Horizontal, Vertical}
 use Rattle.network.specs.Edges.{edges, numberOf, WithinEdge}
-use Rattle.network.specs.Numbering.{In, Out}
+use Rattle.network.specs.Numbering.{pointLevel, In, Out}
 use Rattle.lines.specs.declared.Side.{Side}
 use Rattle.lines.specs.declared.Side.the-variants.{South, East, North, West}
 use Rattle.lines.specs.declared.Ahead.the-variants.{Square, Outside}
@@ -32,8 +31,8 @@ HasEnd (Vertical row col) row' col' = ((row' ≡ row) ⊎ (row' ≡ row + 1)) ×
 -- the four corners added
 abbrev pub fourCorners : (levels : List ℕ) (nx row col : ℕ) → ℕ
 fourCorners levels nx row col =
-    getD levels (row * nx + col) 0 + getD levels (row * nx + (col + 1)) 0
-    + getD levels ((row + 1) * nx + col) 0 + getD levels ((row + 1) * nx + (col + 1)) 0
+    pointLevel levels nx row col + pointLevel levels nx row (col + 1)
+    + pointLevel levels nx (row + 1) col + pointLevel levels nx (row + 1) (col + 1)
 
 module _ (levels : List ℕ) (nx ny v : ℕ) where
   abbrev pub lines : Picture

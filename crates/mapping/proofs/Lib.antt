@@ -1,5 +1,6 @@
 pub mod Quotients
 pub mod Range
+pub mod Stepwise
 pub mod Ends
 pub mod Zero
 pub mod Fill

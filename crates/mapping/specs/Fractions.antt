@@ -55,6 +55,19 @@ fractionShown Nowhere = whole 0
 fractionShown (AlongHorizontal f) = f
 fractionShown (AlongVertical f) = f
 
+-- an answer's refusal, 0 for none, and its crossing's number and fraction: 0 and 0.0 where it is refused
+abbrev pub askedRefusal : Asked → ℕ
+askedRefusal (Crossed c) = 0
+askedRefusal (Refused n) = n
+
+abbrev pub askedWhich : Asked → ℕ
+askedWhich (Crossed c) = whichOf c
+askedWhich (Refused n) = 0
+
+abbrev pub askedFraction : Asked → Float
+askedFraction (Crossed c) = fractionShown c
+askedFraction (Refused n) = whole 0
+
 -- the call: 12, 13, 15, and then the crossing
 abbrev pub crossingAsked : List ℕ → Frame → ℕ → ℕ → Asked
 crossingAsked levels f v n = cond (eqb (contourRefusal levels f v) 0) (Crossed (crossingOf levels f v n)) (Refused (contourRefusal levels f v))

@@ -51,6 +51,15 @@ shownOf Off = record { which = 0; x = whole 0; y = whole 0 }
 shownOf (OnHorizontal p) = record { which = 1; x = p .x; y = p .y }
 shownOf (OnVertical p) = record { which = 2; x = p .x; y = p .y }
 
+-- an answer's refusal, 0 for none, and its map point's number and coordinates: those of none where it is refused
+abbrev pub mappedRefusal : Mapped → ℕ
+mappedRefusal (Place l) = 0
+mappedRefusal (Denied n) = n
+
+abbrev pub mappedShown : Mapped → Shown
+mappedShown (Place l) = shownOf l
+mappedShown (Denied n) = shownOf Off
+
 -- the call: 12, 13, 15, and then the map point
 abbrev pub mappedOf : List ℕ → Frame → ℕ → ℕ → Mapped
 mappedOf levels f v n = cond (eqb (contourRefusal levels f v) 0) (Place (locatedOf levels f v n)) (Denied (contourRefusal levels f v))

@@ -10,8 +10,8 @@ use lib.Dec.{leb}
 use Rattle.network.specs.declared.Edge.{Edge}
 use Rattle.network.specs.declared.Edge.the-variants.{Horizontal, Vertical}
 use Rattle.network.specs.Edges.{edges, numberOf, edgeAt, levelAt}
-use Rattle.network.specs.Crossed.{unlike, crossedEdge, crossedAt}
-use Rattle.network.specs.Numbering.{EdgesNumbered, CrossedExactly, OneIn}
+use Rattle.network.specs.Crossed.{unlike, crossedEdge, crossedAt, distance}
+use Rattle.network.specs.Numbering.{Apart, Parts, EdgesNumbered, CrossedExactly, OneIn}
 use Rattle.network.proofs.Numbers.{number-lt, at-number, number-at}
 use Rattle.network.proofs.Astride.{astride}
 
@@ -23,6 +23,12 @@ edges-numbered nx ny wide = record {
   below = λ row col. (λ h k. number-lt nx ny wide (Horizontal row col) (h, k), λ h k. number-lt nx ny wide (Vertical row col) (h, k));
   number = λ n h. number-at nx ny wide n h;
 }
+
+apart : (x y : ℕ) → Apart x y (distance x y)
+apart x y = record { more = λ h. omega arith; less = λ h. omega arith }
+
+pub parts : (v a b : ℕ) → Parts v a b (distance v a) (distance b a)
+parts v a b = (apart v a, apart b a)
 
 -- v lies between the two levels exactly if one end is in and the other is not
 between-ends : (v a b : ℕ) → (unlike (leb v a) (leb v b) ≡ true) ↔ (((v ≤ a) × (b < v)) ⊎ ((a < v) × (v ≤ b)))

@@ -11,12 +11,25 @@ use Rattle.network.specs.declared.Edge.the-variants.{Horizontal, Vertica
 use Rattle.network.specs.Edges.{edges, numberOf, edgeAt}
 use Rattle.network.specs.Crossed.{insideOf, crossedAt}
 
--- points are numbered from the south row, west to east; one is in if its level is at least v, and else out
+-- points are numbered from the south row, west to east
+abbrev pub pointLevel : (levels : List ℕ) (nx row col : ℕ) → ℕ
+pointLevel levels nx row col = getD levels (row * nx + col) 0
+
+-- one is in if its level is at least v, and else out
 abbrev pub In : (levels : List ℕ) (nx v row col : ℕ) → Type 0
-In levels nx v row col = v ≤ getD levels (row * nx + col) 0
+In levels nx v row col = v ≤ pointLevel levels nx row col
 
 abbrev pub Out : (levels : List ℕ) (nx v row col : ℕ) → Type 0
-Out levels nx v row col = getD levels (row * nx + col) 0 < v
+Out levels nx v row col = pointLevel levels nx row col < v
+
+-- d is |x − y|
+pub record Apart (x y d : ℕ) : Type 0 where
+  pub more : y ≤ x → d + y ≡ x
+  pub less : x ≤ y → d + x ≡ y
+
+-- on an edge from a (west or south end) to b, num = |v−a| and den = |b−a|
+abbrev pub Parts : (v a b num den : ℕ) → Type 0
+Parts v a b num den = Apart v a num × Apart b a den
 
 -- which edge has which number
 pub record EdgesNumbered (nx ny : ℕ) : Type 0 where
