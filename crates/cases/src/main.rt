@@ -118,8 +118,8 @@ fn places() {
     show(b"none lies at 0, 0", place_is(100, 4500, 0, 0.0, 0.0), 1);
 }
 
-// Document 01 adds the fraction to the index, multiplies by the spacing and adds the origin, each step rounded once: the spacing multiplied
-// into both parts, a sum rounded only at its end, or the exact place would all give 1010.661 and 2021.322.
+// Document 01 adds the fraction to the index, multiplies by the spacing and adds the origin, each step rounded once.
+// The spacing multiplied into both parts, steps rounded together, or the exact place would give 1010.661 and 2021.322.
 fn steps() {
     show(
         b"edge 3 at 44.77, spacing 7, lies at 1010.6610000000001, 2007",

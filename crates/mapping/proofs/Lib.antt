@@ -7,3 +7,4 @@ pub mod Fill
 pub mod Rooms
 pub mod Lends
 pub mod Ranges
+pub mod InRoom

@@ -34,7 +34,8 @@ pub record Value (x : Float) : Type 0 where
 abbrev pub Nearest : Float → ℕ → ℕ → Type 0
 Nearest x over under = x ≡ round binary64 false over under
 
--- on an edge from a (west or south end) to b: num = |v−a| and den = |b−a|; the one division num/den, never under 0 or over 1
+-- on an edge from a (west or south end) to b: num = |v−a| and den = |b−a|; the one division num/den,
+-- never under 0 or over 1
 pub record Divided (v a b : ℕ) (fraction : Float) : Type 0 where
   pub num : ℕ
   pub den : ℕ
@@ -42,7 +43,8 @@ pub record Divided (v a b : ℕ) (fraction : Float) : Type 0 where
   pub quotient : Nearest fraction num den
   pub within : Within 0 fraction 1
 
--- the moving coordinate: ((index + fraction) × spacing) + origin in that order, each step rounded once; it lies on its edge
+-- the moving coordinate: ((index + fraction) × spacing) + origin in that order, each step rounded once;
+-- it lies on its edge
 pub record Moves (index : ℕ) (fraction : Float) (spacing origin : ℕ) (x : Float) : Type 0 where
   pub fraction-value : Value fraction
   pub sum : Float
@@ -76,7 +78,8 @@ module _ (levels : List ℕ) (f : Frame) (v : ℕ) where
   abbrev pub None : Asked → Mapped → Type 0
   None asked mapped = (askedWhich asked ≡ 0) × (mappedShown mapped .which ≡ 0)
 
-  -- asked by edge number n, crossing and map point are none exactly where that edge isn't in the network or isn't crossed
+  -- asked by edge number n, crossing and map point are none exactly where that edge isn't in the network
+  -- or isn't crossed
   pub record ByNumber (n : ℕ) (asked : Asked) (mapped : Mapped) : Type 0 where
     pub row-crossed : (row col : ℕ) → row < f .rows → col + 1 < f .columns → n ≡ row * (f .columns - 1) + col
         → OneIn levels (f .columns) v row col row (col + 1) → AlongRow row col asked mapped

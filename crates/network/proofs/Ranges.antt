@@ -9,10 +9,11 @@ use borrow.Author.Tests.{le-leb, eq-eqb, leb-true, eqb-true}
 use lib.Dec.{leb, eqb}
 use lib.ListN.{length, getD}
 use Rattle.refusal.specs.Range.{allWithin}
+use Rattle.refusal.specs.Refuse.{refuse}
 use Rattle.refusal.proofs.Ranges.{within-at}
 use Rattle.network.specs.declared.Frame.{Frame}
 use Rattle.network.specs.Refusals.{between, sided, placed, filled, checked, networkRefusal, contourChecked}
-use Rattle.network.specs.Ranges.{RightFrame, RightLevels, RightContour, NetworkRefused, ContourRefused}
+use Rattle.network.specs.Ranges.{RightFrame, RightLevels, RightContour, NetworkRefused, ContourRefused, RoomRefused}
 use Rattle.network.proofs.Refusals.{both, in-between}
 
 -- ---- each test passes exactly if what it stands for holds
@@ -103,6 +104,10 @@ contour-refused levels f v rest e =
   where
     other : (n : ℕ) → (0 ≡ n → ⊥) → (14 ≡ n → ⊥) → rest ≡ n → ⊥
     other n a b h = ⊎-elim (λ k. a (sym k ∙ h)) (λ k. b (sym k ∙ h)) e
+
+pub room-refused : (levels : List ℕ) (f : Frame) (v : ℕ) (Enough : Type 0) (b : Bool) → (b ≡ true) ↔ Enough → RoomRefused levels f v Enough (contourChecked levels f v (refuse 14 b 0))
+room-refused levels f v Enough true i = record { enough = λ _. contour-refused levels f v 0 (inl refl); short = λ n. absurd (n (i .0 refl)) }
+room-refused levels f v Enough false i = record { enough = λ e. absurd (fails i refl e); short = λ _. contour-refused levels f v 14 (inr refl) }
 
 -- without a contour level, the same with a third test that always passes
 pub network-refused : (levels : List ℕ) (f : Frame) → NetworkRefused levels f (networkRefusal levels f)

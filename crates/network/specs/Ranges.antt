@@ -37,3 +37,8 @@ pub record ContourRefused (levels : List ℕ) (f : Frame) (v rest answer : ℕ) 
   pub thirteen : (answer ≡ 13) ↔ (RightFrame levels f × (RightLevels levels → ⊥))
   pub fifteen : (answer ≡ 15) ↔ (RightFrame levels f × (RightLevels levels × (RightContour v → ⊥)))
   pub others : (answer ≡ rest) ↔ (RightFrame levels f × (RightLevels levels × RightContour v))
+
+-- the same where room is lent: 14 last, exactly where the room is not enough
+pub record RoomRefused (levels : List ℕ) (f : Frame) (v : ℕ) (Enough : Type 0) (answer : ℕ) : Type 0 where
+  pub enough : Enough → ContourRefused levels f v 0 answer
+  pub short : (Enough → ⊥) → ContourRefused levels f v 14 answer

@@ -1,4 +1,5 @@
--- Printed contours as document 01 lays them out, "Network and contours" and "Files and the report program". Assumes nothing.
+-- Printed contours as document 01 lays them out, "Network and contours" and "Files and the report program".
+-- Assumes nothing.
 use mathlib.Core.Path.{_≡_}
 use mathlib.Core.Bool.{cond}
 use mathlib.Core.List.{List, [], _∷_, _++_, map}
