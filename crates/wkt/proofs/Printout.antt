@@ -1,11 +1,13 @@
 -- Printed contours follow document 01's layout. Assumes nothing.
 use mathlib.Core.Path.{_≡_, refl, sym, ap, _∙_, subst}
-use mathlib.Core.Bool.{Bool, true, false, cond}
+use mathlib.Core.Bool.{Bool, true, false, _&&_, cond}
 use mathlib.Core.Logic.{_⊎_, ⊎-elim}
 use mathlib.Core.List.{List, [], _∷_, _++_, map, append-assoc, append-nil}
 use Prim.Native.Nat.{ℕ, _+_, _-_, _*_, _/_, _%_, _≤_, _<_}
 use native.Mathlib.Nat.{mod-lt, div-add-mod', mul-le-mul, le-of-lt, mul-comm, mul-assoc, mul-left-comm, add-comm, add-zero}
 use native.Mathlib.Omega.{arith}
+use borrow.Author.Tests.{leb-true, le-leb}
+use lib.Dec.{leb}
 use lib.ListN.{length, getD, take}
 use Rattle.text.specs.Number.{showWhole, wholeOf}
 use Rattle.text.proofs.Shown.{whole-back}
@@ -16,6 +18,9 @@ use Rattle.network.specs.Limits.{mostSide, mostSpacing, mostOrigin}
 use Rattle.network.specs.Edges.{levelAt, edgeAt, Checked}
 use Rattle.network.specs.Crossed.{distance}
 use Rattle.network.specs.Numbering.{OneIn}
+use Rattle.network.specs.Ranges.{RoomRefused}
+use Rattle.network.proofs.Refusals.{both}
+use Rattle.network.proofs.Ranges.{room-refused}
 use Rattle.network.proofs.Numbering.{parts, edges-numbered}
 use Rattle.network.proofs.Astride.{num-den}
 use Rattle.lines.specs.Picture.{Picture, picture}
@@ -25,7 +30,7 @@ use Rattle.lines.proofs.Every.{every-crossing}
 use Rattle.wkt.specs.declared.Spot.{Spot}
 use Rattle.wkt.specs.Places.{nearest, offsetOf, slideOf, standOf, spotOf}
 use Rattle.wkt.specs.Text.{showMetres, showSpot, placeText, bracket, comma, pointsText, linesText, multilinestring, textOf, pointsOf, contoursText}
-use Rattle.wkt.specs.Calls.{networkText}
+use Rattle.wkt.specs.Calls.{networkText, printRefusal}
 use Rattle.wkt.specs.Printout.{Rounds, Offset, Metres, Pair, RowPlace, ColumnPlace, PlacesPrinted, parted, lineText, found, TextPrinted}
 use Rattle.wkt.proofs.Nearest.{nearest-is, offset-small, metres-small}
 
@@ -184,3 +189,11 @@ module _ (levels : List ℕ) (f : Frame) (v : ℕ) where
         ∙ ap (λ (t : List ℕ). multilinestring ++ t)
         (lines-text bracket c cs (subst Some e (some-edges (picture levels (f .columns) (f .rows) v) (found levels f v) (every-crossing (picture levels (f .columns) (f .rows) v) wide .sound))));
   }
+
+  -- the call is refused by 12, 13, 15, and by 14 last, exactly where the text or its size has no room
+  pub print-refused : (room size : List ℕ) → RoomRefused levels f v ((length (networkText levels f v) ≤ length room) × (1 ≤ length size)) (printRefusal levels f v room size)
+  print-refused room size =
+      room-refused levels f v ((length (networkText levels f v) ≤ length room) × (1 ≤ length size)) (leb (length (networkText levels f v)) (length room) && leb 1 (length size)) (
+        λ h. let p = both (leb (length (networkText levels f v)) (length room)) (leb 1 (length size)) h in (leb-true _ _ (p .0), leb-true _ _ (p .1)),
+        λ h. rw (le-leb _ _ (h .0), le-leb _ _ (h .1)),
+      )
