@@ -145,13 +145,21 @@ fn show_text(levels: &[u32], frame: Frame, v: u32, right: &[u8]) {
     let mut text = [0u8; 256];
     let mut size = [0u32; 1];
     wkt::print_contours(levels, frame, v, &mut text, &mut size);
-    let n = size[0] as usize;
-    if n <= text.len() {
-        io::write_all(STDOUT_FILENO, &text[..n]);
-    }
+    show_front(&text, count(size[0]));
     io::write_all(STDOUT_FILENO, b"\n");
     io::write_all(STDOUT_FILENO, right);
     io::write_all(STDOUT_FILENO, b"\n");
+}
+
+// The first n bytes of a text.
+fn show_front(text: &[u8], n: usize) {
+    if n <= text.len() {
+        io::write_all(STDOUT_FILENO, &text[0..n]);
+    }
+}
+
+fn count(x: u32) -> usize {
+    x as usize
 }
 
 // Prints one network's answer, in buffers of 20, 6 and 6 numbers, and what it should be.
