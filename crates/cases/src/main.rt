@@ -10,6 +10,7 @@ fn main() {
     refusals();
     fractions();
     places();
+    steps();
 }
 
 // Three by three points, the middle 50.00 and the others 40.00.
@@ -61,9 +62,9 @@ fn fraction_is(v: u32, edge: u32, f: f64) -> u32 {
 }
 
 // Whether the map point of an edge is x east and y north, 1 or 0.
-fn place_is(v: u32, edge: u32, x: f64, y: f64) -> u32 {
+fn place_is(spacing: u32, v: u32, edge: u32, x: f64, y: f64) -> u32 {
     let levels = hill();
-    match mapping::map_point(&levels, frame(100), v, edge) {
+    match mapping::map_point(&levels, frame(spacing), v, edge) {
         Mapped::Place(l) => {
             let shown = mapping::shown_of(l);
             if shown.x == x {
@@ -106,13 +107,28 @@ fn fractions() {
 fn places() {
     show(
         b"edge 2 lies at 1050, 2100",
-        place_is(4500, 2, 1050.0, 2100.0),
+        place_is(100, 4500, 2, 1050.0, 2100.0),
         1,
     );
     show(
         b"edge 7 lies at 1100, 2050",
-        place_is(4500, 7, 1100.0, 2050.0),
+        place_is(100, 4500, 7, 1100.0, 2050.0),
         1,
     );
-    show(b"none lies at 0, 0", place_is(4500, 0, 0.0, 0.0), 1);
+    show(b"none lies at 0, 0", place_is(100, 4500, 0, 0.0, 0.0), 1);
+}
+
+// Document 01 adds the fraction to the index, multiplies by the spacing and adds the origin, each step rounded once.
+// The spacing multiplied into both parts, steps rounded together, or the exact place would give 1010.661 and 2021.322.
+fn steps() {
+    show(
+        b"edge 3 at 44.77, spacing 7, lies at 1010.6610000000001, 2007",
+        place_is(7, 4477, 3, 1010.6610000000001, 2007.0),
+        1,
+    );
+    show(
+        b"edge 10 at 44.77, spacing 14, lies at 1014, 2021.3220000000001",
+        place_is(14, 4477, 10, 1014.0, 2021.3220000000001),
+        1,
+    );
 }

@@ -5,3 +5,4 @@ pub mod Borders
 pub mod Buffers
 pub mod Rows
 pub mod Handing
+pub mod Telling

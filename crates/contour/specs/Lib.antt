@@ -2,3 +2,4 @@ pub mod Answers
 pub mod Walk
 pub mod Desk
 pub mod Fill
+pub mod Told

@@ -6,6 +6,7 @@ fn main() {
     small_networks();
     saddles();
     refusals();
+    prints();
     full_size();
 }
 
@@ -43,6 +44,22 @@ fn small_networks() {
     show(&border, frame(3, 3), 4500, b"8 7 6 | 3 | 0");
     // no contour
     show(&hill, frame(3, 3), 4000, b"| |");
+    // a peak, and the north-east corner in: the open contour first, though the closed one has lower edges
+    let peak = [
+        4000u32,
+        4000,
+        4000,
+        4000,
+        4000,
+        4016,
+        4000,
+        4000,
+        4000,
+        4000,
+        4000,
+        4016,
+    ];
+    show(&peak, frame(4, 3), 4001, b"8 16 3 10 4 14 | 2 4 | 0 1");
 }
 
 // A saddle whose corners add up to 100.00, at levels on both sides of a quarter of that, and at it.
@@ -89,6 +106,60 @@ fn refusals() {
         4000,
     ];
     show(&stripes, frame(8, 2), 4500, b"refused 14");
+}
+
+// Printed contours: two lines, a south-west point unlike each way, and places at half a millimetre, which round up.
+fn prints() {
+    let peak = [
+        4000u32,
+        4000,
+        4000,
+        4000,
+        4000,
+        4016,
+        4000,
+        4000,
+        4000,
+        4000,
+        4000,
+        4016,
+    ];
+    let near = Frame {
+        columns: 4,
+        rows: 3,
+        spacing: 1,
+        west: 1000,
+        south: 2000,
+    };
+    show_text(
+        &peak,
+        near,
+        4001,
+        b"MULTILINESTRING ((1002.063 2002.000, 1003.000 2001.063), (1000.063 2001.000, 1001.000 2000.063, 1001.938 2001.000, 1001.000 2001.938, 1000.063 2001.000))",
+    );
+    show_text(&peak, near, 4000, b"MULTILINESTRING EMPTY");
+}
+
+// Prints the text of one network's contours, and on the next line what it should be.
+fn show_text(levels: &[u32], frame: Frame, v: u32, right: &[u8]) {
+    let mut text = [0u8; 256];
+    let mut size = [0u32; 1];
+    wkt::print_contours(levels, frame, v, &mut text, &mut size);
+    show_front(&text, count(size[0]));
+    io::write_all(STDOUT_FILENO, b"\n");
+    io::write_all(STDOUT_FILENO, right);
+    io::write_all(STDOUT_FILENO, b"\n");
+}
+
+// The first n bytes of a text.
+fn show_front(text: &[u8], n: usize) {
+    if n <= text.len() {
+        io::write_all(STDOUT_FILENO, &text[0..n]);
+    }
+}
+
+fn count(x: u32) -> usize {
+    x as usize
 }
 
 // Prints one network's answer, in buffers of 20, 6 and 6 numbers, and what it should be.

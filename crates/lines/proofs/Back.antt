@@ -15,7 +15,7 @@ use Rattle.lines.specs.Squares.{WithinSquare, turn, sideEdge, corner, ex
 use Rattle.lines.specs.Crossings.{beyond, crossed, aheadOf, behindOf, Next, To, Out, through, nextOf}
 use Rattle.lines.proofs.Heading.{Entry, Entered, entered, side-within, heads-in, heads-out, side-crossed}
 
-four-turns : (s : Side) → turn (turn (turn (turn s))) ≡ s
+pub four-turns : (s : Side) → turn (turn (turn (turn s))) ≡ s
 four-turns South = refl
 four-turns East = refl
 four-turns North = refl

@@ -1,5 +1,5 @@
--- Every crossing, one time: the contours of a picture hold each crossed edge once and no other; open ones run from border to border, and
--- closed ones come back to their start, which is their lowest edge. Assumes nothing.
+-- Every crossing, one time: the contours of a picture hold each crossed edge once and no other, each leads to the next one listed; open ones
+-- run from where they enter to where they leave, and closed ones come back to their start, which is their lowest edge. Assumes nothing.
 use mathlib.Core.Path.{_≡_, refl, sym, ap, _∙_, subst}
 use mathlib.Core.Bool.{Bool, true, false, _&&_, _||_, cond}
 use mathlib.Core.Logic.{_⊎_, inl, inr, ⊎-elim}
@@ -13,8 +13,9 @@ use Rattle.network.proofs.Refusals.{both}
 use Rattle.lines.specs.Picture.{Picture}
 use Rattle.lines.specs.Crossings.{edgesIn, crossedAt, entersAt, nextAt}
 use Rattle.lines.specs.Contours.{Contour, bit, waits, waiting, follow, contourFrom, without, Listing, add, try, swept, crossedTo, noneListed, openListed, allListed, contoursOf, edgesOf}
-use Rattle.lines.specs.Once.{occurs, Neighbours, Border, Chain, Each, Sound, AllSound, steps, stepsOf, opens, crossings, EachOnce}
+use Rattle.lines.specs.Once.{occurs, Neighbours, Follows, Exits, Chain, Each, Sound, AllSound, steps, stepsOf, opens, crossings, Ordered, EachOnce}
 use Rattle.lines.proofs.Steps.{prevAt, leads-at, comes-at, next-le, enters-outside, inner-inside, neighbours-at, enters-border, leaves-border}
+use Rattle.lines.proofs.Orders.{in-order}
 use Rattle.lines.proofs.Waiting.{is-or-not, clash, waits-lt, waits-set-same, waited, stays-out, follow-on, follow-each, follow-occurs, length-crossed, crossed-waits, crossed-waits-all}
 use Rattle.lines.proofs.Cycles.{Run, Settled, sets-out, to-the-end, returned, settled-left, settled-returned, comes-back}
 use Rattle.lines.proofs.Sums.{edges-append, all-append, occurs-append, all-steps, fewer, crossings-le, all-listed}
@@ -40,12 +41,15 @@ module _ (g : Picture) (wide : 2 ≤ g .nx) where
   unfolding without
   start-taken list k h = rw (follow-on g list k h) (stays-out (set list k 0) (contourFrom g (set list k 0) (nextAt g k)) k (waits-set-same list k))
 
-  -- a run from edge to edge is a chain of neighbours
+  follows : (n m : ℕ) → n < edgesIn g → nextAt g n ≡ m → m < edgesIn g → Follows g n m
+  follows n m l e b = record { leads = e; neighbours = subst (Neighbours g n) e (neighbours-at g wide n l (subst (λ (i : ℕ). i < edgesIn g) (sym e) b)) }
+
+  -- a run from edge to edge is a chain
   run-chain : (Last : ℕ → Type 0) (end n : ℕ) (ns : List ℕ) → n < edgesIn g → Each (λ m. m < edgesIn g) ns → Run (nextAt g) (nextAt g n) ns end
       → ((m : ℕ) → m < edgesIn g → nextAt g m ≡ end → Last m) → Chain g Last n ns
   run-chain Last end n [] l e r p = p n l r
   run-chain Last end n (m ∷ ms) l e r p =
-      (subst (Neighbours g n) (sym (r .0)) (neighbours-at g wide n l (subst (λ (i : ℕ). i < edgesIn g) (r .0) (e .0))), run-chain Last end m ms (e .0) (e .1) (r .1) p)
+      (follows n m l (sym (r .0)) (e .0), run-chain Last end m ms (e .0) (e .1) (r .1) p)
 
   -- the same of a contour from k, all of whose edges have a property
   contour-chain : (Last P : ℕ → Type 0) (list : List ℕ) (k end : ℕ) → length list ≡ edgesIn g → waits list k ≡ true → Run (nextAt g) k (contourFrom g list k) end
@@ -70,9 +74,9 @@ module _ (g : Picture) (wide : 2 ≤ g .nx) where
       let e = to-the-end (edgesIn g) (crossedAt g) (nextAt g) (prevAt g) (leads-at g wide) k list (λ n. n ≤ edgesIn g) (λ n l _ _ _. next-le g wide n l) (waiting list) list k (omega arith) w (omega arith) in
       let out : e .end < edgesIn g → ⊥ = λ i. let r = returned (edgesIn g) (crossedAt g) (nextAt g) (prevAt g) (leads-at g wide) k list _ (e .end) (e .walk) (e .stopped) i in omega (arith, r .1 .0) in
       let at : e .end ≡ edgesIn g = omega (arith, e .kept, not-lt (e .end) (edgesIn g) out) in
-      let chain = contour-chain (Border g) (λ m. m < edgesIn g) list k (edgesIn g) (c .long) f (subst (Run (nextAt g) k (contourFrom g list k)) at (e .run))
-      (λ m l q. leaves-border g wide m l q) (λ m q. subst (λ (i : ℕ). m < i) (c .long) (waits-lt list m q)) in (
-        subst (Sound g false) (sym (follow-on g list k f)) (enters-border g wide k b h, chain .1),
+      let chain = contour-chain (Exits g) (λ m. m < edgesIn g) list k (edgesIn g) (c .long) f (subst (Run (nextAt g) k (contourFrom g list k)) at (e .run))
+      (λ m l q. record { border = leaves-border g wide m l q; no-next = q }) (λ m q. subst (λ (i : ℕ). m < i) (c .long) (waits-lt list m q)) in (
+        subst (Sound g false) (sym (follow-on g list k f)) (record { border = enters-border g wide k b h; enters = h }, chain .1),
         settled-left (edgesIn g) (crossedAt g) (nextAt g) (prevAt g) (leads-at g wide) k list _ (e .end) (e .walk) (omega (arith, at)) o,
       )
     where
@@ -87,8 +91,8 @@ module _ (g : Picture) (wide : 2 ≤ g .nx) where
       let b : k < edgesIn g = subst (λ (i : ℕ). k < i) (c .long) (waits-lt list k f) in
       let e = comes-back (edgesIn g) (crossedAt g) (nextAt g) (prevAt g) (leads-at g wide) (comes-at g wide) list k c b x f inner in
       let r = returned (edgesIn g) (crossedAt g) (nextAt g) (prevAt g) (leads-at g wide) k list _ (e .end) (e .walk) (e .stopped) (e .kept) in
-      let chain = contour-chain (λ m. Neighbours g m k) (λ m. k ≤ m) list k k (c .long) f (subst (Run (nextAt g) k (contourFrom g list k)) (r .0) (e .run))
-      (λ m l q. subst (Neighbours g m) q (neighbours-at g wide m l (subst (λ (i : ℕ). i < edgesIn g) (sym q) b))) (λ m q. not-lt m k (λ i. clash q (passed m i))) in (
+      let chain = contour-chain (λ m. Follows g m k) (λ m. k ≤ m) list k k (c .long) f (subst (Run (nextAt g) k (contourFrom g list k)) (r .0) (e .run))
+      (λ m l q. follows m k l q b) (λ m q. not-lt m k (λ i. clash q (passed m i))) in (
         subst (Sound g true) (sym (follow-on g list k f)) chain,
         settled-returned (edgesIn g) (crossedAt g) (nextAt g) (prevAt g) (leads-at g wide) k list _ (e .end) (e .walk) (e .stopped) (e .kept),
       )
@@ -194,10 +198,11 @@ module _ (g : Picture) (wide : 2 ≤ g .nx) where
       go true h e = clash h (listed .passed n (subst (λ (i : ℕ). n < i) (listed .settled .long) (waits-lt (allListed g .list) n h)) refl)
       go false h e = omega arith
 
-  pub every-crossing : EachOnce g
+  pub every-crossing : EachOnce g (contoursOf g)
   every-crossing = record {
     once = listed-once;
     sound = listed .sound;
+    ordered = in-order g;
     steps-made = all-steps g (contoursOf g) (listed .sound) ∙ all-listed g (edgesIn g) (edgesOf (contoursOf g)) listed-once;
   }
 

@@ -4,4 +4,8 @@ pub mod Steps
 pub mod Waiting
 pub mod Cycles
 pub mod Sums
+pub mod Orders
 pub mod Every
+pub mod Following
+pub mod Only
+pub mod Rings

@@ -3,3 +3,4 @@ pub mod Squares
 pub mod Crossings
 pub mod Contours
 pub mod Once
+pub mod Rule

@@ -1,8 +1,10 @@
 pub mod Quotients
 pub mod Range
+pub mod Stepwise
 pub mod Ends
 pub mod Zero
 pub mod Fill
 pub mod Rooms
 pub mod Lends
 pub mod Ranges
+pub mod InRoom

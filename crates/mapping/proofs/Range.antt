@@ -13,9 +13,6 @@ use lib.Ieee.Back.{round-whole}
 use lib.Ieee.Order.{round-mono, le-of-values}
 use lib.Ieee.Scale.{finite, grid, round-val, round-under}
 use Rattle.mapping.specs.Fractions.{whole}
-use Rattle.network.specs.Limits.{mostSide, mostSpacing, mostOrigin}
-use Rattle.mapping.specs.Places.{moving}
-use Rattle.mapping.specs.Ranges.{OnEdge}
 
 -- x is finite, not negative, and lies from `low` to `high`
 abbrev pub Ranged : Float → ℕ → ℕ → Type 0
@@ -125,15 +122,3 @@ at-most nan l h k p = absurd p
 at-most (inf s) l h k p = absurd p
 at-most (fin true m e) l h k p = absurd p
 at-most (fin false m e) l h k p = le-of-values (fin false m e) (whole h) (m * up e) (down e) h 1 (down-pos e) (lit< tt) (refl, refl) (round-whole binary64 false h k) (omega (arith, p .1))
-
--- a map coordinate that moves along an edge lies on that edge
-pub on-edge : (index num den spacing origin : ℕ) → index < mostSide → 0 < den → num ≤ den → spacing ≤ mostSpacing → origin ≤ mostOrigin → OnEdge index spacing origin (moving index (round binary64 false num den) spacing origin)
-on-edge index num den spacing origin i z n s o =
-    let more : index + 1 ≤ mostSide = omega arith in
-    let small : (index + 1) * spacing ≤ mostSide * mostSpacing = mul-le-mul more s in
-    let less : index * spacing ≤ mostSide * mostSpacing = mul-le-mul (le-of-lt i) s in
-    let f : Ranged (round binary64 false num den) 0 1 = quotient-ranged num den z n in
-    let a = rw (add-zero index) at (add-ranged (whole index) (round binary64 false num den) index index 0 1 (whole-ranged index (omega arith)) f (omega arith) (omega arith)) in
-    let b = mul-ranged (add binary64 (whole index) (round binary64 false num den)) (whole spacing) index (index + 1) spacing spacing a (whole-ranged spacing (omega arith)) (omega arith) (omega arith) in
-    let c = add-ranged (mul binary64 (add binary64 (whole index) (round binary64 false num den)) (whole spacing)) (whole origin) (index * spacing) ((index + 1) * spacing) origin origin b (whole-ranged origin (omega arith)) (omega arith) (omega arith) in
-    (at-least _ _ _ (omega arith) c, at-most _ _ _ (omega arith) c)

@@ -1,11 +1,12 @@
--- The ranges of the answered crossings and map points, and where there is none. Assumes nothing.
-use mathlib.Core.Path.{_≡_, refl, sym}
+-- What is answered for the edge of a number is document 01's crossing and map point, or none. Assumes nothing.
+use mathlib.Core.Path.{_≡_, refl, sym, ap, _∙_, subst}
 use mathlib.Core.Bool.{Bool, true, false, _&&_, true≢false}
+use mathlib.Core.Logic.{_⊎_, inl, inr}
 use mathlib.Core.List.{List}
 use Prim.Native.Nat.{ℕ, _+_, _*_, _^_, _≤_, _<_}
 use native.Mathlib.Nat.{mul-le-mul, le-of-lt}
 use native.Mathlib.Omega.{arith}
-use borrow.Author.Tests.{ltb-true, eqb-true}
+use borrow.Author.Tests.{ltb-true, eqb-true, lt-ltb, le-ltb, eq-eqb}
 use lib.Dec.{ltb, eqb}
 use lib.Ieee.{binary64, round, ofInt}
 use Rattle.network.specs.declared.Edge.{Edge}
@@ -13,18 +14,26 @@ use Rattle.network.specs.declared.Edge.the-variants.{Horizontal, Vertical}
 use Rattle.network.specs.declared.Frame.{Frame}
 use Rattle.network.specs.Limits.{mostSide, mostSpacing, mostOrigin}
 use Rattle.network.specs.Edges.{edges, edgeAt, WithinEdge, Checked}
-use Rattle.network.specs.Crossed.{crossedEdge, crossedAt}
+use Rattle.network.specs.Crossed.{crossedEdge, crossedAt, distance}
 use Rattle.network.specs.Refusals.{contourRefusal}
-use Rattle.network.proofs.Numbers.{edge-within, by-cond}
+use Rattle.network.specs.Numbering.{OneIn}
+use Rattle.network.proofs.Numbers.{by-cond}
+use Rattle.network.proofs.Numbering.{parts, edges-numbered, crossed-exactly}
+use Rattle.network.proofs.Ranges.{contour-refused}
 use Rattle.network.proofs.Astride.{astride, num-den}
 use Rattle.network.proofs.Refusals.{both, contour-not-refused}
 use Rattle.mapping.specs.declared.Crossing.{Crossing}
-use Rattle.mapping.specs.Fractions.{whole, alongEdge, isCrossed, crossingOf, whichOf, fractionShown, crossingAsked}
-use Rattle.mapping.specs.Places.{rowOf, colOf, locate, locatedOf, mappedOf}
-use Rattle.mapping.specs.Ranges.{Within, Exactly, FractionInRange, PlaceInRange, MappedInRange}
+use Rattle.mapping.specs.declared.Asked.{Asked}
+use Rattle.mapping.specs.declared.Asked.the-variants.{Crossed, Refused}
+use Rattle.mapping.specs.declared.Mapped.{Mapped}
+use Rattle.mapping.specs.declared.Mapped.the-variants.{Place, Denied}
+use Rattle.mapping.specs.Fractions.{whole, fractionOf, alongEdge, isCrossed, crossingOf, whichOf, fractionShown, askedRefusal, askedWhich, askedFraction, crossingAsked}
+use Rattle.mapping.specs.Places.{rowOf, colOf, locate, locatedOf, mappedRefusal, mappedShown, mappedOf}
+use Rattle.mapping.specs.Ranges.{Within, Exactly, Divided, AlongRow, AlongColumn, None, ByNumber, Answered}
 use Rattle.mapping.proofs.Ends.{ends-small}
 use Rattle.mapping.proofs.Quotients.{whole-value}
-use Rattle.mapping.proofs.Range.{quotient-ranged, at-least, at-most, on-edge}
+use Rattle.mapping.proofs.Range.{quotient-ranged, at-least, at-most}
+use Rattle.mapping.proofs.Stepwise.{moves}
 
 -- ---- the fraction
 
@@ -45,43 +54,115 @@ along-within levels nx v (Vertical row col) h = fraction-within _ _ (num-den v _
 in-network : (levels : List ℕ) (f : Frame) (v n : ℕ) → isCrossed levels f v n ≡ true → (n < edges (f .columns) (f .rows)) × (crossedAt levels (f .columns) (f .rows) v n ≡ true)
 in-network levels f v n h = let p = both (ltb n (edges (f .columns) (f .rows))) (crossedAt levels (f .columns) (f .rows) v n) h in (ltb-true _ _ (p .0), p .1)
 
--- the answered fraction is never under 0 or over 1
-pub fraction-range : (levels : List ℕ) (f : Frame) (v n : ℕ) → FractionInRange (crossingAsked levels f v n)
-fraction-range levels f v n =
-    by-cond FractionInRange (eqb (contourRefusal levels f v) 0) _ _
-    (λ _. by-cond (λ (c : Crossing). Within 0 (fractionShown c) 1) (isCrossed levels f v n) _ _
-    (λ h. along-within levels (f .columns) v (edgeAt (f .columns) (f .rows) n) (in-network levels f v n h .1)) (λ _. zero-within))
-    (λ _. tt)
+-- ---- an edge that is asked for by its number
 
--- ---- the map point
+divided : (v a b : ℕ) → ((a < v) × (v ≤ b)) ⊎ ((b < v) × (v ≤ a)) → Divided v a b (fractionOf v a b)
+divided v a b w = record { num = distance v a; den = distance b a; parts = parts v a b; quotient = refl; within = fraction-within _ _ (num-den v a b w) }
 
-module _ (levels : List ℕ) (f : Frame) (k : Checked levels f) where
-  exact : (index origin : ℕ) → index < mostSide → origin ≤ mostOrigin → Exactly (whole (index * f .spacing + origin)) (index * f .spacing + origin)
-  exact index origin i o = whole-value (index * f .spacing + origin) (omega (arith, mul-le-mul (le-of-lt i) (k .near)))
+module _ (levels : List ℕ) (f : Frame) (v n : ℕ) where
+  -- the calls' refusals are those of the network and the contour level
+  asked-refused : askedRefusal (crossingAsked levels f v n) ≡ contourRefusal levels f v
+  asked-refused = by-cond (λ (a : Asked). askedRefusal a ≡ contourRefusal levels f v) (eqb (contourRefusal levels f v) 0) _ _ (λ h. sym (eqb-true _ _ h)) (λ _. refl)
 
-  along-placed : (v : ℕ) (e : Edge) → WithinEdge (f .columns) (f .rows) e → crossedEdge levels (f .columns) v e ≡ true → PlaceInRange f (rowOf e) (colOf e) (locate (alongEdge levels (f .columns) v e) (rowOf e) (colOf e) f)
-  along-placed v (Horizontal row col) w h =
-      let d = num-den v _ _ (astride v _ _ h) in
-      let s = ends-small (Horizontal row col) (k .sized .sides) w in
-      (on-edge col _ _ (f .spacing) (f .west) (s .1) (d .0) (d .1) (k .near) (k .west), exact row (f .south) (s .0) (k .south))
-  along-placed v (Vertical row col) w h =
-      let d = num-den v _ _ (astride v _ _ h) in
-      let s = ends-small (Vertical row col) (k .sized .sides) w in
-      (exact col (f .west) (s .1) (k .west), on-edge row _ _ (f .spacing) (f .south) (s .0) (d .0) (d .1) (k .near) (k .south))
+  mapped-refused : mappedRefusal (mappedOf levels f v n) ≡ contourRefusal levels f v
+  mapped-refused = by-cond (λ (a : Mapped). mappedRefusal a ≡ contourRefusal levels f v) (eqb (contourRefusal levels f v) 0) _ _ (λ h. sym (eqb-true _ _ h)) (λ _. refl)
 
-  located-range : (v n : ℕ) → PlaceInRange f (rowOf (edgeAt (f .columns) (f .rows) n)) (colOf (edgeAt (f .columns) (f .rows) n)) (locatedOf levels f v n)
-  located-range v n =
-      let e = edgeAt (f .columns) (f .rows) n in
-      by-cond (λ (c : Crossing). PlaceInRange f (rowOf e) (colOf e) (locate c (rowOf e) (colOf e) f)) (isCrossed levels f v n) _ _
-      (λ h. let p = in-network levels f v n h in along-placed v e (edge-within (f .columns) (f .rows) (k .sized .sides .wide) n (p .0)) (p .1))
-      (λ _. tt)
+  -- the answered fraction is never under 0 or over 1
+  pub fraction-range : Within 0 (askedFraction (crossingAsked levels f v n)) 1
+  fraction-range =
+      by-cond (λ (a : Asked). Within 0 (askedFraction a) 1) (eqb (contourRefusal levels f v) 0) _ _
+      (λ _. by-cond (λ (c : Crossing). Within 0 (fractionShown c) 1) (isCrossed levels f v n) _ _
+      (λ h. along-within levels (f .columns) v (edgeAt (f .columns) (f .rows) n) (in-network levels f v n h .1)) (λ _. zero-within))
+      (λ _. zero-within)
 
--- the answered map point lies on its edge: the moving coordinate between its ends, the other exact
-pub map-point-range : (levels : List ℕ) (f : Frame) (v n : ℕ) → MappedInRange f n (mappedOf levels f v n)
-map-point-range levels f v n =
-    by-cond (MappedInRange f n) (eqb (contourRefusal levels f v) 0) _ _
-    (λ h. located-range levels f (contour-not-refused levels f v (eqb-true _ _ h) .0) v n)
-    (λ _. tt)
+  module _ (z : contourRefusal levels f v ≡ 0) where
+    abbrev Both : (Asked → Mapped → Type 0) → Type 0
+    Both P = P (crossingAsked levels f v n) (mappedOf levels f v n)
+
+    k : Checked levels f
+    k = contour-not-refused levels f v z .0
+
+    wide : 2 ≤ f .columns
+    wide = k .sized .sides .wide
+
+    -- a property of the crossing and the map point of edge e, which is crossed
+    crossed-at : (P : Asked → Mapped → Type 0) (e : Edge) → edgeAt (f .columns) (f .rows) n ≡ e → isCrossed levels f v n ≡ true
+        → P (Crossed (alongEdge levels (f .columns) v e)) (Place (locate (alongEdge levels (f .columns) v e) (rowOf e) (colOf e) f)) → Both P
+    crossed-at P e q h p = rw (eq-eqb (contourRefusal levels f v) 0 z, h, q) p
+
+    none-at : isCrossed levels f v n ≡ false → Both (None levels f v)
+    none-at h = rw (eq-eqb (contourRefusal levels f v) 0 z, h) (refl, refl)
+
+    -- the edge of the number, whether it is crossed, and that it is one
+    is-crossed : (b : Bool) → n < edges (f .columns) (f .rows) → crossedAt levels (f .columns) (f .rows) v n ≡ b → isCrossed levels f v n ≡ b
+    is-crossed b l c = rw (lt-ltb _ _ l) c
+
+    exact : (index origin : ℕ) → index < mostSide → origin ≤ mostOrigin → Exactly (whole (index * f .spacing + origin)) (index * f .spacing + origin)
+    exact index origin i o = whole-value (index * f .spacing + origin) (omega (arith, mul-le-mul (le-of-lt i) (k .near)))
+
+    along-row : (row col : ℕ) → row < f .rows → col + 1 < f .columns → crossedEdge levels (f .columns) v (Horizontal row col) ≡ true
+        → AlongRow levels f v row col (Crossed (alongEdge levels (f .columns) v (Horizontal row col))) (Place (locate (alongEdge levels (f .columns) v (Horizontal row col)) row col f))
+    along-row row col h l x =
+        let w = astride v _ _ x in
+        let d = num-den v _ _ w in
+        let s = ends-small (Horizontal row col) (k .sized .sides) (h, l) in
+        record {
+          which = (refl, refl);
+          fraction = divided v _ _ w;
+          x-moves = moves col _ _ (f .spacing) (f .west) (s .1) (d .0) (d .1) (k .near) (k .west);
+          y-exact = exact row (f .south) (s .0) (k .south);
+        }
+
+    along-column : (row col : ℕ) → row + 1 < f .rows → col < f .columns → crossedEdge levels (f .columns) v (Vertical row col) ≡ true
+        → AlongColumn levels f v row col (Crossed (alongEdge levels (f .columns) v (Vertical row col))) (Place (locate (alongEdge levels (f .columns) v (Vertical row col)) row col f))
+    along-column row col h l x =
+        let w = astride v _ _ x in
+        let d = num-den v _ _ w in
+        let s = ends-small (Vertical row col) (k .sized .sides) (h, l) in
+        record {
+          which = (refl, refl);
+          fraction = divided v _ _ w;
+          x-exact = exact col (f .west) (s .1) (k .west);
+          y-moves = moves row _ _ (f .spacing) (f .south) (s .0) (d .0) (d .1) (k .near) (k .south);
+        }
+
+    -- the edge of a number m
+    crossed-number : (P : Asked → Mapped → Type 0) (e : Edge) (m : ℕ) → n ≡ m → edgeAt (f .columns) (f .rows) m ≡ e → m < edges (f .columns) (f .rows)
+        → crossedAt levels (f .columns) (f .rows) v m ≡ true
+        → (crossedEdge levels (f .columns) v e ≡ true → P (Crossed (alongEdge levels (f .columns) v e)) (Place (locate (alongEdge levels (f .columns) v e) (rowOf e) (colOf e) f))) → Both P
+    crossed-number P e m q i l c p =
+        let at : edgeAt (f .columns) (f .rows) n ≡ e = ap (edgeAt (f .columns) (f .rows)) q ∙ i in
+        let x : crossedAt levels (f .columns) (f .rows) v n ≡ true = ap (crossedAt levels (f .columns) (f .rows) v) q ∙ c in
+        crossed-at P e at (is-crossed true (omega arith) x) (p (sym (ap (crossedEdge levels (f .columns) v) at) ∙ x))
+
+    none-number : (m : ℕ) → n ≡ m → m < edges (f .columns) (f .rows) → (crossedAt levels (f .columns) (f .rows) v m ≡ true → ⊥) → Both (None levels f v)
+    none-number m q l c = none-at (is-crossed false (omega arith) (ap (crossedAt levels (f .columns) (f .rows) v) q ∙ isnt _ c))
+      where
+        isnt : (b : Bool) → (b ≡ true → ⊥) → b ≡ false
+        isnt true h = absurd (h refl)
+        isnt false h = refl
+
+    by-number : Both (ByNumber levels f v n)
+    by-number =
+        let e = edges-numbered (f .columns) (f .rows) wide in
+        let x = crossed-exactly levels (f .columns) (f .rows) v wide in
+        record {
+          row-crossed = λ row col h l q o.
+              crossed-number (AlongRow levels f v row col) (Horizontal row col) _ q (e .lying row col h l .1) (e .below row col .0 h l) (x .lying row col h l .1 o) (along-row row col h l);
+          row-not = λ row col h l q o. none-number _ q (e .below row col .0 h l) (λ t. o (x .lying row col h l .0 t));
+          column-crossed = λ row col h l q o.
+              crossed-number (AlongColumn levels f v row col) (Vertical row col) _ q (e .standing row col h l .1) (e .below row col .1 h l) (x .standing row col h l .1 o) (along-column row col h l);
+          column-not = λ row col h l q o. none-number _ q (e .below row col .1 h l) (λ t. o (x .standing row col h l .0 t));
+          past = λ h. none-at (rw (le-ltb n (edges (f .columns) (f .rows)) h));
+        }
+
+  pub answered-by-number : Answered levels f v n (crossingAsked levels f v n) (mappedOf levels f v n)
+  answered-by-number = record {
+    asked-refusal = rw asked-refused (contour-refused levels f v 0 (inl refl));
+    mapped-refusal = rw mapped-refused (contour-refused levels f v 0 (inl refl));
+    fraction-range = fraction-range;
+    by-number = λ z. by-number (sym asked-refused ∙ z);
+  }
 
 -- ---- none exactly where the edge isn't in the network or isn't crossed
 

@@ -33,8 +33,10 @@ fractionOf v a b = round binary64 false (distance v a) (distance b a)
 
 -- the crossing of an edge of the network that is crossed
 abbrev pub alongEdge : List ℕ → ℕ → ℕ → Edge → Crossing
-alongEdge levels nx v (Horizontal row col) = AlongHorizontal (fractionOf v (levelAt levels nx row col) (levelAt levels nx row (col + 1)))
-alongEdge levels nx v (Vertical row col) = AlongVertical (fractionOf v (levelAt levels nx row col) (levelAt levels nx (row + 1) col))
+alongEdge levels nx v (Horizontal row col) =
+    AlongHorizontal (fractionOf v (levelAt levels nx row col) (levelAt levels nx row (col + 1)))
+alongEdge levels nx v (Vertical row col) =
+    AlongVertical (fractionOf v (levelAt levels nx row col) (levelAt levels nx (row + 1) col))
 
 -- whether the edge of that number is in the network and crossed
 abbrev pub isCrossed : List ℕ → Frame → ℕ → ℕ → Bool
@@ -42,7 +44,8 @@ isCrossed levels f v n = ltb n (edges (f .columns) (f .rows)) && crossedAt level
 
 -- the crossing of the edge of a number: none exactly where that edge isn't in the network or isn't crossed
 abbrev pub crossingOf : List ℕ → Frame → ℕ → ℕ → Crossing
-crossingOf levels f v n = cond (isCrossed levels f v n) (alongEdge levels (f .columns) v (edgeAt (f .columns) (f .rows) n)) Nowhere
+crossingOf levels f v n =
+    cond (isCrossed levels f v n) (alongEdge levels (f .columns) v (edgeAt (f .columns) (f .rows) n)) Nowhere
 
 -- a crossing's number and fraction: 0 none, 1 along a horizontal edge, 2 along a vertical edge
 abbrev pub whichOf : Crossing → ℕ
@@ -55,6 +58,20 @@ fractionShown Nowhere = whole 0
 fractionShown (AlongHorizontal f) = f
 fractionShown (AlongVertical f) = f
 
+-- an answer's refusal, 0 for none, and its crossing's number and fraction: 0 and 0.0 where it is refused
+abbrev pub askedRefusal : Asked → ℕ
+askedRefusal (Crossed c) = 0
+askedRefusal (Refused n) = n
+
+abbrev pub askedWhich : Asked → ℕ
+askedWhich (Crossed c) = whichOf c
+askedWhich (Refused n) = 0
+
+abbrev pub askedFraction : Asked → Float
+askedFraction (Crossed c) = fractionShown c
+askedFraction (Refused n) = whole 0
+
 -- the call: 12, 13, 15, and then the crossing
 abbrev pub crossingAsked : List ℕ → Frame → ℕ → ℕ → Asked
-crossingAsked levels f v n = cond (eqb (contourRefusal levels f v) 0) (Crossed (crossingOf levels f v n)) (Refused (contourRefusal levels f v))
+crossingAsked levels f v n =
+    cond (eqb (contourRefusal levels f v) 0) (Crossed (crossingOf levels f v n)) (Refused (contourRefusal levels f v))

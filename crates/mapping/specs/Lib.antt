@@ -3,3 +3,4 @@ pub mod Places
 pub mod Many
 pub mod Lent
 pub mod Ranges
+pub mod Room

@@ -2,3 +2,5 @@ pub mod Place
 pub mod Numbers
 pub mod Refusals
 pub mod Astride
+pub mod Numbering
+pub mod Ranges

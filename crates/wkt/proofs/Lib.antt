@@ -5,3 +5,4 @@ pub mod Rooms
 pub mod Contours
 pub mod Joined
 pub mod Printing
+pub mod Printout

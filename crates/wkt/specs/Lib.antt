@@ -3,3 +3,4 @@ pub mod Text
 pub mod Parts
 pub mod Runs
 pub mod Calls
+pub mod Printout
