@@ -1,0 +1,9 @@
+pub mod Counts
+pub mod Begun
+pub mod Dues
+pub mod Turns
+pub mod Writes
+pub mod Levels
+pub mod Gathering
+pub mod Short
+pub mod Drawings

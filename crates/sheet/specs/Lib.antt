@@ -1,0 +1,5 @@
+pub mod Words
+pub mod Sheet
+pub mod Due
+pub mod Intake
+pub mod Drawing
