@@ -1,12 +1,13 @@
 -- What is accepted can be drawn, and what is written is then the sheet; what is refused is written as its line. Assumes nothing.
-use Prim.Native.Nat.{ℕ, zero, suc, _≤_, _<_}
+use Prim.Native.Nat.{ℕ, zero, suc, _*_, _≤_, _<_}
 use mathlib.Core.Path.{_≡_, refl, sym, ap, _∙_, subst}
 use mathlib.Core.Bool.{Bool, true, false, cond, _&&_}
 use mathlib.Core.List.{List, [], _∷_, map}
 use native.Mathlib.Omega.{arith}
 use borrow.Author.Tests.{eq-eqb, ne-eqb, eqb-true, leb-true}
 use lib.Dec.{eqb, leb}
-use lib.ListN.{length, getD, length-map}
+use lib.ListN.{length, getD, take, drop, replicate, length-map, length-append}
+use lib.Seq.{take-append-seam}
 use Rattle.refusal.specs.Range.{allWithin}
 use Rattle.refusal.proofs.Laws.{and-left, and-right, refuse-none}
 use Rattle.text.specs.Line.{linesOf}
@@ -19,14 +20,15 @@ use Rattle.network.specs.Refusals.{sided, placed, filled}
 use Rattle.network.proofs.Refusals.{is-checked, in-between}
 use Rattle.grid.specs.Row.{all, rowGiven, levelsOf}
 use Rattle.grid.specs.File.{frameOf, noDataOf, rowsOf, faultLine, rowsFit}
-use Rattle.grid.specs.Read.{headerSize, textFrame, textLevels, linesRefusal, readRefusal}
+use Rattle.grid.specs.Read.{headerSize, numbersOf, textFrame, textLevels, linesRefusal, readRefusal, over, headerAfter, levelsAfter}
+use Rattle.grid.proofs.WriteLaws.{points-most}
 use Rattle.grid.proofs.ValueLaws.{all-cons}
 use Rattle.sheet.proofs.Levels.{word-range}
 use Rattle.sheet.specs.declared.words.Given.{Given}
 use Rattle.sheet.proofs.Gathering.{words-given}
 use Rattle.sheet.specs.Words.{wordLevel, isContour, mostLevels, wordsRefusal, givenRefusal, levelsIn, Gathered}
 use Rattle.sheet.specs.Sheet.{mostPoints, textRefusal, refusalOf, refusedAt, refusedLine, sheetOf, writtenOf}
-use Rattle.sheet.specs.Drawing.{Accepted, Refused, Drawable}
+use Rattle.sheet.specs.Drawing.{Accepted, Refused, Stored, Drawable}
 
 -- no refusal is none of the text and none of the words
 pub fine-both : (text : List ℕ) (words : List (List ℕ)) → refusalOf text words ≡ 0 → (textRefusal text ≡ 0) × (wordsRefusal words ≡ 0)
@@ -109,3 +111,43 @@ pub accepted : {text room levels asked : List ℕ} {g : Given} {f : Frame} (k : 
     → asked ≡ levelsIn (k .words) → Accepted text g room levels f asked
 unfolding refusalOf
 accepted k z w l f a = record { given = k; fine = rw z (words-given k ∙ w); network = l; frame = f; order = a }
+
+-- ---- what was stored
+
+pub given-fine : (g : Given) → givenRefusal g ≡ 0 → (g .fit ≡ true) × (g .count ≤ mostLevels)
+unfolding givenRefusal
+given-fine g h =
+    let a = refuse-none 15 (leb 1 (g .count) && g .fit) _ (omega arith) h in
+    let b = refuse-none 14 (leb (g .count) mostLevels) 0 (omega arith) (a .1) in
+    (and-right (leb 1 (g .count)) (g .fit) (a .0), leb-true _ _ (b .0))
+
+-- the levels at the front of the words' room
+pub words-front : {g : Given} {room : List ℕ} (k : Gathered g room) → givenRefusal g ≡ 0 → length room ≡ mostLevels → take (g .count) room ≡ levelsIn (k .words)
+words-front {g} {room} k z long =
+    let f = given-fine g z in
+    rw (k .count) (k .stored (f .0) (omega (arith, k .count, f .1)))
+
+-- the frame of five numbers
+pub frame-back : (header : List ℕ) (f : Frame) → header ≡ numbersOf f
+    → _≡_ {A = Frame} (record { columns = getD header 0 0; rows = getD header 1 0; spacing = getD header 2 0; west = getD header 3 0; south = getD header 4 0 }) f
+frame-back header f e = rw e refl
+
+-- as many points as the frame says
+pub points-are : (text : List ℕ) → textRefusal text ≡ 0 → length (textLevels text) ≡ textFrame text .rows * textFrame text .columns
+points-are text z = text-checked text z .sized .full
+
+pub stored : {text header header′ levels′ : List ℕ} (levels : List ℕ) → textRefusal text ≡ 0 → header ≡ replicate 5 0 → length levels ≡ mostPoints
+    → header′ ≡ headerAfter text header levels → levels′ ≡ levelsAfter text header levels → Stored text header′ levels′
+stored {text} {header} {header′} {levels′} levels z five room h l =
+    let k = text-checked text z in
+    let few = points-most (textLevels text) (textFrame text .columns) (textFrame text .rows) (k .sized) in
+    let five′ : length header ≡ headerSize = ap length five in
+    let r : readRefusal text (length header) (length levels) ≡ 0 = rw (five′, room) z in
+    let h′ : header′ ≡ numbersOf (textFrame text) = h ∙ rw (r, five) refl in
+    let l′ : levels′ ≡ over (textLevels text) levels = l ∙ rw r refl in
+    record {
+      five = ap length h′;
+      numbers = h′;
+      fits = rw (l′, length-append (textLevels text) (drop (length (textLevels text)) levels)) (omega arith);
+      front = rw l′ (take-append-seam (textLevels text) (drop (length (textLevels text)) levels));
+    }

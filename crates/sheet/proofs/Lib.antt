@@ -7,3 +7,5 @@ pub mod Levels
 pub mod Gathering
 pub mod Short
 pub mod Drawings
+pub mod Order
+pub mod Telling

@@ -21,7 +21,7 @@ abbrev pub failed : ℕ
 failed = 2
 
 -- a read behind the first n bytes of a buffer of `room`: bytes came, there are no more, or it failed
-abbrev pub turnOf : ℤ → ℕ → ℕ → Turn
+unfoldable pub turnOf : ℤ → ℕ → ℕ → Turn
 turnOf (pos k) n room =
     cond (eqb (min k (room - n)) 0) (record { size = n; state = whole }) (record { size = n + min k (room - n); state = reading })
 turnOf (negsuc k) n room = record { size = n; state = failed }

@@ -3,3 +3,4 @@ pub mod Sheet
 pub mod Due
 pub mod Intake
 pub mod Drawing
+pub mod Told
