@@ -9,3 +9,4 @@ pub mod Short
 pub mod Drawings
 pub mod Order
 pub mod Telling
+pub mod Overlong
