@@ -45,7 +45,7 @@ stream-line s t h =
     ∙ rw (first-stays s t h, drop-append-le (length (firstLine s) + 2) s t h) refl
 
 -- with no line end ahead the next byte stands in the first line
-unended : (s : List ℕ) → length s ≤ length (firstLine s) → linesOf (s ++ (0 ∷ [])) ≡ (s ++ (0 ∷ [])) ∷ []
+pub unended : (s : List ℕ) → length s ≤ length (firstLine s) → linesOf (s ++ (0 ∷ [])) ≡ (s ++ (0 ∷ [])) ∷ []
 unfolding firstLine linesOf
 unended [] h = refl
 unended (c ∷ []) h = rw (and-false (eqb c 13)) refl

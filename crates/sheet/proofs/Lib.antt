@@ -10,3 +10,4 @@ pub mod Drawings
 pub mod Order
 pub mod Telling
 pub mod Overlong
+pub mod Stays

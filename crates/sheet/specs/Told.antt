@@ -9,7 +9,7 @@ use Rattle.grid.specs.File.{faultLine}
 use Rattle.grid.specs.Read.{textFrame, textLevels}
 use Rattle.wkt.specs.Calls.{networkText}
 use Rattle.sheet.specs.Words.{wordLevel}
-use Rattle.sheet.specs.Sheet.{textRefusal, refusalOf, refusedLine, writtenOf}
+use Rattle.sheet.specs.Sheet.{textRefusal, refusalOf, refusedLine, writtenOf, lineBegun, overlongLine}
 
 -- `level;wkt`
 abbrev pub headingText : List ℕ
@@ -38,3 +38,9 @@ pub record Judged (text : List ℕ) (words : List (List ℕ)) : Type 0 where
   pub a-word : textRefusal text ≡ 0 → (i : ℕ) → i < length words → (Spells (getD words i []) → ⊥) → writtenOf text words ≡ refusedLine 15 0
   pub many-words : textRefusal text ≡ 0 → ((i : ℕ) → i < length words → Spells (getD words i [])) → 15000 < length words → writtenOf text words ≡ refusedLine 14 0
   pub drawn : textRefusal text ≡ 0 → ((i : ℕ) → i < length words → Spells (getD words i [])) → 1 ≤ length words → length words ≤ 15000 → refusalOf text words ≡ 0
+
+-- Of a text whose first bytes fill the program's room: a line that is told, and that they end, is the first at fault of the whole text, whatever
+-- follows; and 12 is right of the whole text where no line of it is at fault. Where one is, but past the room, 12 is told all the same
+pub record FillsRoom (front : List ℕ) : Type 0 where
+  pub line : (u : List ℕ) → 1 ≤ overlongLine front → overlongLine front < lineBegun front → faultLine (linesOf (front ++ u)) ≡ overlongLine front
+  pub twelve : (u : List ℕ) → faultLine (linesOf (front ++ u)) ≡ 0 → textRefusal (front ++ u) ≡ 12
