@@ -1,6 +1,7 @@
-// The contours program: a network file on standard input and contour levels as arguments make a CSV on standard output, `level;wkt`, with one
-// line of well-known text for each level. A refusal is the one line `refused,number,line`, with a sentence on standard error. It moves bytes;
-// what it decides is decided in the libraries below.
+// The contours program: a network file on standard input and contour levels as arguments make a CSV on standard
+// output, `level;wkt`, with one line of well-known text for each level. A refusal is the one line
+// `refused,number,line`, with a sentence on standard error. It moves bytes; what it decides is decided in the
+// libraries below.
 mod input;
 mod print;
 mod say;
@@ -21,7 +22,8 @@ ghost use Rattle.sheet.specs.Sheet.{textRefusal, refusedAt, mostText};
 ghost use Rattle.sheet.specs.Words.{Gathered, mostLevels, givenRefusal};
 ghost use Rattle.sheet.specs.Drawing.{Stored};
 
-// Room for any network that is not refused, and more: 65,536 values of up to 8 bytes, each with the space or line end behind it, and the header.
+// Room for any network that is not refused, and more: 65,536 values of up to 8 bytes, each with the space or line end
+// behind it, and the header.
 const MOST_TEXT: usize = 600_000;
 
 fn main() {

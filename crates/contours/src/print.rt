@@ -1,5 +1,5 @@
-// The sheet on standard output. Each part is put together in a buffer and handed to one write, where it is due: behind the part before it. The text of a
-// level's contours goes out in parts of up to 4,096 bytes, so it may have any length.
+// The sheet on standard output. Each part is put together in a buffer and handed to one write, where it is due: behind
+// the part before it. The text of a level's contours goes out in parts of up to 4,096 bytes, so it may have any length.
 use contour::core::MOST_EDGES;
 use contour::core::Progress;
 use libc::STDOUT_FILENO;
@@ -61,7 +61,8 @@ fn lines(levels: &[u32], frame: Frame, asked: &[u32]) -> usize
 fn one_level(levels: &[u32], frame: Frame, asked: &[u32], i: usize, at: usize) -> usize
     requires { ⌜ Drawable (now levels) frame (now asked) ⌝ }
     requires { ⌜ i < length (now asked) ⌝ }
-    requires { ⌜ Due (sheetOf (now levels) frame (now asked)) at (levelLine (now levels) frame (getD (now asked) i 0)) ⌝ }
+    requires { ⌜ Due (sheetOf (now levels) frame (now asked)) at
+        (levelLine (now levels) frame (getD (now asked) i 0)) ⌝ }
     ensures { λ r. ⌜ r ≡ at + length (levelLine (now (levels .entry)) frame (getD (now (asked .entry)) i 0)) ⌝ }
 {
     let v = asked[i];
@@ -110,12 +111,16 @@ fn fronts(
     from: usize,
 ) -> usize
     requires { ⌜ Drawable (now levels) frame (now asked) ⌝ }
-    requires { ⌜ ((got .edges ≤ length (now edges)) × ((got .contours ≤ length (now counts)) × (got .contours ≤ length (now closed))))
-        × Printable (now levels) frame v (take (got .edges) (now edges)) (take (got .contours) (now counts)) (take (got .contours) (now closed)) ⌝ }
+    requires { ⌜ ((got .edges ≤ length (now edges))
+        × ((got .contours ≤ length (now counts)) × (got .contours ≤ length (now closed))))
+        × Printable (now levels) frame v (take (got .edges) (now edges))
+        (take (got .contours) (now counts)) (take (got .contours) (now closed)) ⌝ }
     requires { ⌜ Due (sheetOf (now levels) frame (now asked)) from (textOf (now levels) frame v
-        (linesFrom (take (got .edges) (now edges)) (take (got .contours) (now counts)) (take (got .contours) (now closed)))) ⌝ }
+        (linesFrom (take (got .edges) (now edges)) (take (got .contours) (now counts))
+        (take (got .contours) (now closed)))) ⌝ }
     ensures { λ r. ⌜ r ≡ from + length (textOf (now (levels .entry)) frame v
-        (linesFrom (take (got .edges) (now (edges .entry))) (take (got .contours) (now (counts .entry))) (take (got .contours) (now (closed .entry))))) ⌝ }
+        (linesFrom (take (got .edges) (now (edges .entry))) (take (got .contours) (now (counts .entry)))
+        (take (got .contours) (now (closed .entry))))) ⌝ }
 {
     let n = got.edges;
     let m = got.contours;
@@ -144,8 +149,10 @@ fn parts(
 ) -> usize
     requires { ⌜ Drawable (now levels) frame (now asked) ⌝ }
     requires { ⌜ Printable (now levels) frame v (now edges) (now counts) (now closed) ⌝ }
-    requires { ⌜ Due (sheetOf (now levels) frame (now asked)) from (textOf (now levels) frame v (linesFrom (now edges) (now counts) (now closed))) ⌝ }
-    ensures { λ r. ⌜ r ≡ from + length (textOf (now (levels .entry)) frame v (linesFrom (now (edges .entry)) (now (counts .entry)) (now (closed .entry)))) ⌝ }
+    requires { ⌜ Due (sheetOf (now levels) frame (now asked)) from
+        (textOf (now levels) frame v (linesFrom (now edges) (now counts) (now closed))) ⌝ }
+    ensures { λ r. ⌜ r ≡ from + length (textOf (now (levels .entry)) frame v
+        (linesFrom (now (edges .entry)) (now (counts .entry)) (now (closed .entry)))) ⌝ }
 {
     let mut room = io::buffer();
     let mut at = first();
@@ -159,7 +166,8 @@ fn parts(
     done
 }
 
-// The one line of a refusal: of a text and words that are refused, of bytes that can't be read on, and of bytes that fill the buffer.
+// The one line of a refusal: of a text and words that are refused, of bytes that can't be read on, and of bytes that
+// fill the buffer.
 pub(crate) fn refusal(text: &[u8], room: &[u32], given: Given, number: u32, line: u64)
     requires { ⌜ Refused (now text) given (now room) number line ⌝ }
 {

@@ -12,7 +12,7 @@ use Rattle.sheet.specs.Words.{mostLevels, levelsIn, Gathered}
 use Rattle.sheet.specs.Sheet.{refusalOf, refusedAt}
 
 -- the network and the levels of a text and of the words that were given, which are not refused
-pub record Accepted (text : List ℕ) (g : Given) (room : List ℕ) (levels : List ℕ) (f : Frame) (asked : List ℕ) : Type 0 where
+pub record Accepted (text : List ℕ) (g : Given) (room levels : List ℕ) (f : Frame) (asked : List ℕ) : Type 0 where
   pub given : Gathered g room
   pub fine : refusalOf text (given .words) ≡ 0
   pub network : levels ≡ textLevels text

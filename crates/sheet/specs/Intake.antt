@@ -1,5 +1,5 @@
--- The network's bytes as they come, one behind the other into a buffer. No contract of C's `read` says which bytes come: they are what the
--- buffer then holds. Assumes nothing.
+-- The network's bytes as they come, one behind the other into a buffer. No contract of C's `read` says which bytes
+-- come: they are what the buffer then holds. Assumes nothing.
 use Prim.Native.Nat.{ℕ, _+_, _-_, _≤_, _<_, min}
 use mathlib.Core.Path.{_≡_}
 use mathlib.Core.Bool.{true, cond}
@@ -23,7 +23,9 @@ failed = 2
 -- a read behind the first n bytes of a buffer of `room`: bytes came, there are no more, or it failed
 unfoldable pub turnOf : ℤ → ℕ → ℕ → Turn
 turnOf (pos k) n room =
-    cond (eqb (min k (room - n)) 0) (record { size = n; state = whole }) (record { size = n + min k (room - n); state = reading })
+    cond (eqb (min k (room - n)) 0)
+    (record { size = n; state = whole })
+    (record { size = n + min k (room - n); state = reading })
 turnOf (negsuc k) n room = record { size = n; state = failed }
 
 -- pieces one behind the other
@@ -38,8 +40,8 @@ pub record Turned (text : List ℕ) (n : ℕ) (t : Turn) (text′ : List ℕ) : 
   pub kept : take n text′ ≡ take n text
   pub long : length text′ ≡ length text
 
--- All reads: the pieces that came, joined, stand at the front of the buffer. It is whole only where the last read answered 0, though there was room,
--- and failed only where it answered less; else the buffer is full
+-- All reads: the pieces that came, joined, stand at the front of the buffer. It is whole only where the last read
+-- answered 0, though there was room, and failed only where it answered less; else the buffer is full
 pub record TextRead (t : Turn) (text : List ℕ) : Type 0 where
   pub pieces : List (List ℕ)
   pub last : ℤ

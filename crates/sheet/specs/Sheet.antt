@@ -1,5 +1,5 @@
--- All that the program contours writes on standard output, from the network's bytes and its arguments. CRLF is 13 and 10.
--- Assumes nothing.
+-- All that the program contours writes on standard output, from the network's bytes and its arguments.
+-- CRLF is 13 and 10. Assumes nothing.
 use Prim.Native.Nat.{ℕ, _*_}
 use mathlib.Core.Bool.{cond}
 use mathlib.Core.List.{List, [], _∷_, _++_}
@@ -43,7 +43,8 @@ showCount n = shown 20 n
 -- `refused,number,line`
 unfoldable pub refusedLine : ℕ → ℕ → List ℕ
 refusedLine number line =
-    (114 ∷ 101 ∷ 102 ∷ 117 ∷ 115 ∷ 101 ∷ 100 ∷ 44 ∷ []) ++ (showCount number ++ ((44 ∷ []) ++ (showCount line ++ lineEnd)))
+    (114 ∷ 101 ∷ 102 ∷ 117 ∷ 115 ∷ 101 ∷ 100 ∷ 44 ∷ [])
+    ++ (showCount number ++ ((44 ∷ []) ++ (showCount line ++ lineEnd)))
 
 -- the network is judged whole, 17, 12 and 13, and then the words
 abbrev pub mostPoints : ℕ
@@ -74,8 +75,9 @@ lineBegun text = length (linesOf (text ++ (0 ∷ [])))
 abbrev pub failedOf : List ℕ → List ℕ
 failedOf text = refusedLine 17 (lineBegun text)
 
--- The program has room for any network that is not refused, with the header: 65,536 values of up to 8 bytes and the byte behind each. Of a text that
--- fills the room the lines that it ends are judged, and the header: the first at fault is 17, and else the text has too many values
+-- The program has room for any network that is not refused, with the header: 65,536 values of up to 8 bytes and the
+-- byte behind each. Of a text that fills the room the lines that it ends are judged, and the header: the first at fault
+-- is 17, and else the text has too many values
 abbrev pub mostText : ℕ
 mostText = 600000
 

@@ -1,4 +1,5 @@
--- The arguments of the program contours: one contour level or more, each as document 01 writes a level. Assumes nothing.
+-- The arguments of the program contours: one contour level or more, each as document 01 writes a level.
+-- Assumes nothing.
 use Prim.Native.Nat.{ℕ, _-_, _≤_, _<_}
 use mathlib.Core.Path.{_≡_}
 use mathlib.Core.Bool.{Bool, true, _&&_}
@@ -25,7 +26,8 @@ mostLevels = mostContour
 
 -- 15 where there is no level, or a word is none; 14 for more words than there are levels
 unfoldable pub wordsRefusal : List (List ℕ) → ℕ
-wordsRefusal words = refuse 15 (leb 1 (length words) && all isContour words) (refuse 14 (leb (length words) mostLevels) 0)
+wordsRefusal words =
+    refuse 15 (leb 1 (length words) && all isContour words) (refuse 14 (leb (length words) mostLevels) 0)
 
 unfoldable pub givenRefusal : Given → ℕ
 givenRefusal g = refuse 15 (leb 1 (g .count) && g .fit) (refuse 14 (leb (g .count) mostLevels) 0)

@@ -57,7 +57,7 @@ pub fn line_begun(text: &[u8]) -> usize
     line
 }
 
-// The line at fault of a text that fills its buffer, or 0 where no line that it ends is at fault and neither is the header.
+// The line at fault of a text that fills its buffer, or 0 where neither the header nor a line that it ends is at fault.
 pub fn overlong_line(text: &[u8]) -> usize
     ensures { λ r. ⌜ r ≡ overlongLine (now (text .entry)) ⌝ }
 {

@@ -1,4 +1,5 @@
-// What stands around the texts of contours, put into a lent buffer that has room. A writer writes from a place on and answers the place past its text.
+// What stands around the texts of contours, put into a lent buffer that has room. A writer writes from a place on and
+// answers the place past its text.
 use text::core::put_byte;
 use text::core::put_level;
 use text::core::put_text;
