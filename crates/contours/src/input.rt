@@ -1,50 +1,76 @@
-// What the program is given: the network's text and the contour levels among its arguments.
-use network::limits::LEAST_CONTOUR;
-use network::limits::MOST_CONTOUR;
-use text::number::Number;
+// What the program is given: the network's bytes and the contour levels among its arguments.
+use libc::STDIN_FILENO;
+use sheet::intake::READING;
+use sheet::intake::Turn;
+use sheet::intake::next_turn;
+use sheet::words::Given;
+use sheet::words::take_word;
+ghost use mathlib.Core.Path.{_≡_};
+ghost use mathlib.Core.Bool.{_&&_};
+ghost use Prim.Native.Nat.{_<_};
+ghost use lib.ListN.{length};
+ghost use Rattle.sheet.specs.Intake.{Turned, TextRead};
+ghost use Rattle.sheet.specs.Words.{Gathered, ArgumentTaken};
 
-// More bytes than any network on its layout has: 65,536 values of up to 7 bytes with the space or line end behind them, and the header.
-pub const MOST_TEXT: usize = 524_288;
-
-// The first line at fault where the text is off its layout; the other refusals are of the whole.
-pub fn fault_line(text: &[u8], refused: u32) -> u64 {
-    if refused == 17 {
-        grid::read::fault_line(text) as u64
-    } else {
-        0
-    }
+// One read behind the first n bytes.
+fn read_on(text: &mut [u8], n: usize) -> Turn
+    requires { ⌜ n < length (now text) ⌝ }
+    ensures { λ r. ⌜ Turned (now (text .entry)) n r (now (text .exit)) ⌝ }
+{
+    let got = libc::read(STDIN_FILENO, &mut text[n..]);
+    next_turn(got, text, n)
 }
 
-// The contour level of an argument, or 0, which is none, where it is no level or out of range.
-pub fn level_at(i: usize) -> u32 {
-    let mut word = [0u8; 16];
-    let n = os::arg(i, &mut word);
-    match text::number::level(&word[..n]) {
-        Number::Got(v) => {
-            if v < LEAST_CONTOUR {
-                return 0;
-            }
-            if MOST_CONTOUR < v {
-                return 0;
-            }
-            v
+// Reads the network's bytes, in whatever pieces they come, until they end, a read fails or the buffer is full.
+pub(crate) fn read_text(text: &mut [u8]) -> Turn
+    ensures { λ r. ⌜ TextRead r (now (text .exit)) ⌝ }
+{
+    let mut n = 0;
+    while n < text.len() {
+        let turn = read_on(text, n);
+        let state = turn.state;
+        if state != READING {
+            return turn;
         }
-        Number::Off => 0,
+        n = turn.size;
+    }
+    Turn {
+        size: n,
+        state: READING,
     }
 }
 
-// Whether there is a level, and every argument is one.
-pub fn all_levels_fit() -> bool {
-    let count = os::arg_count();
-    if count < 2 {
-        return false;
+// Whether both hold.
+fn both(a: bool, b: bool) -> bool
+    ensures { λ r. ⌜ r ≡ (a && b) ⌝ }
+{
+    if a {
+        return b;
     }
+    false
+}
+
+// Reads the program's arguments once: the levels that they spell, in their order, and how many words there are.
+pub(crate) fn gather(asked: &mut [u32]) -> Given
+    ensures { λ r. ⌜ Gathered r (now (asked .exit)) ⌝ }
+{
+    let count = os::arg_count();
+    let mut fit = true;
     let mut i = 1;
     while i < count {
-        if level_at(i) == 0 {
-            return false;
-        }
+        let good = word_at(asked, i);
+        fit = both(fit, good);
         i += 1;
     }
-    true
+    Given { count: i - 1, fit }
+}
+
+// Argument number i.
+fn word_at(asked: &mut [u32], i: usize) -> bool
+    requires { ⌜ 0 < i ⌝ }
+    ensures { λ r. ⌜ ArgumentTaken (now (asked .entry)) i r (now (asked .exit)) ⌝ }
+{
+    let mut word = [0u8; 16];
+    let n = os::arg(i, &mut word);
+    take_word(asked, i - 1, &word[..n])
 }

@@ -1,39 +1,134 @@
-// The contours program: a network file on standard input and contour levels as arguments make a CSV on standard output, `level;wkt`, with one
-// line of well-known text for each level. A refusal is the one line `refused,number,line`, with a sentence on standard error.
+// The contours program: a network file on standard input and contour levels as arguments make a CSV on standard
+// output, `level;wkt`, with one line of well-known text for each level. A refusal is the one line
+// `refused,number,line`, with a sentence on standard error. It moves bytes; what it decides is decided in the
+// libraries below.
 mod input;
 mod print;
 mod say;
 
-use input::MOST_TEXT;
 use network::Frame;
+use sheet::intake::FAILED;
+use sheet::intake::Turn;
+use sheet::intake::WHOLE;
+use sheet::intake::line_begun;
+use sheet::intake::overlong_line;
+use sheet::words::Given;
+use sheet::words::MOST_LEVELS;
+use sheet::words::words_refusal;
+ghost use mathlib.Core.Path.{_≡_};
+ghost use lib.ListN.{length};
+ghost use Rattle.sheet.specs.Intake.{TextRead};
+ghost use Rattle.sheet.specs.Sheet.{textRefusal, refusedAt, mostText};
+ghost use Rattle.sheet.specs.Words.{Gathered, mostLevels, givenRefusal};
+ghost use Rattle.sheet.specs.Drawing.{Stored};
+
+// Room for any network that is not refused, and more: 65,536 values of up to 8 bytes, each with the space or line end
+// behind it, and the header.
+const MOST_TEXT: usize = 600_000;
 
 fn main() {
     let mut text = [0u8; MOST_TEXT];
-    let n = io::read_full(0, &mut text);
-    let mut header = [0u32; 5];
-    let mut levels = [0u32; 65536];
-    contours_of(&text, n, &mut header, &mut levels);
+    let mut asked = [0u32; MOST_LEVELS];
+    let read = input::read_text(&mut text);
+    let given = input::gather(&mut asked);
+    answer(&text, read, &asked, given);
 }
 
-// The network of the first n bytes, judged whole, then the arguments, and then the lines.
-fn contours_of(text: &[u8], n: usize, header: &mut [u32; 5], levels: &mut [u32]) {
-    if text.len() <= n {
-        say::refused(12, 0);
-        say::of_network(12, 0);
+// What the reading came to.
+fn answer(text: &[u8], read: Turn, asked: &[u32], given: Given)
+    requires { ⌜ TextRead read (now text) ⌝ }
+    requires { ⌜ length (now text) ≡ mostText ⌝ }
+    requires { ⌜ length (now asked) ≡ mostLevels ⌝ }
+    requires { ⌜ Gathered given (now asked) ⌝ }
+{
+    let size = read.size;
+    let state = read.state;
+    if state == WHOLE {
+        judged(&text[..size], asked, given);
         return;
     }
-    let refused = grid::read::read_network(&text[..n], header, levels);
-    if refused != 0 {
-        let line = input::fault_line(&text[..n], refused);
-        say::refused(refused, line);
-        say::of_network(refused, line);
+    if state == FAILED {
+        failed(&text[..size]);
         return;
     }
-    if !input::all_levels_fit() {
-        say::refused(15, 0);
-        say::of_levels();
+    overlong(text);
+}
+
+// The bytes can't be read on, which is never taken for their end.
+fn failed(text: &[u8]) {
+    let line = line_begun(text);
+    print::failure(text, line as u64);
+    say::of_read_error(line as u64);
+}
+
+// The bytes fill the buffer.
+fn overlong(text: &[u8])
+    requires { ⌜ length (now text) ≡ mostText ⌝ }
+{
+    let line = overlong_line(text);
+    print::overlong(text, line as u64);
+    say::of_overlong(line as u64);
+}
+
+// The whole network is judged, and then the words.
+fn judged(text: &[u8], asked: &[u32], given: Given)
+    requires { ⌜ Gathered given (now asked) ⌝ }
+    requires { ⌜ length (now asked) ≡ mostLevels ⌝ }
+{
+    let mut header = [0u32; 5];
+    let mut levels = [0u32; 65536];
+    let why = grid::read::read_network(text, &mut header, &mut levels);
+    if why != 0 {
+        refuse_network(text, why, asked, given);
         return;
     }
+    with_words(text, &header, &levels, asked, given);
+}
+
+// The network is refused.
+fn refuse_network(text: &[u8], why: u32, asked: &[u32], given: Given)
+    requires { ⌜ Gathered given (now asked) ⌝ }
+    requires { ⌜ (why ≡ textRefusal (now text)) × (why ≡ 0 → ⊥) ⌝ }
+{
+    let line = refused_line(text, why);
+    print::refusal(text, asked, given, why, line);
+    say::of_network(why, line);
+}
+
+// The first line at fault where the text is off its layout; the other refusals are of the whole.
+fn refused_line(text: &[u8], why: u32) -> u64
+    ensures { λ r. ⌜ r ≡ refusedAt (now (text .entry)) why ⌝ }
+{
+    if why == 17 {
+        return grid::read::fault_line(text) as u64;
+    }
+    0
+}
+
+// The words, for a network that is not refused.
+fn with_words(text: &[u8], header: &[u32], levels: &[u32], asked: &[u32], given: Given)
+    requires { ⌜ Gathered given (now asked) ⌝ }
+    requires { ⌜ length (now asked) ≡ mostLevels ⌝ }
+    requires { ⌜ textRefusal (now text) ≡ 0 ⌝ }
+    requires { ⌜ Stored (now text) (now header) (now levels) ⌝ }
+{
+    let why = words_refusal(given);
+    if why != 0 {
+        print::refusal(text, asked, given, why, 0);
+        say::of_levels(why);
+        return;
+    }
+    draw(text, header, levels, asked, given);
+}
+
+// The sheet of a network and words that are not refused.
+fn draw(text: &[u8], header: &[u32], levels: &[u32], asked: &[u32], given: Given)
+    requires { ⌜ Gathered given (now asked) ⌝ }
+    requires { ⌜ length (now asked) ≡ mostLevels ⌝ }
+    requires { ⌜ textRefusal (now text) ≡ 0 ⌝ }
+    requires { ⌜ Stored (now text) (now header) (now levels) ⌝ }
+    requires { ⌜ givenRefusal given ≡ 0 ⌝ }
+{
     let frame = Frame {
         columns: header[0],
         rows: header[1],
@@ -41,5 +136,14 @@ fn contours_of(text: &[u8], n: usize, header: &mut [u32; 5], levels: &mut [u32])
         west: header[3],
         south: header[4],
     };
-    print::network(levels, frame);
+    let points = frame.rows as usize * frame.columns as usize;
+    let count = given.count;
+    print::sheet(
+        text,
+        asked,
+        given,
+        &levels[..points],
+        frame,
+        &asked[..count],
+    );
 }

@@ -1,56 +1,93 @@
-// The lines of the CSV. The text of a level's contours is printed part by part, through a small buffer, so it may have any length.
-use crate::input::level_at;
+// The sheet on standard output. Each part is put together in a buffer and handed to one write, where it is due: behind
+// the part before it. The text of a level's contours goes out in parts of up to 4,096 bytes, so it may have any length.
 use contour::core::MOST_EDGES;
 use contour::core::Progress;
 use libc::STDOUT_FILENO;
 use network::Frame;
+use sheet::put::put_refused;
+use sheet::put::put_start;
+use sheet::words::Given;
 use wkt::core::first;
 use wkt::core::print_part;
-ghost use Prim.Native.Nat.{_≤_};
-ghost use lib.ListN.{length, take};
-ghost use Rattle.network.specs.Edges.{Checked};
-ghost use Rattle.wkt.specs.Parts.{Printable};
+ghost use mathlib.Core.Path.{_≡_};
+ghost use Prim.Native.Nat.{_+_, _≤_, _<_};
+ghost use lib.ListN.{length, getD, take};
+ghost use Rattle.wkt.specs.Calls.{networkText};
+ghost use Rattle.wkt.specs.Parts.{Printable, linesFrom};
+ghost use Rattle.wkt.specs.Text.{textOf};
+ghost use Rattle.sheet.specs.Sheet.{lineStart, levelLine, sheetOf, refusedLine, lineBegun, mostText, overlongLine};
+ghost use Rattle.sheet.specs.Drawing.{Accepted, Refused, Drawable};
+ghost use Rattle.sheet.specs.Due.{Due};
 
-// The lines of a network, whose levels stand at the front of the slice.
-pub fn network(levels: &[u32], frame: Frame) {
-    let points = frame.columns as usize * frame.rows as usize;
-    if points <= levels.len() {
-        all_levels(&levels[..points], frame);
-    }
+// The write of a part of the sheet, which is due at `at`. It answers the place past it.
+fn written(levels: &[u32], frame: Frame, asked: &[u32], at: usize, part: &[u8]) -> usize
+    requires { ⌜ Drawable (now levels) frame (now asked) ⌝ }
+    requires { ⌜ Due (sheetOf (now levels) frame (now asked)) at (now part) ⌝ }
+    ensures { λ r. ⌜ r ≡ at + length (now (part .entry)) ⌝ }
+{
+    io::write_all(STDOUT_FILENO, part);
+    at + part.len()
 }
 
-// The header and a line for each level.
-fn all_levels(levels: &[u32], frame: Frame) {
-    io::write_all(STDOUT_FILENO, b"level;wkt\r\n");
-    let count = os::arg_count();
-    let mut i = 1;
-    while i < count {
-        one_level(levels, frame, level_at(i));
+// The sheet of a network and words that are not refused.
+pub(crate) fn sheet(
+    text: &[u8],
+    room: &[u32],
+    given: Given,
+    levels: &[u32],
+    frame: Frame,
+    asked: &[u32],
+)
+    requires { ⌜ Accepted (now text) given (now room) (now levels) frame (now asked) ⌝ }
+{
+    lines(levels, frame, asked);
+}
+
+// Its heading and its lines, to its end.
+fn lines(levels: &[u32], frame: Frame, asked: &[u32]) -> usize
+    requires { ⌜ Drawable (now levels) frame (now asked) ⌝ }
+    ensures { λ r. ⌜ r ≡ length (sheetOf (now (levels .entry)) frame (now (asked .entry))) ⌝ }
+{
+    let mut at = written(levels, frame, asked, 0, b"level;wkt\r\n");
+    let mut i = 0;
+    while i < asked.len() {
+        at = one_level(levels, frame, asked, i, at);
         i += 1;
     }
+    at
 }
 
-// The line of a level; network and level are not refused, as was seen before.
-fn one_level(levels: &[u32], frame: Frame, v: u32) {
-    if network::contour_refusal(levels, frame, v) == 0 {
-        print_level(v);
-        io::write_all(STDOUT_FILENO, b";");
-        contours(levels, frame, v);
-        io::write_all(STDOUT_FILENO, b"\r\n");
-    }
+// The line of level number i.
+fn one_level(levels: &[u32], frame: Frame, asked: &[u32], i: usize, at: usize) -> usize
+    requires { ⌜ Drawable (now levels) frame (now asked) ⌝ }
+    requires { ⌜ i < length (now asked) ⌝ }
+    requires { ⌜ Due (sheetOf (now levels) frame (now asked)) at
+        (levelLine (now levels) frame (getD (now asked) i 0)) ⌝ }
+    ensures { λ r. ⌜ r ≡ at + length (levelLine (now (levels .entry)) frame (getD (now (asked .entry)) i 0)) ⌝ }
+{
+    let v = asked[i];
+    let from = start(levels, frame, asked, i, at);
+    let to = contours(levels, frame, asked, v, from);
+    written(levels, frame, asked, to, b"\r\n")
 }
 
-// A level in hundredths, with a point and two digits.
-fn print_level(n: u32) {
-    io::print_decimal(STDOUT_FILENO, (n / 100) as u64);
-    io::write_all(STDOUT_FILENO, b".");
-    io::print_decimal(STDOUT_FILENO, (n / 10 % 10) as u64);
-    io::print_decimal(STDOUT_FILENO, (n % 10) as u64);
+// The level and its semicolon.
+fn start(levels: &[u32], frame: Frame, asked: &[u32], i: usize, at: usize) -> usize
+    requires { ⌜ Drawable (now levels) frame (now asked) ⌝ }
+    requires { ⌜ i < length (now asked) ⌝ }
+    requires { ⌜ Due (sheetOf (now levels) frame (now asked)) at (lineStart (getD (now asked) i 0)) ⌝ }
+    ensures { λ r. ⌜ r ≡ at + length (lineStart (getD (now (asked .entry)) i 0)) ⌝ }
+{
+    let mut room = [0u8; 16];
+    let n = put_start(&mut room, asked[i]);
+    written(levels, frame, asked, at, &room[..n])
 }
 
-// The contours of a network that is not refused.
-fn contours(levels: &[u32], frame: Frame, v: u32)
-    requires { ⌜ Checked (now levels) frame ⌝ }
+// The contours of a network at a level.
+fn contours(levels: &[u32], frame: Frame, asked: &[u32], v: u32, from: usize) -> usize
+    requires { ⌜ Drawable (now levels) frame (now asked) ⌝ }
+    requires { ⌜ Due (sheetOf (now levels) frame (now asked)) from (networkText (now levels) frame v) ⌝ }
+    ensures { λ r. ⌜ r ≡ from + length (networkText (now (levels .entry)) frame v) ⌝ }
 {
     let mut edges = [0u32; MOST_EDGES];
     let mut counts = [0u32; MOST_EDGES];
@@ -58,39 +95,111 @@ fn contours(levels: &[u32], frame: Frame, v: u32)
     let nx = frame.columns as usize;
     let ny = frame.rows as usize;
     let got = contour::core::list_contours(levels, nx, ny, v, &mut edges, &mut counts, &mut closed);
-    fronts(levels, frame, v, &edges, &counts, &closed, got);
+    fronts(levels, frame, asked, v, &edges, &counts, &closed, got, from)
 }
 
 // The contours at the fronts of longer buffers.
 fn fronts(
     levels: &[u32],
     frame: Frame,
+    asked: &[u32],
     v: u32,
     edges: &[u32],
     counts: &[u32],
     closed: &[u32],
     got: Progress,
-)
-    requires { ⌜ ((got .edges ≤ length (now edges)) × ((got .contours ≤ length (now counts)) × (got .contours ≤ length (now closed))))
-        × Printable (now levels) frame v (take (got .edges) (now edges)) (take (got .contours) (now counts)) (take (got .contours) (now closed)) ⌝ }
+    from: usize,
+) -> usize
+    requires { ⌜ Drawable (now levels) frame (now asked) ⌝ }
+    requires { ⌜ ((got .edges ≤ length (now edges))
+        × ((got .contours ≤ length (now counts)) × (got .contours ≤ length (now closed))))
+        × Printable (now levels) frame v (take (got .edges) (now edges))
+        (take (got .contours) (now counts)) (take (got .contours) (now closed)) ⌝ }
+    requires { ⌜ Due (sheetOf (now levels) frame (now asked)) from (textOf (now levels) frame v
+        (linesFrom (take (got .edges) (now edges)) (take (got .contours) (now counts))
+        (take (got .contours) (now closed)))) ⌝ }
+    ensures { λ r. ⌜ r ≡ from + length (textOf (now (levels .entry)) frame v
+        (linesFrom (take (got .edges) (now (edges .entry))) (take (got .contours) (now (counts .entry)))
+        (take (got .contours) (now (closed .entry))))) ⌝ }
 {
     let n = got.edges;
     let m = got.contours;
-    parts(levels, frame, v, &edges[..n], &counts[..m], &closed[..m]);
+    parts(
+        levels,
+        frame,
+        asked,
+        v,
+        &edges[..n],
+        &counts[..m],
+        &closed[..m],
+        from,
+    )
 }
 
-// The text, part by part: each turn prints some of it, so the turns never run out.
-fn parts(levels: &[u32], frame: Frame, v: u32, edges: &[u32], counts: &[u32], closed: &[u32])
+// The text, part by part.
+fn parts(
+    levels: &[u32],
+    frame: Frame,
+    asked: &[u32],
+    v: u32,
+    edges: &[u32],
+    counts: &[u32],
+    closed: &[u32],
+    from: usize,
+) -> usize
+    requires { ⌜ Drawable (now levels) frame (now asked) ⌝ }
     requires { ⌜ Printable (now levels) frame v (now edges) (now counts) (now closed) ⌝ }
+    requires { ⌜ Due (sheetOf (now levels) frame (now asked)) from
+        (textOf (now levels) frame v (linesFrom (now edges) (now counts) (now closed))) ⌝ }
+    ensures { λ r. ⌜ r ≡ from + length (textOf (now (levels .entry)) frame v
+        (linesFrom (now (edges .entry)) (now (counts .entry)) (now (closed .entry)))) ⌝ }
 {
     let mut room = io::buffer();
     let mut at = first();
-    let mut turns = u64::MAX;
-    while turns > 0 && at.line <= counts.len() {
+    let mut done = from;
+    while at.line <= counts.len() {
         let part = print_part(levels, frame, v, edges, counts, closed, at, &mut room);
         let n = part.size;
-        io::write_all(STDOUT_FILENO, &room[..n]);
+        done = written(levels, frame, asked, done, &room[..n]);
         at = part.next;
-        turns -= 1;
     }
+    done
+}
+
+// The one line of a refusal: of a text and words that are refused, of bytes that can't be read on, and of bytes that
+// fill the buffer.
+pub(crate) fn refusal(text: &[u8], room: &[u32], given: Given, number: u32, line: u64)
+    requires { ⌜ Refused (now text) given (now room) number line ⌝ }
+{
+    refused(number, line);
+}
+
+pub(crate) fn failure(text: &[u8], line: u64)
+    requires { ⌜ line ≡ lineBegun (now text) ⌝ }
+{
+    refused(17, line);
+}
+
+pub(crate) fn overlong(text: &[u8], line: u64)
+    requires { ⌜ length (now text) ≡ mostText ⌝ }
+    requires { ⌜ line ≡ overlongLine (now text) ⌝ }
+{
+    if line == 0 {
+        refused(12, 0);
+        return;
+    }
+    refused(17, line);
+}
+
+fn refused(number: u32, line: u64) {
+    let mut room = [0u8; 64];
+    let n = put_refused(&mut room, number, line);
+    write_refused(number, line, &room[..n]);
+}
+
+// The write of it.
+fn write_refused(number: u32, line: u64, text: &[u8])
+    requires { ⌜ now text ≡ refusedLine number line ⌝ }
+{
+    io::write_all(STDOUT_FILENO, text);
 }

@@ -1,18 +1,8 @@
-// What a person reads on standard error when something is refused, and the one line that a refusal has on standard output.
+// What a person reads on standard error when something is refused.
 use libc::STDERR_FILENO;
-use libc::STDOUT_FILENO;
-
-// `refused,number,line` on standard output.
-pub fn refused(number: u32, line: u64) {
-    io::write_all(STDOUT_FILENO, b"refused,");
-    io::print_decimal(STDOUT_FILENO, number as u64);
-    io::write_all(STDOUT_FILENO, b",");
-    io::print_decimal(STDOUT_FILENO, line);
-    io::write_all(STDOUT_FILENO, b"\r\n");
-}
 
 // The network is refused.
-pub fn of_network(number: u32, line: u64) {
+pub(crate) fn of_network(number: u32, line: u64) {
     io::write_all(STDERR_FILENO, b"network");
     if number == 17 {
         io::write_all(STDERR_FILENO, b", line ");
@@ -35,13 +25,34 @@ pub fn of_network(number: u32, line: u64) {
     rule(number);
 }
 
+// The network's bytes can't be read on.
+pub(crate) fn of_read_error(line: u64) {
+    io::write_all(STDERR_FILENO, b"network, line ");
+    io::print_decimal(STDERR_FILENO, line);
+    io::write_all(STDERR_FILENO, b": standard input can't be read on");
+    rule(17);
+}
+
+// The network is longer than any that is not refused.
+pub(crate) fn of_overlong(line: u64) {
+    if line == 0 {
+        of_network(12, 0);
+        return;
+    }
+    of_network(17, line);
+}
+
 // The arguments are refused.
-pub fn of_levels() {
-    io::write_all(
-        STDERR_FILENO,
-        b"arguments: expected one contour level or more from 0.01 to 150.00, as 45.00 56.00",
-    );
-    rule(15);
+pub(crate) fn of_levels(number: u32) {
+    if number == 14 {
+        io::write_all(STDERR_FILENO, b"arguments: more than 15,000 contour levels");
+    } else {
+        io::write_all(
+            STDERR_FILENO,
+            b"arguments: expected one contour level or more from 0.01 to 150.00, as 45.00 56.00",
+        );
+    }
+    rule(number);
 }
 
 fn rule(number: u32) {

@@ -1,47 +1,97 @@
--- `contours::print::contours` is safe: the buffers have room for the edges of every network, and its contours can be printed.
+-- `contours::print::contours` meets its contract: the buffers have room for the edges of every network, and the listed contours are the network's.
 -- Assumes nothing.
-use Prim.Native.Nat.{ℕ, _≤_}
+use mathlib.Core.Path.{ap, _∙_}
+use mathlib.Core.List.{List}
+use Prim.Native.Nat.{ℕ, _+_, _≤_}
 use native.Mathlib.Omega.{arith}
 use denote.Ref.{now}
 use lib.ListN.{length, replicate, length-replicate}
-use borrow.Author.Needs.{needs}
 use Rattle.network.specs.Edges.{edges}
 use Rattle.network.proofs.Numbers.{edges-le}
-use Rattle.wkt.proofs.Contours.{printable, edges-front, counts-front, closed-front}
+use Rattle.wkt.proofs.Contours.{printable, edges-front, counts-front, closed-front, text-front}
+use borrow.Author.Needs.{needs}
 use Rattle.contours.proofs.print.contours.Statement.{statement}
 use Rattle.contours.proofs.print.contours.Tie as tie
+use Rattle.contours.proofs.print.contours.Reads as reads
+use Rattle.contours.proofs.print.contours.Lts as lts
+use Rattle.contour.proofs.core.list_contours.Reads as list-contours-reads
+use Rattle.contours.proofs.print.fronts.Reads as fronts-reads
 
 -- a local buffer has room for the edges of every network
 long : (nx ny : ℕ) → nx ≤ 256 → ny ≤ 256 → edges nx ny ≤ length {A = ℕ} (replicate 130560 0)
 long nx ny h k = rw (length-replicate {A = ℕ} 130560 0) (edges-le nx ny h k)
 
+-- src/print.rt:94:14
+cast-nx : tie.Need-cast-nx
+cast-nx c = search needs
+
+-- src/print.rt:95:14
+cast-ny : tie.Need-cast-ny
+cast-ny c = search needs
+
+-- src/print.rt:96:63
+slice-aggregate-list-contours : tie.Need-slice-aggregate-list-contours
+slice-aggregate-list-contours c = search needs
+
+-- src/print.rt:96:75
+slice-aggregate-list-contours-2 : tie.Need-slice-aggregate-list-contours-2
+slice-aggregate-list-contours-2 c = search needs
+
+-- src/print.rt:96:88
+slice-aggregate-list-contours-3 : tie.Need-slice-aggregate-list-contours-3
+slice-aggregate-list-contours-3 c = search needs
+
+-- src/print.rt:96:9
 list-contours-requires : tie.Need-list-contours-requires
 list-contours-requires c κs =
-    let s = c .before .before .before .before .before .before in
-    let l = long (s .args .frame .columns) (s .args .frame .rows) (s .pre .sized .sides .narrow) (s .pre .sized .sides .low) in
-    (s .pre .sized, (l, (l, l)))
+    let s = c .before .before .before .before .before .before .before in
+    let k = s .pre .0 .checked .sized in
+    let l = long (s .args .frame .columns) (s .args .frame .rows) (k .sides .narrow) (k .sides .low) in
+    (k, (l, (l, l)))
 
+-- src/print.rt:97:37
+slice-aggregate-fronts : tie.Need-slice-aggregate-fronts
+slice-aggregate-fronts c = search needs
+
+-- src/print.rt:97:45
+slice-aggregate-fronts-2 : tie.Need-slice-aggregate-fronts-2
+slice-aggregate-fronts-2 c = search needs
+
+-- src/print.rt:97:54
+slice-aggregate-fronts-3 : tie.Need-slice-aggregate-fronts-3
+slice-aggregate-fronts-3 c = search needs
+
+-- src/print.rt:97:5
 fronts-requires : tie.Need-fronts-requires
 fronts-requires c κs =
-    let s = c .before .before .before .before .before .before .before .before .before .before .before .before .before in
+    let s = c .before .before .before .before .before .before .before .before .before .before .before .before .before .before in
     let t = c .before .before .before .before .before .before .list-contours in
     let l = t .ensures in (
-      (omega (arith, l .edges-fit, t .kept .1 .1 .1 .1 .0), (omega (arith, l .counts-fit, t .kept .1 .1 .1 .1 .1 .0), omega (arith, l .closed-fit, t .kept .1 .1 .1 .1 .1 .1 .0))),
-      rw (edges-front l, counts-front l, closed-front l) (printable (now (s .args .levels)) (s .args .frame) (s .args .v) (s .pre)),
+      s .pre .0,
+      (
+        ((omega (arith, l .edges-fit, t .kept .1 .1 .1 .1 .0), (omega (arith, l .counts-fit, t .kept .1 .1 .1 .1 .1 .0), omega (arith, l .closed-fit, t .kept .1 .1 .1 .1 .1 .1 .0))), rw (edges-front l, counts-front l, closed-front l) (printable (now (s .args .levels)) (s .args .frame) (s .args .v) (s .pre .0 .checked))),
+        rw (text-front l (now (s .args .levels)) (s .args .frame) (s .args .v)) (s .pre .1),
+      ),
     )
+
+-- src/print.rt:86:1
+returns : tie.Need-returns
+returns c =
+    let a = c .before .before .before .before .before .before .before .before .before .before .before .before .before .before .before .args in
+    c .fronts .ensures ∙ ap (λ (t : List ℕ). a .from + length t) (text-front (c .before .before .before .before .before .before .before .list-contours .ensures) (now (a .levels)) (a .frame) (a .v))
 
 pub contours-spec : {M : Type 1} → statement M
 contours-spec =
     tie.close
     (tie.spec
-    (λ c. search needs)
-    (λ c. search needs)
-    (λ c. search needs)
-    (λ c. search needs)
-    (λ c. search needs)
+    cast-nx
+    cast-ny
+    slice-aggregate-list-contours
+    slice-aggregate-list-contours-2
+    slice-aggregate-list-contours-3
     list-contours-requires
-    (λ c. search needs)
-    (λ c. search needs)
-    (λ c. search needs)
+    slice-aggregate-fronts
+    slice-aggregate-fronts-2
+    slice-aggregate-fronts-3
     fronts-requires
-    (λ c. search needs))
+    returns)

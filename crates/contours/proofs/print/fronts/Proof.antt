@@ -1,19 +1,39 @@
--- `contours::print::fronts` is safe: the parts lent on lie within the buffers.
--- Assumes nothing.
+-- `contours::print::fronts` meets its contract: the parts lent on lie within the buffers. Assumes nothing.
 use mathlib.Core.Path.{sym}
 use lib.Seq.{length-take-le}
 use borrow.Author.Needs.{needs}
 use Rattle.contours.proofs.print.fronts.Statement.{statement}
 use Rattle.contours.proofs.print.fronts.Tie as tie
+use Rattle.contours.proofs.print.fronts.Reads as reads
+use Rattle.contours.proofs.print.fronts.Lts as lts
+use Rattle.contours.proofs.print.parts.Reads as parts-reads
 
-edges-part : tie.Need-slice-aggregate-parts
-edges-part c = sym (length-take-le _ _ (c .before .before .before .before .before .pre .0 .0))
+-- src/print.rt:127:9
+slice-aggregate-parts : tie.Need-slice-aggregate-parts
+slice-aggregate-parts c = sym (length-take-le _ _ (c .before .before .before .before .before .before .pre .1 .0 .0 .0))
 
-counts-part : tie.Need-slice-aggregate-parts-2
-counts-part c = sym (length-take-le _ _ (c .before .before .before .before .before .before .pre .0 .1 .0))
+-- src/print.rt:128:9
+slice-aggregate-parts-2 : tie.Need-slice-aggregate-parts-2
+slice-aggregate-parts-2 c = sym (length-take-le _ _ (c .before .before .before .before .before .before .before .pre .1 .0 .0 .1 .0))
 
-closed-part : tie.Need-slice-aggregate-parts-3
-closed-part c = sym (length-take-le _ _ (c .before .before .before .before .before .before .before .pre .0 .1 .1))
+-- src/print.rt:129:9
+slice-aggregate-parts-3 : tie.Need-slice-aggregate-parts-3
+slice-aggregate-parts-3 c = sym (length-take-le _ _ (c .before .before .before .before .before .before .before .before .pre .1 .0 .0 .1 .1))
+
+-- src/print.rt:122:5
+parts-requires : tie.Need-parts-requires
+parts-requires c κs = search needs
+
+-- src/print.rt:101:1
+returns : tie.Need-returns
+returns c = search needs
 
 pub fronts-spec : {M : Type 1} → statement M
-fronts-spec = tie.close (tie.spec edges-part counts-part closed-part (λ c κs. search needs) (λ c. search needs))
+fronts-spec =
+    tie.close
+    (tie.spec
+    slice-aggregate-parts
+    slice-aggregate-parts-2
+    slice-aggregate-parts-3
+    parts-requires
+    returns)

@@ -1,27 +1,74 @@
--- `contours::print::one_level` is safe: past its test the network is checked.
--- Assumes nothing.
-use mathlib.Core.Path.{sym, _∙_}
+-- `contours::print::one_level` meets its contract: the start, the text and the end are due one behind the other. Assumes nothing.
+use mathlib.Core.List.{List, _++_}
+use Prim.Native.Nat.{ℕ}
+use native.Mathlib.Omega.{arith}
 use denote.Ref.{now}
+use lib.ListN.{getD}
+use Rattle.wkt.specs.Calls.{networkText}
+use Rattle.sheet.specs.Sheet.{lineEnd, lineStart, sheetOf}
+use Rattle.sheet.specs.Due.{Due}
+use Rattle.sheet.proofs.Dues.{due-front, due-rest}
+use Rattle.sheet.proofs.Short.{line-length}
 use borrow.Author.Needs.{needs}
-use Rattle.network.proofs.Refusals.{contour-not-refused}
 use Rattle.contours.proofs.print.one_level.Statement.{statement}
 use Rattle.contours.proofs.print.one_level.Tie as tie
+use Rattle.contours.proofs.print.one_level.Reads as reads
+use Rattle.contours.proofs.print.one_level.Lts as lts
+use Rattle.contours.proofs.print.contours.Reads as contours-reads
+use Rattle.contours.proofs.print.start.Reads as start-reads
+use Rattle.contours.proofs.print.written.Reads as written-reads
 
+-- the level, and the text of its contours
+abbrev v : tie.Start → ℕ
+v s = getD (now (s .args .asked)) (s .args .i) 0
+
+abbrev text : tie.Start → List ℕ
+text s = networkText (now (s .args .levels)) (s .args .frame) (v s)
+
+-- src/print.rt:67:13
+mul-v : tie.Need-mul-v
+mul-v c = search needs
+
+-- src/print.rt:67:13
+shared-slice-read-v : tie.Need-shared-slice-read-v
+shared-slice-read-v c = search needs
+
+-- src/print.rt:68:9
+start-requires : tie.Need-start-requires
+start-requires c κs =
+    let s = c .before .before .before in
+    (s .pre .0, (s .pre .1 .0, due-front (lineStart (v s)) (text s ++ lineEnd) (s .pre .1 .1)))
+
+-- src/print.rt:69:9
 contours-requires : tie.Need-contours-requires
 contours-requires c κs =
-    let a = c .before .before .before .before .before .before .args in
-    contour-not-refused (now (a .levels)) (a .frame) (a .v) (sym (c .before .before .before .before .contour-refusal .ensures) ∙ c .before .before .before .if1 .taken) .0
+    let s = c .before .before .before .before in
+    (s .pre .0, rw (c .start .ensures) (due-front (text s) lineEnd (due-rest (lineStart (v s)) (text s ++ lineEnd) (s .pre .1 .1))))
+
+-- src/print.rt:70:39
+slice-aggregate-written : tie.Need-slice-aggregate-written
+slice-aggregate-written c = search needs
+
+-- src/print.rt:70:5
+written-requires : tie.Need-written-requires
+written-requires c κs =
+    let s = c .before .before .before .before .before .before in
+    (s .pre .0, rw (c .before .contours .ensures, c .before .before .start .ensures) (due-rest (text s) lineEnd (due-rest (lineStart (v s)) (text s ++ lineEnd) (s .pre .1 .1))))
+
+-- src/print.rt:61:1
+returns : tie.Need-returns
+returns c =
+    let s = c .before .before .before .before .before .before .before in
+    omega (arith, c .written .ensures, c .before .before .contours .ensures, c .before .before .before .start .ensures, line-length (now (s .args .levels)) (s .args .frame) (v s))
 
 pub one-level-spec : {M : Type 1} → statement M
 one-level-spec =
     tie.close
     (tie.spec
-    (λ c κs. search needs)
-    (λ c κs. search needs)
-    (λ c. search needs)
-    (λ c κs. search needs)
+    mul-v
+    shared-slice-read-v
+    start-requires
     contours-requires
-    (λ c. search needs)
-    (λ c κs. search needs)
-    (λ c. search needs)
-    (λ c. search needs))
+    slice-aggregate-written
+    written-requires
+    returns)

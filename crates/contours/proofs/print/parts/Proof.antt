@@ -1,39 +1,125 @@
--- `contours::print::parts` is safe. The loop's invariant: printing has come to the cursor, and the buffer keeps its length.
--- Assumes nothing.
-use mathlib.Core.Path.{_≡_, sym}
-use Prim.Native.Nat.{_≤_}
+-- `contours::print::parts` meets its contract: what is left of the text is due where the last part ended. Assumes nothing.
+use mathlib.Core.Path.{_≡_, refl, sym, ap, _∙_}
+use mathlib.Core.Logic.{⊎-elim}
+use Prim.Native.Nat.{_+_, _-_, _≤_, min}
 use native.Mathlib.Omega.{arith}
-use lib.ListN.{length}
-use lib.Seq.{length-take-le}
 use denote.Ref.{now}
+use lib.ListN.{length, take, length-append}
+use lib.Seq.{length-take-le}
 use borrow.Author.Needs.{needs}
-use Rattle.wkt.specs.Parts.{Reached}
-use Rattle.wkt.proofs.Steps.{reached-first}
+use Rattle.wkt.specs.Text.{textOf}
+use Rattle.wkt.specs.Parts.{Reached, leftOf, linesFrom}
+use Rattle.wkt.proofs.Lengths.{piece-short}
+use Rattle.wkt.proofs.Steps.{left-first, left-end, reached-first}
+use Rattle.sheet.specs.Sheet.{sheetOf}
+use Rattle.sheet.specs.Due.{Due}
+use Rattle.sheet.proofs.Dues.{due-front, due-rest}
 use Rattle.contours.proofs.print.parts.Statement.{statement}
 use Rattle.contours.proofs.print.parts.Tie as tie
+use Rattle.contours.proofs.print.parts.Reads as reads
+use Rattle.contours.proofs.print.parts.Lts as lts
+use Rattle.contours.proofs.print.written.Reads as written-reads
+use Rattle.io.proofs.buffer.Reads as buffer-reads
+use Rattle.wkt.proofs.core.first.Reads as first-reads
+use Rattle.wkt.proofs.core.print_part.Reads as print-part-reads
 
 abbrev Inv-loop : tie.InvT-loop
-Inv-loop levels frame v edges counts closed room₀ at₀ turns₀ room at turns = (Reached edges counts closed at) × (length room ≡ 4096)
+Inv-loop levels frame asked v edges counts closed from room₀ at₀ done₀ room at done =
+    (Reached edges counts closed at) × (length room ≡ 4096) × (Due (sheetOf levels frame asked) done (leftOf levels frame v edges counts closed at))
+    × (done + length (leftOf levels frame v edges counts closed at) ≡ from + length (textOf levels frame v (linesFrom edges counts closed)))
 
 abbrev μ-loop : tie.MeasureT-loop
-μ-loop levels frame v edges counts closed room₀ at₀ turns₀ room at turns = turns
+μ-loop levels frame asked v edges counts closed from room₀ at₀ done₀ room at done =
+    length (leftOf levels frame v edges counts closed at) + min 1 (length counts + 1 - at .line)
 
+-- src/print.rt:150:20
+buffer-requires : tie.Need-buffer-requires Inv-loop μ-loop
+buffer-requires c κs = search needs
+
+-- src/print.rt:151:9
+first-requires : tie.Need-first-requires Inv-loop μ-loop
+first-requires c κs = search needs
+
+-- src/print.rt:153:5
 loop-holds : tie.Need-loop-holds Inv-loop μ-loop
 loop-holds c =
-    let s = c .before .before .before .before .before .before in
-    (reached-first (now (s .args .levels)) (s .args .frame) (s .args .v) (now (s .args .edges)) (now (s .args .counts)) (now (s .args .closed)) (s .pre .summed) (c .first .result) (c .first .ensures), sym (c .before .buffer .ensures))
+    let s = c .before .before .before .before .before .before .before in
+    let a = s .args in
+    let e = left-first (now (a .levels)) (a .frame) (a .v) (now (a .edges)) (now (a .counts)) (now (a .closed)) (c .first .result) (c .first .ensures) in (
+      reached-first (now (a .levels)) (a .frame) (a .v) (now (a .edges)) (now (a .counts)) (now (a .closed)) (s .pre .1 .0 .summed) (c .first .result) (c .first .ensures),
+      sym (c .before .buffer .ensures),
+      rw e (s .pre .1 .1),
+      rw e refl,
+    )
 
+-- src/print.rt:154:76
+slice-aggregate-print-part : tie.Need-slice-aggregate-print-part Inv-loop μ-loop
+slice-aggregate-print-part c = search needs
+
+-- src/print.rt:154:13
 print-part-requires : tie.Need-print-part-requires Inv-loop μ-loop
-print-part-requires c κs = (c .before .before .before .before .before .before .before .before .before .before .before .pre, c .before .before .before .before .loop .inv .0)
+print-part-requires c κs = (c .before .before .before .before .before .before .before .before .before .before .before .pre .1 .0, c .before .before .before .loop .inv .0)
 
+-- src/print.rt:156:52
 array-share-prefix-room : tie.Need-array-share-prefix-room Inv-loop μ-loop
 array-share-prefix-room c = let e = c .before .print-part .ensures in omega (arith, e .fits, e .long)
 
-slice-aggregate-write-all : tie.Need-slice-aggregate-write-all Inv-loop μ-loop
-slice-aggregate-write-all c = let e = c .before .before .print-part .ensures in sym (length-take-le _ _ (omega (arith, e .fits, e .long)))
+-- src/print.rt:156:52
+slice-aggregate-written : tie.Need-slice-aggregate-written Inv-loop μ-loop
+slice-aggregate-written c = let e = c .before .before .print-part .ensures in sym (length-take-le _ _ (omega (arith, e .fits, e .long)))
 
+-- src/print.rt:156:9
+written-requires : tie.Need-written-requires Inv-loop μ-loop
+written-requires c κs =
+    let s = c .before .before .before .before .before .before .before .before .before .before .before .before .before .before in
+    let a = s .args in
+    let p = c .before .before .print-part in
+    let e = p .ensures in
+    (s .pre .0, due-front (take (p .result .size) (p .last .1 .1 .1 .1 .1 .1 .1 .0)) (leftOf (now (a .levels)) (a .frame) (a .v) (now (a .edges)) (now (a .counts)) (now (a .closed)) (p .result .next)) (rw (e .joined) at (c .before .before .before .before .before .before .loop .inv .2)))
+
+-- src/print.rt:153:5
+loop-less : tie.Need-loop-less Inv-loop μ-loop
+loop-less c =
+    let a = c .before .before .before .before .before .before .before .before .before .before .before .before .before .before .before .before .args in
+    let p = c .before .before .before .before .print-part in
+    let e = p .ensures in
+    let l = c .before .before .before .before .before .before .before .before .loop in
+    let bytes = take (p .result .size) (p .last .1 .1 .1 .1 .1 .1 .1 .0) in
+    let left = leftOf (now (a .levels)) (a .frame) (a .v) (now (a .edges)) (now (a .counts)) (now (a .closed)) (p .result .next) in
+    let n : length bytes ≡ p .result .size = length-take-le (p .result .size) (p .last .1 .1 .1 .1 .1 .1 .1 .0) (omega (arith, e .fits, e .long)) in
+    ⊎-elim
+    (λ ended. omega (arith, ap length (e .joined), length-append bytes left, n))
+    (λ full. omega (
+      arith,
+      ap length (e .joined),
+      length-append bytes left,
+      n,
+      l .inv .1,
+      piece-short (now (a .levels)) (a .frame) (a .v) (now (a .edges)) (now (a .counts)) (now (a .closed)) (p .result .next),
+    ))
+    (e .stopped)
+
+-- src/print.rt:153:5
 loop-again : tie.Need-loop-again Inv-loop μ-loop
-loop-again c = let e = c .before .before .before .before .print-part .ensures in (e .reached, omega (arith, e .long))
+loop-again c =
+    let a = c .before .before .before .before .before .before .before .before .before .before .before .before .before .before .before .before .args in
+    let p = c .before .before .before .before .print-part in
+    let e = p .ensures in
+    let l = c .before .before .before .before .before .before .before .before .loop in
+    let bytes = take (p .result .size) (p .last .1 .1 .1 .1 .1 .1 .1 .0) in
+    let left = leftOf (now (a .levels)) (a .frame) (a .v) (now (a .edges)) (now (a .counts)) (now (a .closed)) (p .result .next) in (
+      e .reached,
+      omega (arith, e .long, l .inv .1),
+      rw (c .before .written .ensures) (due-rest bytes left (rw (e .joined) at (l .inv .2))),
+      omega (arith, c .before .written .ensures, ap length (e .joined), length-append bytes left, l .inv .3),
+    )
+
+-- src/print.rt:135:1
+returns : tie.Need-returns Inv-loop μ-loop
+returns c =
+    let a = c .before .before .before .before .before .before .before .before .before .before .args in
+    let l = c .before .before .loop in
+    omega (arith, l .inv .3, ap length (left-end (now (a .levels)) (a .frame) (a .v) (now (a .edges)) (now (a .counts)) (now (a .closed)) (l .at) (omega arith)))
 
 pub parts-spec : {M : Type 1} → statement M
 parts-spec =
@@ -41,16 +127,14 @@ parts-spec =
     (tie.spec
     Inv-loop
     μ-loop
-    (λ c κs. search needs)
-    (λ c κs. search needs)
+    buffer-requires
+    first-requires
     loop-holds
-    (λ c. search needs)
+    slice-aggregate-print-part
     print-part-requires
     array-share-prefix-room
-    slice-aggregate-write-all
-    (λ c κs. search needs)
-    (λ c. search needs)
-    (λ c. search needs)
+    slice-aggregate-written
+    written-requires
+    loop-less
     loop-again
-    (λ c. search needs)
-    (λ c. search needs))
+    returns)

@@ -1,0 +1,94 @@
+-- `contours::draw`: the network that was stored is the text's, and the levels in front of their room are the words'. Assumes nothing.
+use mathlib.Core.Path.{_≡_, sym}
+use mathlib.Core.List.{List}
+use Prim.Native.Nat.{ℕ, _*_, _≤_}
+use native.Mathlib.Omega.{arith}
+use denote.Ref.{now}
+use lib.ListN.{length, getD}
+use lib.Seq.{length-take-le}
+use Rattle.grid.specs.Read.{textFrame, textLevels}
+use Rattle.sheet.specs.Sheet.{textRefusal}
+use Rattle.sheet.specs.Drawing.{Stored}
+use Rattle.sheet.proofs.Drawings.{given-fine, words-front, frame-back, points-are, accepted}
+use borrow.Author.Needs.{needs}
+use Rattle.contours.proofs.draw.Statement.{statement}
+use Rattle.contours.proofs.draw.Tie as tie
+use Rattle.contours.proofs.draw.Reads as reads
+use Rattle.contours.proofs.draw.Lts as lts
+use Rattle.contours.proofs.print.sheet.Reads as sheet-reads
+
+-- as many points as the text has levels
+points : {text header levels : List ℕ} → Stored text header levels → textRefusal text ≡ 0 → getD header 1 0 * getD header 0 0 ≡ length (textLevels text)
+points {text} {header} {levels} st z = rw (st .numbers) (sym (points-are text z))
+
+inside : (s : tie.Start) → getD (now (s .args .header)) 1 0 * getD (now (s .args .header)) 0 0 ≤ length (now (s .args .levels))
+inside s = omega (arith, points (s .pre .1 .1 .1 .0) (s .pre .1 .1 .0), s .pre .1 .1 .1 .0 .fits)
+
+-- src/main.rt:131:18
+shared-slice-read-t10 : tie.Need-shared-slice-read-t10
+shared-slice-read-t10 c = search needs
+
+-- src/main.rt:132:15
+shared-slice-read-t12 : tie.Need-shared-slice-read-t12
+shared-slice-read-t12 c = search needs
+
+-- src/main.rt:133:18
+shared-slice-read-t14 : tie.Need-shared-slice-read-t14
+shared-slice-read-t14 c = search needs
+
+-- src/main.rt:134:15
+shared-slice-read-t16 : tie.Need-shared-slice-read-t16
+shared-slice-read-t16 c = search needs
+
+-- src/main.rt:135:16
+shared-slice-read-t18 : tie.Need-shared-slice-read-t18
+shared-slice-read-t18 c = search needs
+
+-- src/main.rt:137:18
+cast-points : tie.Need-cast-points
+cast-points c = search needs
+
+-- src/main.rt:137:40
+cast-points-2 : tie.Need-cast-points-2
+cast-points-2 c = search needs
+
+-- src/main.rt:137:18
+mul-points : tie.Need-mul-points
+mul-points c = omega (arith, inside (c .before .before .before .before .before .before .before .before .before .before .before))
+
+-- src/main.rt:143:9
+slice-aggregate-sheet : tie.Need-slice-aggregate-sheet
+slice-aggregate-sheet c = sym (length-take-le _ _ (inside (c .before .before .before .before .before .before .before .before .before .before .before .before)))
+
+-- src/main.rt:145:9
+slice-aggregate-sheet-2 : tie.Need-slice-aggregate-sheet-2
+slice-aggregate-sheet-2 c = let s = c .before .before .before .before .before .before .before .before .before .before .before .before .before in sym (length-take-le _ _ (omega (arith, given-fine (s .args .given) (s .pre .1 .1 .1 .1) .1, s .pre .1 .0)))
+
+-- src/main.rt:139:5
+sheet-requires : tie.Need-sheet-requires
+sheet-requires c κs =
+    let s = c .before .before .before .before .before .before .before .before .before .before .before .before .before in
+    let p = s .pre in
+    let st = p .1 .1 .1 .0 in
+    accepted (p .0) (p .1 .1 .0) (p .1 .1 .1 .1) (rw (points st (p .1 .1 .0)) (st .front)) (frame-back (now (s .args .header)) (textFrame (now (s .args .text))) (st .numbers)) (words-front (p .0) (p .1 .1 .1 .1) (p .1 .0))
+
+-- src/main.rt:123:1
+returns : tie.Need-returns
+returns c = search needs
+
+pub draw-spec : {M : Type 1} → statement M
+draw-spec =
+    tie.close
+    (tie.spec
+    shared-slice-read-t10
+    shared-slice-read-t12
+    shared-slice-read-t14
+    shared-slice-read-t16
+    shared-slice-read-t18
+    cast-points
+    cast-points-2
+    mul-points
+    slice-aggregate-sheet
+    slice-aggregate-sheet-2
+    sheet-requires
+    returns)

@@ -1,0 +1,71 @@
+-- `contours::input::read_text` meets its contract: the pieces that came stand at the front. Assumes nothing.
+use mathlib.Core.Path.{_≡_, refl, _∙_}
+use Prim.Native.Nat.{_-_}
+use native.Mathlib.Omega.{arith}
+use lib.ListN.{length}
+use borrow.Author.Needs.{needs}
+use Rattle.sheet.proofs.Turns.{Standing, standing-none, standing-more, standing-next, standing-stops, standing-full}
+use Rattle.contours.proofs.input.read_text.Statement.{statement}
+use Rattle.contours.proofs.input.read_text.Tie as tie
+use Rattle.contours.proofs.input.read_text.Reads as reads
+use Rattle.contours.proofs.input.read_text.Lts as lts
+use Rattle.contours.proofs.input.read_on.Reads as read-on-reads
+
+abbrev Inv-loop : tie.InvT-loop
+Inv-loop text₀ n₀ text n = (Standing text n) × (length text ≡ length text₀)
+
+abbrev μ-loop : tie.MeasureT-loop
+μ-loop text₀ n₀ text n = length text - n
+
+-- src/input.rt:29:5
+loop-holds : tie.Need-loop-holds Inv-loop μ-loop
+loop-holds c = (standing-none (c .before .args .text .now), refl)
+
+-- src/input.rt:30:13
+read-on-requires : tie.Need-read-on-requires Inv-loop μ-loop
+read-on-requires c κs = omega arith
+
+-- src/input.rt:33:13
+same-length : tie.Need-same-length Inv-loop μ-loop
+same-length c = c .before .before .before .read-on .ensures .long ∙ c .before .before .before .before .before .before .loop .inv .1
+
+-- src/input.rt:33:13
+returns : tie.Need-returns Inv-loop μ-loop
+returns c = standing-stops (c .before .before .before .before .before .before .loop .inv .0) (c .before .before .before .read-on .ensures) (omega arith) (c .if1 .taken)
+
+-- src/input.rt:29:5
+loop-less : tie.Need-loop-less Inv-loop μ-loop
+loop-less c =
+    let e = c .before .before .before .read-on .ensures in
+    let m = standing-more (c .before .before .before .before .before .before .loop .inv .0) e (c .if1 .left) in
+    omega (arith, m .0, m .1, e .long)
+
+-- src/input.rt:29:5
+loop-again : tie.Need-loop-again Inv-loop μ-loop
+loop-again c =
+    let e = c .before .before .before .read-on .ensures in
+    let l = c .before .before .before .before .before .before .loop in
+    (standing-next (l .inv .0) e (c .if1 .left), e .long ∙ l .inv .1)
+
+-- src/input.rt:25:1
+same-length-2 : tie.Need-same-length-2 Inv-loop μ-loop
+same-length-2 c = c .before .loop .inv .1
+
+-- src/input.rt:25:1
+returns-2 : tie.Need-returns-2 Inv-loop μ-loop
+returns-2 c = standing-full (c .before .loop .inv .0) (omega arith)
+
+pub read-text-spec : {M : Type 1} → statement M
+read-text-spec =
+    tie.close
+    (tie.spec
+    Inv-loop
+    μ-loop
+    loop-holds
+    read-on-requires
+    same-length
+    returns
+    loop-less
+    loop-again
+    same-length-2
+    returns-2)

@@ -1,0 +1,72 @@
+-- `contours::judged`: a network that is not refused is stored. Assumes nothing.
+use mathlib.Core.Path.{_≡_, refl, sym, _∙_}
+use Prim.Native.Nat.{ℕ}
+use native.Mathlib.Omega.{arith}
+use denote.Ref.{now}
+use lib.ListN.{replicate, length-replicate}
+use Rattle.sheet.specs.Sheet.{textRefusal}
+use Rattle.sheet.proofs.Drawings.{stored}
+use borrow.Author.Needs.{needs}
+use Rattle.contours.proofs.judged.Statement.{statement}
+use Rattle.contours.proofs.judged.Tie as tie
+use Rattle.contours.proofs.judged.Reads as reads
+use Rattle.contours.proofs.judged.Lts as lts
+use Rattle.contours.proofs.refuse_network.Reads as refuse-network-reads
+use Rattle.contours.proofs.with_words.Reads as with-words-reads
+use Rattle.grid.proofs.read.read_network.Reads as read-network-reads
+
+-- src/main.rt:78:46
+slice-aggregate-read-network : tie.Need-slice-aggregate-read-network
+slice-aggregate-read-network c = search needs
+
+-- src/main.rt:78:59
+slice-aggregate-read-network-2 : tie.Need-slice-aggregate-read-network-2
+slice-aggregate-read-network-2 c = search needs
+
+-- src/main.rt:78:9
+read-network-requires : tie.Need-read-network-requires
+read-network-requires c κs = search needs
+
+-- src/main.rt:80:9
+refuse-network-requires : tie.Need-refuse-network-requires
+refuse-network-requires c κs = search needs
+
+-- src/main.rt:81:9
+returns : tie.Need-returns
+returns c = search needs
+
+-- src/main.rt:83:22
+slice-aggregate-with-words : tie.Need-slice-aggregate-with-words
+slice-aggregate-with-words c = search needs
+
+-- src/main.rt:83:31
+slice-aggregate-with-words-2 : tie.Need-slice-aggregate-with-words-2
+slice-aggregate-with-words-2 c = search needs
+
+-- src/main.rt:83:5
+with-words-requires : tie.Need-with-words-requires
+with-words-requires c κs =
+    let s = c .before .before .before .before .before .before .before .before .before .before in
+    let r = c .before .before .before .before .before .read-network in
+    let e = r .ensures in
+    let none : r .result ≡ 0 = omega arith in
+    let z : textRefusal (now (s .args .text)) ≡ 0 = sym (e .0) ∙ none in
+    (s .pre .0, (s .pre .1, (z, stored (replicate 65536 0) z refl (length-replicate {A = ℕ} 65536 0) (e .1) (e .2))))
+
+-- src/main.rt:72:1
+returns-2 : tie.Need-returns-2
+returns-2 c = search needs
+
+pub judged-spec : {M : Type 1} → statement M
+judged-spec =
+    tie.close
+    (tie.spec
+    slice-aggregate-read-network
+    slice-aggregate-read-network-2
+    read-network-requires
+    refuse-network-requires
+    returns
+    slice-aggregate-with-words
+    slice-aggregate-with-words-2
+    with-words-requires
+    returns-2)

@@ -1,0 +1,47 @@
+-- `contours::print::refused` meets what its write asks for: the line stands at the front of the buffer. Assumes nothing.
+use mathlib.Core.Path.{sym}
+use native.Mathlib.Omega.{arith}
+use lib.Seq.{length-take-le}
+use Rattle.text.proofs.Puts.{wrote-front, wrote-fits}
+use borrow.Author.Needs.{needs}
+use Rattle.contours.proofs.print.refused.Statement.{statement}
+use Rattle.contours.proofs.print.refused.Tie as tie
+use Rattle.contours.proofs.print.refused.Reads as reads
+use Rattle.contours.proofs.print.refused.Lts as lts
+use Rattle.contours.proofs.print.write_refused.Reads as write-refused-reads
+use Rattle.sheet.proofs.put.put_refused.Reads as put-refused-reads
+
+-- src/print.rt:188:25
+slice-aggregate-put-refused : tie.Need-slice-aggregate-put-refused
+slice-aggregate-put-refused c = search needs
+
+-- src/print.rt:188:9
+put-refused-requires : tie.Need-put-refused-requires
+put-refused-requires c κs = search needs
+
+-- src/print.rt:189:33
+array-share-prefix-room : tie.Need-array-share-prefix-room
+array-share-prefix-room c = wrote-fits (c .before .put-refused .ensures)
+
+-- src/print.rt:189:33
+slice-aggregate-write-refused : tie.Need-slice-aggregate-write-refused
+slice-aggregate-write-refused c = sym (length-take-le _ _ (wrote-fits (c .before .before .put-refused .ensures)))
+
+-- src/print.rt:189:5
+write-refused-requires : tie.Need-write-refused-requires
+write-refused-requires c κs = wrote-front (c .before .before .put-refused .ensures)
+
+-- src/print.rt:186:1
+returns : tie.Need-returns
+returns c = search needs
+
+pub refused-spec : {M : Type 1} → statement M
+refused-spec =
+    tie.close
+    (tie.spec
+    slice-aggregate-put-refused
+    put-refused-requires
+    array-share-prefix-room
+    slice-aggregate-write-refused
+    write-refused-requires
+    returns)

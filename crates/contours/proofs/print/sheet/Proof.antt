@@ -1,0 +1,19 @@
+-- `contours::print::sheet`: what is accepted can be drawn. Assumes nothing.
+use Rattle.sheet.proofs.Drawings.{drawable}
+use borrow.Author.Needs.{needs}
+use Rattle.contours.proofs.print.sheet.Statement.{statement}
+use Rattle.contours.proofs.print.sheet.Tie as tie
+use Rattle.contours.proofs.print.sheet.Reads as reads
+use Rattle.contours.proofs.print.sheet.Lts as lts
+use Rattle.contours.proofs.print.lines.Reads as lines-reads
+
+-- src/print.rt:43:5
+lines-requires : tie.Need-lines-requires
+lines-requires c κs = drawable (c .before .before .before .before .pre)
+
+-- src/print.rt:33:1
+returns : tie.Need-returns
+returns c = search needs
+
+pub sheet-spec : {M : Type 1} → statement M
+sheet-spec = tie.close (tie.spec lines-requires returns)

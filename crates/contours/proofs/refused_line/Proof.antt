@@ -1,0 +1,24 @@
+-- `contours::refused_line` meets its contract. Assumes nothing.
+use mathlib.Core.Path.{refl}
+use borrow.Author.Tests.{eq-eqb, ne-eqb}
+use borrow.Author.Needs.{needs}
+use Rattle.contours.proofs.refused_line.Statement.{statement}
+use Rattle.contours.proofs.refused_line.Tie as tie
+use Rattle.contours.proofs.refused_line.Reads as reads
+use Rattle.contours.proofs.refused_line.Lts as lts
+use Rattle.grid.proofs.read.fault_line.Reads as fault-line-reads
+
+-- src/main.rt:101:16
+fault-line-requires : tie.Need-fault-line-requires
+fault-line-requires c κs = search needs
+
+-- src/main.rt:101:9
+returns : tie.Need-returns
+returns c = let a = c .before .before .before .args in rw (eq-eqb (a .why) 17 (c .before .if1 .taken)) (c .fault-line .ensures)
+
+-- src/main.rt:97:1
+returns-2 : tie.Need-returns-2
+returns-2 c = rw (ne-eqb (c .before .before .args .why) 17 (c .if1 .left)) refl
+
+pub refused-line-spec : {M : Type 1} → statement M
+refused-line-spec = tie.close (tie.spec fault-line-requires returns returns-2)

@@ -1,0 +1,13 @@
+pub mod Counts
+pub mod Begun
+pub mod Dues
+pub mod Turns
+pub mod Writes
+pub mod Levels
+pub mod Gathering
+pub mod Short
+pub mod Drawings
+pub mod Order
+pub mod Telling
+pub mod Overlong
+pub mod Stays

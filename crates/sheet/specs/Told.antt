@@ -1,0 +1,59 @@
+-- What a person may count on in what the program contours writes. Assumes nothing.
+use Prim.Native.Nat.{ℕ, suc, _+_, _≤_, _<_}
+use mathlib.Core.Path.{_≡_}
+use mathlib.Core.List.{List, [], _∷_, _++_}
+use lib.ListN.{length, getD}
+use Rattle.text.specs.Number.{showLevel}
+use Rattle.text.specs.Line.{linesOf}
+use Rattle.grid.specs.File.{faultLine}
+use Rattle.grid.specs.Read.{textFrame, textLevels}
+use Rattle.wkt.specs.Calls.{networkText}
+use Rattle.sheet.specs.Words.{wordLevel}
+use Rattle.sheet.specs.Sheet.{textRefusal, refusalOf, refusedLine, writtenOf, lineBegun, overlongLine}
+
+-- `level;wkt`
+abbrev pub headingText : List ℕ
+headingText = 108 ∷ 101 ∷ 118 ∷ 101 ∷ 108 ∷ 59 ∷ 119 ∷ 107 ∷ 116 ∷ []
+
+-- a word that spells a contour level: from 0.01 to 150.00, with two decimals and no needless zero
+pub record Spells (w : List ℕ) : Type 0 where
+  pub level : ℕ
+  pub least : 1 ≤ level
+  pub most : level ≤ 15000
+  pub spelled : w ≡ showLevel level
+
+-- Where nothing is refused, each word has one line, in the order given: the word as it is spelled, a semicolon, and the
+-- text of the contours at its level
+pub record EachWord (text : List ℕ) (words : List (List ℕ)) : Type 0 where
+  pub many : length (linesOf (writtenOf text words)) ≡ 1 + length words
+  pub heading : getD (linesOf (writtenOf text words)) 0 [] ≡ headingText
+  pub line : (i : ℕ) → i < length words
+      → getD (linesOf (writtenOf text words)) (suc i) []
+      ≡ getD words i [] ++ (59 ∷ networkText (textLevels text) (textFrame text) (wordLevel (getD words i [])))
+
+-- each word spells a level
+abbrev pub AllSpell : List (List ℕ) → Type 0
+AllSpell words = (i : ℕ) → i < length words → Spells (getD words i [])
+
+-- What is refused is written as one line and nothing else: the network before the words, 17 with the first line at
+-- fault, the others with line 0; and nothing is refused exactly if the network is not and there are words, no more
+-- than there are levels, that all spell one
+pub record Judged (text : List ℕ) (words : List (List ℕ)) : Type 0 where
+  pub off-layout : 1 ≤ faultLine (linesOf text) → writtenOf text words ≡ refusedLine 17 (faultLine (linesOf text))
+  pub network : faultLine (linesOf text) ≡ 0 → (textRefusal text ≡ 0 → ⊥)
+      → writtenOf text words ≡ refusedLine (textRefusal text) 0
+  pub no-word : textRefusal text ≡ 0 → length words ≡ 0 → writtenOf text words ≡ refusedLine 15 0
+  pub a-word : textRefusal text ≡ 0 → (i : ℕ) → i < length words → (Spells (getD words i []) → ⊥)
+      → writtenOf text words ≡ refusedLine 15 0
+  pub many-words : textRefusal text ≡ 0 → AllSpell words → 15000 < length words
+      → writtenOf text words ≡ refusedLine 14 0
+  pub drawn : textRefusal text ≡ 0 → AllSpell words → 1 ≤ length words → length words ≤ 15000
+      → refusalOf text words ≡ 0
+
+-- Of a text whose first bytes fill the program's room: a line that is told, and that they end, is the first at fault
+-- of the whole text, whatever follows; and 12 is right of the whole text where no line of it is at fault. Where one is,
+-- but past the room, 12 is told all the same
+pub record FillsRoom (front : List ℕ) : Type 0 where
+  pub line : (u : List ℕ) → 1 ≤ overlongLine front → overlongLine front < lineBegun front
+      → faultLine (linesOf (front ++ u)) ≡ overlongLine front
+  pub twelve : (u : List ℕ) → faultLine (linesOf (front ++ u)) ≡ 0 → textRefusal (front ++ u) ≡ 12
