@@ -28,7 +28,7 @@ flights-then : (test : Movement → Bool) (p : ℕ) (row : List ℕ) (rows : Lis
     → howMany test (flightsIn p (row ∷ rows)) ≡ howMany test (flightsIn p (row ∷ [])) + howMany test (flightsIn p rows)
 unfolding flightsIn howMany
 flights-then test p row rows =
-    either (ltb 150 (layoutOf p row .fields .mass)) (λ yes. rw yes (omega arith)) (λ no. rw no refl)
+    either (ltb 150 (layoutOf p row .fields .mass)) (λ yes. rw yes (omega arith)) (λ no. rw no (omega arith))
 
 -- a row that is read goes on: what is known behind it
 pub record Past (p n : ℕ) (s : Reading) (line : List ℕ) (ls : List (List ℕ)) (ms : List Movement) : Type 0 where

@@ -13,7 +13,7 @@ use Rattle.refusal.proofs.Laws.{refuse-none}
 use Rattle.text.proofs.Digits.{either}
 use Rattle.movement.specs.Group.{groupOf}
 use Rattle.movement.specs.Rules.{fieldsFit, counts, movementRefusal, identityFits}
-use Rattle.book.specs.Columns.{Book, sound}
+use Rattle.book.specs.Columns.{Book, sound, stands}
 use Rattle.book.specs.Calls.{Call, refusedOr, enterRefusal, soundRefusal, refusal, after}
 use Rattle.book.specs.Calls.Call.{enter, supply}
 use Rattle.book.specs.History.{Held, Movement, movement, added, holding, standing, step, listOf, Made, made, standingRefusal, listRefusal, accepted, booked, sizesFit}
@@ -129,11 +129,14 @@ enter-two : (p : ℕ) (b : Book) (x t k s m : ℕ) → refusal p b (enter x t k 
 unfolding refusal soundRefusal enterRefusal
 enter-two p b x t k s m e =
     let r = movementRefusal t k s m in
-    let a = refuse-is 9 2 (sound p b) (enterRefusal (b .identities) x t k s m) e (λ q. absurd (omega arith)) .1 in
+    let ids = b .identities in
+    let a = refuse-is 9 2 (sound p b) (enterRefusal ids x t k s m) e (λ q. absurd (omega arith)) .1 in
+    let six = refuse 6 (stands 0 ids) 0 in
+    let four = refuse 4 (not (stands x ids)) six in
     either (eqb r 0)
-    (λ yes. let c = refuse-is 3 2 _ _ (rw yes at a) (λ q. absurd (omega arith)) .1 in
-    let d = refuse-is 4 2 _ _ c (λ q. absurd (omega arith)) .1 in
-    let f = refuse-is 6 2 _ 0 d (λ q. absurd (omega arith)) .1 in absurd (omega arith))
+    (λ yes. let c = refuse-is 3 2 (identityFits x) four (rw yes at a) (λ q. absurd (omega arith)) .1 in
+    let d = refuse-is 4 2 (not (stands x ids)) six c (λ q. absurd (omega arith)) .1 in
+    let f = refuse-is 6 2 (stands 0 ids) 0 d (λ q. absurd (omega arith)) .1 in absurd (omega arith))
     (λ no. moved-two t k s m (rw no at a))
 
 two-enter : (p : ℕ) (b : Book) (x t k s m : ℕ) → sound p b ≡ true → TooLight t k s m → refusal p b (enter x t k s m) ≡ 2
@@ -191,15 +194,15 @@ calls-passed p b line read two =
 calls-blank : (p : ℕ) (b : Book) (line : List ℕ) → layoutOf p line .refusal ≡ 0 → refusal p b (entering (layoutOf p line)) ≡ 0
     → layoutOf p line .fields .computed ≡ 0 → rowCalls p b line ≡ made p (entering (layoutOf p line)) ∷ []
 unfolding rowCalls layoutCalls
-calls-blank p b line read zero none =
-    rw (eq-eqb (layoutOf p line .refusal) 0 read, eq-eqb (refusal p b (entering (layoutOf p line))) 0 zero, eq-eqb (layoutOf p line .fields .computed) 0 none) refl
+calls-blank p b line read in-book empty =
+    rw (eq-eqb (layoutOf p line .refusal) 0 read, eq-eqb (refusal p b (entering (layoutOf p line))) 0 in-book, eq-eqb (layoutOf p line .fields .computed) 0 empty) refl
 
 calls-given : (p : ℕ) (b : Book) (line : List ℕ) → layoutOf p line .refusal ≡ 0 → refusal p b (entering (layoutOf p line)) ≡ 0
     → (layoutOf p line .fields .computed ≡ 0 → ⊥)
     → rowCalls p b line ≡ made p (entering (layoutOf p line)) ∷ (made p (supplying p (layoutOf p line)) ∷ [])
 unfolding rowCalls layoutCalls
-calls-given p b line read zero some =
-    rw (eq-eqb (layoutOf p line .refusal) 0 read, eq-eqb (refusal p b (entering (layoutOf p line))) 0 zero, ne-eqb (layoutOf p line .fields .computed) 0 some) refl
+calls-given p b line read in-book some =
+    rw (eq-eqb (layoutOf p line .refusal) 0 read, eq-eqb (refusal p b (entering (layoutOf p line))) 0 in-book, ne-eqb (layoutOf p line .fields .computed) 0 some) refl
 
 -- no call more
 none-left : (p n : ℕ) (ms : List Movement) → listOf ms (accepted p n ms []) ≡ ms
@@ -248,12 +251,12 @@ row-flights p n b ms line t z test = go (row-did p b line z)
     entered = step ms (entering l)
 
     told-entered : refusal p b (entering l) ≡ 0 → Told p n (after p b (entering l)) entered
-    told-entered zero =
+    told-entered in-book =
         subst (λ (ns : List Movement). Told p n (after p b (entering l)) ns)
-        (one-accepted p n ms (made p (entering l)) [] (sym listed ∙ zero) ∙ none-left p n entered) (told p n (made p (entering l) ∷ []) b ms t)
+        (one-accepted p n ms (made p (entering l)) [] (sym listed ∙ in-book) ∙ none-left p n entered) (told p n (made p (entering l) ∷ []) b ms t)
 
     known : refusal p b (entering l) ≡ 0 → Entering (l .fields .mass) x ms
-    known zero = enter-none p n ms x (l .fields .ty) (l .fields .kind) (l .fields .time) (l .fields .mass) (sym listed ∙ zero)
+    known in-book = enter-none p n ms x (l .fields .ty) (l .fields .kind) (l .fields .time) (l .fields .mass) (sym listed ∙ in-book)
 
     go : Did p b line → howMany test (listOf ms (accepted p n ms (rowCalls p b line))) ≡ howMany test ms + howMany test (flightsIn p (line ∷ []))
     go (passed two) =
@@ -262,23 +265,23 @@ row-flights p n b ms line t z test = go (row-did p b line z)
         ∙ many-none test ms
         ∙ ap (λ (fs : List Movement). howMany test ms + howMany test fs)
         (sym (flight-no p line (enter-two p b x (l .fields .ty) (l .fields .kind) (l .fields .time) (l .fields .mass) two .light)))
-    go (blank zero none) =
-        ap (λ (cs : List Made). howMany test (listOf ms (accepted p n ms cs))) (calls-blank p b line read zero none)
-        ∙ ap (howMany test) (one-accepted p n ms (made p (entering l)) [] (sym listed ∙ zero) ∙ none-left p n entered)
+    go (blank in-book empty) =
+        ap (λ (cs : List Made). howMany test (listOf ms (accepted p n ms cs))) (calls-blank p b line read in-book empty)
+        ∙ ap (howMany test) (one-accepted p n ms (made p (entering l)) [] (sym listed ∙ in-book) ∙ none-left p n entered)
         ∙ many-added test (movement x group Held.none) ms
         ∙ many-one test (movement x group Held.none) ms
         ∙ ap (λ (fs : List Movement). howMany test ms + howMany test fs)
-        (ap (λ (m : Movement). m ∷ []) (sym (flight-blank p l none)) ∙ sym (flight-yes p line (known zero .heavy)))
-    go (given zero some fine) =
+        (ap (λ (m : Movement). m ∷ []) (sym (flight-blank p l empty)) ∙ sym (flight-yes p line (known in-book .heavy)))
+    go (given in-book some fine) =
         let accepts : listRefusal p n entered (made p (supplying p l)) ≡ 0 =
-        sym (refusal-told p n (after p b (entering l)) entered (made p (supplying p l)) (told-entered zero)) ∙ fine in
-        ap (λ (cs : List Made). howMany test (listOf ms (accepted p n ms cs))) (calls-given p b line read zero some)
-        ∙ ap (howMany test) (one-accepted p n ms (made p (entering l)) (made p (supplying p l) ∷ []) (sym listed ∙ zero)
+        sym (refusal-told p n (after p b (entering l)) entered (made p (supplying p l)) (told-entered in-book)) ∙ fine in
+        ap (λ (cs : List Made). howMany test (listOf ms (accepted p n ms cs))) (calls-given p b line read in-book some)
+        ∙ ap (howMany test) (one-accepted p n ms (made p (entering l)) (made p (supplying p l) ∷ []) (sym listed ∙ in-book)
         ∙ one-accepted p n entered (made p (supplying p l)) [] accepts ∙ none-left p n (step entered (supplying p l)))
-        ∙ many-held test x group (holds (take p (l .levels))) ms (known zero .new)
+        ∙ many-held test x group (holds (take p (l .levels))) ms (known in-book .new)
         ∙ many-one test (movement x group (holds (take p (l .levels)))) ms
         ∙ ap (λ (fs : List Movement). howMany test ms + howMany test fs)
-        (ap (λ (m : Movement). m ∷ []) (sym (flight-given p l some)) ∙ sym (flight-yes p line (known zero .heavy)))
+        (ap (λ (m : Movement). m ∷ []) (sym (flight-given p l some)) ∙ sym (flight-yes p line (known in-book .heavy)))
 
 -- A row is passed over exactly where it is too light
 
