@@ -2,3 +2,6 @@ pub mod LimitsFits
 pub mod Answers
 pub mod Rows
 pub mod Flights
+pub mod Printed
+pub mod Counting
+pub mod Says

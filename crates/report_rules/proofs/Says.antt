@@ -1,0 +1,128 @@
+-- No flight drops out of the report: what it prints at each point, read back from its bytes, is what its register has.
+-- Assumes nothing.
+use mathlib.Core.Path.{_≡_, refl, sym, ap, subst, _∙_}
+use mathlib.Core.Bool.{true, cond, not}
+use mathlib.Core.List.{List, [], _∷_}
+use Prim.Native.Nat.{ℕ, zero, suc, _+_, _≤_, _<_}
+use native.Mathlib.Omega.{arith}
+use lib.ListN.{length, getD}
+use Rattle.level.specs.Level.{verdictOf}
+use Rattle.book.specs.Columns.{Book}
+use Rattle.book.specs.History.{Movement, Made, emptyBook, booked, movements}
+use Rattle.counted.specs.declared.Load.{Load}
+use Rattle.counted.specs.Load.{bookLoad}
+use Rattle.counted.specs.Afresh.{CountsEach}
+use Rattle.counted.proofs.CountedOnce.{counted-once}
+use Rattle.text.specs.Line.{linesOf}
+use Rattle.text.specs.Field.{countOf, fieldOf}
+use Rattle.text.specs.Index.{listing}
+use Rattle.text.specs.Number.{showNumber}
+use Rattle.text.proofs.Fields.{Free}
+use Rattle.text.proofs.Indices.{length-listing}
+use Rattle.register.specs.declared.limits.Limits.{Limits}
+use Rattle.register.specs.Limits.{limitsOf}
+use Rattle.reporting.specs.Reading.{registered}
+use Rattle.reporting.specs.Booking.{registerCalls}
+use Rattle.reporting.proofs.Bookings.{register-booked}
+use Rattle.report_text.specs.Text.{ended, line, headerLine, pointFields, pointLine, pointsText, bookRefusal, bookText}
+use Rattle.report_text.specs.Totals as totals
+use Rattle.report_rules.specs.Report.{bookRows, registerText, reportOf}
+use Rattle.report_rules.specs.Flights.{rowsIn, flightsIn, howMany, computed, bookIn, standingIn, printed, PointSays, ReportSays}
+use Rattle.report_rules.proofs.Answers.{reading-reported, register-text, report-accepted}
+use Rattle.report_rules.proofs.Flights.{all-stand}
+use Rattle.report_rules.proofs.Printed.{lines-ended, header-unbroken, field-at, line-unbroken, listing-at}
+use Rattle.report_rules.proofs.Counting.{computed-printed, missing-printed, both}
+
+-- where nothing is refused, the text is the header and a line for each point
+book-points : (l : Limits) (b : Book) → bookRefusal l b ≡ 0 → bookText l b ≡ pointsText l b
+unfolding bookText
+book-points l b z = rw z refl
+
+-- the lines of that text
+points-free : (l : Limits) (b : Book) → Free 13 (headerLine ∷ listing (pointLine l b) (l .points))
+unfolding pointLine
+points-free l b zero h = header-unbroken
+points-free l b (suc i) h =
+    let less : i < l .points = omega (arith, length-listing (pointLine l b) (l .points)) in
+    ap (countOf 13) (listing-at (pointLine l b) (l .points) i less)
+    ∙ line-unbroken i (getD (l .limits) i 0) (bookLoad (l .points) i b (l .days))
+
+points-lines : (l : Limits) (b : Book) → linesOf (pointsText l b) ≡ headerLine ∷ listing (pointLine l b) (l .points)
+unfolding pointsText
+points-lines l b = lines-ended (headerLine ∷ listing (pointLine l b) (l .points)) (points-free l b)
+
+module _ (limits register : List ℕ) (fine : limitsOf limits .refusal ≡ 0) (accepted : registered (limitsOf limits .points) (emptyBook (limitsOf limits .points) bookRows) register .refusal ≡ 0)
+    (reported : bookRefusal (limitsOf limits) (bookIn (limitsOf limits .points) register) ≡ 0) where
+  abbrev l : Limits
+  l = limitsOf limits
+
+  abbrev p : ℕ
+  p = limitsOf limits .points
+
+  abbrev b : Book
+  b = bookIn (limitsOf limits .points) register
+
+  abbrev cs : List Made
+  cs = registerCalls (limitsOf limits .points) (emptyBook (limitsOf limits .points) bookRows) register
+
+  text-is : reportOf limits register ≡ pointsText l b
+  text-is =
+      report-accepted limits register fine
+      ∙ sym (register-text l register (registered p (emptyBook p bookRows) register) refl)
+      ∙ reading-reported l (registered p (emptyBook p bookRows) register) accepted
+      ∙ book-points l b reported
+
+  lines-are : linesOf (reportOf limits register) ≡ headerLine ∷ listing (pointLine l b) p
+  lines-are = ap linesOf text-is ∙ points-lines l b
+
+  -- each point is answered, since the first one is
+  made : b ≡ booked (emptyBook p bookRows) cs
+  made = register-booked p (emptyBook p bookRows) register
+
+  answered : (point : ℕ) → point < p → bookLoad p point (booked (emptyBook p bookRows) cs) (l .days) .refused ≡ 0
+  unfolding bookRefusal
+  answered point h =
+      let first : bookLoad p 0 (booked (emptyBook p bookRows) cs) (l .days) .refused ≡ 0 = rw made at reported in
+      let k = counted-once p 0 bookRows cs (l .days) .refusals .answered .0 first in
+      counted-once p point bookRows cs (l .days) .refusals .answered .1 (record { points = k .0 .points; rows = k .0 .rows; there = h }, k .1)
+
+  counts : (point : ℕ) → point < p → CountsEach (bookLoad p point b (l .days)) point (standingIn p register) (l .days)
+  counts point h =
+      subst (λ (k : Book). CountsEach (bookLoad p point k (l .days)) point (standingIn p register) (l .days)) (sym made)
+      (counted-once p point bookRows cs (l .days) .counts (answered point h))
+
+  field : (point k : ℕ) → point < p → k < 6
+      → printed (reportOf limits register) point k ≡ getD (pointFields point (getD (l .limits) point 0) (bookLoad p point b (l .days))) k []
+  unfolding pointLine
+  field point k h six =
+      ap (λ (ls : List (List ℕ)). fieldOf 44 k (getD ls (suc point) [])) lines-are
+      ∙ ap (fieldOf 44 k) (listing-at (pointLine l b) p point h)
+      ∙ field-at point (getD (l .limits) point 0) (bookLoad p point b (l .days)) k six
+
+  -- the flights computed, and those without levels, of the load at each point
+  with-levels : (point : ℕ) → point < p → totals.computedIn (bookLoad p point b (l .days) .counts) ≡ howMany computed (flightsIn p (rowsIn register))
+  with-levels point h =
+      computed-printed p bookRows point (l .days) cs (bookLoad p point b (l .days)) (counts point h) ∙ all-stand p register accepted .each computed
+
+  without : (point : ℕ) → point < p
+      → totals.missingIn (bookLoad p point b (l .days) .counts) ≡ howMany (λ m. not (computed m)) (flightsIn p (rowsIn register))
+  without point h =
+      missing-printed p bookRows point (l .days) cs (bookLoad p point b (l .days)) (counts point h)
+      ∙ all-stand p register accepted .each (λ m. not (computed m))
+
+  pub report-says : ReportSays limits register
+  report-says =
+      record {
+        header = ap (λ (ls : List (List ℕ)). getD ls 0 []) lines-are;
+        lines = ap length lines-are ∙ omega (arith, length-listing (pointLine l b) p);
+        points = λ point h.
+            record {
+              number = field point 0 h (omega arith);
+              level = field point 1 h (omega arith);
+              limit = field point 2 h (omega arith);
+              verdict = field point 3 h (omega arith);
+              with-levels = field point 4 h (omega arith) ∙ ap showNumber (with-levels point h);
+              without = field point 5 h (omega arith) ∙ ap showNumber (without point h);
+            };
+        adds-up = both (flightsIn p (rowsIn register));
+      }
