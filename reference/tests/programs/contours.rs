@@ -1,0 +1,210 @@
+//! The contours program: a network file on standard input, contour levels as arguments.
+
+use crate::damage::damage;
+use crate::delivery::a_delivery;
+use crate::drawn::{a_frame, a_level, a_network};
+use crate::program::Program;
+use crate::random::Random;
+use crate::rounds::{rounds, saw, Telling};
+use reference::contours_csv::contours_csv;
+use reference::network::{Frame, Network};
+use reference::text::spell_level;
+
+/// What a network and its levels are made for. The answer is the reference's to give; damage may make it another.
+#[derive(Clone, Copy, PartialEq, Eq)]
+enum Aim {
+    Answer,
+    Size,
+    Count,
+    NetworkLevel,
+    NoData,
+    ContourLevel,
+    Layout,
+    Damage,
+}
+
+/// Mostly an answer.
+fn an_aim(random: &mut Random) -> Aim {
+    use Aim::*;
+    random.pick(&[
+        Answer,
+        Answer,
+        Answer,
+        Answer,
+        Answer,
+        Answer,
+        Answer,
+        Answer,
+        Size,
+        Count,
+        NetworkLevel,
+        NoData,
+        ContourLevel,
+        Layout,
+        Damage,
+    ])
+}
+
+fn a_wrong_frame(random: &mut Random, frame: Frame) -> Frame {
+    match random.within(0, 4) {
+        0 => Frame { columns: random.pick(&[1, 257]), ..frame },
+        1 => Frame { rows: random.pick(&[1, 257]), ..frame },
+        2 => Frame { spacing: random.pick(&[0, 501, 9_999_999]), ..frame },
+        3 => Frame { west: 900_001, ..frame },
+        _ => Frame { south: 900_001, ..frame },
+    }
+}
+
+/// The network as a file's lines, now and then with a no-data line.
+fn lines_of(random: &mut Random, network: &Network) -> Vec<String> {
+    let mut lines: Vec<String> = reference::grid::write(network).split_terminator("\r\n").map(str::to_string).collect();
+    if random.once_in(3) {
+        lines.insert(5, format!("NODATA_value {}", random.pick(&["-9999", "-1", "0", "9999999", "-12.50"])));
+    }
+    lines
+}
+
+/// A value too many or too few in a row, a row too many or too few, or far more rows than the program can hold.
+fn miscount(random: &mut Random, lines: &mut Vec<String>) {
+    let row = random.within(6, lines.len() as u32 - 1) as usize;
+    let again = lines[row].clone();
+    match random.within(0, 4) {
+        0 => lines[row] += " 1.00",
+        1 => lines[row].truncate(again.rfind(' ').expect("a row has two values")),
+        2 => lines.insert(row, again),
+        3 => drop(lines.remove(row)),
+        _ => lines.extend((0..600_000 / (again.len() + 2)).map(|_| again.clone())),
+    }
+}
+
+/// Puts no data in one place, spelled as the file names it.
+fn put_no_data(random: &mut Random, lines: &mut [String]) {
+    let named = lines[5].strip_prefix("NODATA_value ").unwrap_or("-9999").to_string();
+    let last = lines.len() - 1;
+    let row = &mut lines[random.within(6, last as u32) as usize];
+    let last = row.rfind(' ').expect("a row has two values") + 1;
+    row.replace_range(last.., &named);
+}
+
+/// Puts one line off its layout.
+fn misspell(random: &mut Random, lines: &mut [String]) {
+    let place = if random.once_in(2) { random.within(0, 5) } else { random.within(0, lines.len() as u32 - 1) } as usize;
+    let line = &mut lines[place];
+    match random.within(0, 6) {
+        0 => line.clear(),
+        1 => *line = line.replacen(' ', "  ", 1),
+        2 => line.push(' '),
+        3 => line.insert(0, ' '),
+        4 => *line = line.replacen(' ', "\n", 1),
+        5 => line.push_str(random.pick(&["x", "1.0", ".", "\r", "-"])),
+        _ => *line = line.replacen(' ', " 0", 1),
+    }
+}
+
+/// The words of one to five contour levels about this one.
+fn some_levels(random: &mut Random, level: u32) -> Vec<String> {
+    let about = |random: &mut Random| {
+        let any = random.within(1, 15_000);
+        random.pick(&[level, level, level + 1, level - 1, level + 700, any]).clamp(1, 15_000)
+    };
+    (0..random.pick(&[1, 1, 2, 3, 5])).map(|_| spell_level(about(random))).collect()
+}
+
+/// No levels, or one among them that is none.
+fn spoil_levels(random: &mut Random, words: &mut Vec<String>) {
+    let wrong = ["0.00", "150.01", "999.99", "1000.00", "45", "45.0", "045.00", "45.000", "", " 45.00", "45.00 ", "-1.00", "x", "45,00"];
+    let place = random.within(0, words.len() as u32) as usize;
+    match random.within(0, 7) {
+        0 => words.clear(),
+        1 => words.insert(place, format!("45.00{}", "0".repeat(40))),
+        _ => words.insert(place, random.pick(&wrong).to_string()),
+    }
+}
+
+/// Counts what an answer is, and of drawn contours what they show.
+fn count(answer: &str, frame: Frame, words: &[String]) {
+    if let Some(refused) = answer.strip_prefix("refused,") {
+        let mut fields = refused.trim_end().split(',');
+        saw("contours", fields.next().expect("a number"));
+        match fields.next().expect("a line").parse::<u32>() {
+            Ok(0) => {}
+            Ok(1..=5) => saw("contours", "a header line at fault"),
+            _ => saw("contours", "a later line at fault"),
+        }
+        return;
+    }
+    saw("contours", "answered");
+    let texts: Vec<&str> = answer.lines().skip(1).collect();
+    let lines = |text: &str| text.matches("), (").count() + 1;
+    let drawn = |text: &&&str| !text.ends_with("EMPTY");
+    for (kind, holds) in [
+        ("several levels", words.len() > 1),
+        ("no contour at a level", texts.iter().any(|text| text.ends_with("EMPTY"))),
+        ("two lines and more at a level", texts.iter().filter(drawn).any(|text| lines(text) > 1)),
+        ("a hundred lines and more at a level", texts.iter().any(|text| lines(text) >= 100)),
+        ("west unlike south", frame.west != frame.south),
+        ("256 by 256", (frame.columns, frame.rows) == (256, 256)),
+    ] {
+        if holds {
+            saw("drawn", kind);
+        }
+    }
+}
+
+#[test]
+#[ignore = "needs OKUBINRAFO_CONTOURS, the command of the contours program"]
+fn contours_drawn() {
+    const TELLING: Telling = &[
+        ("contours", 100, &["answered"]),
+        ("contours", 5, &["12", "13", "15", "17", "a header line at fault", "a later line at fault"]),
+        ("contours", 10, &["from a file", "in one piece", "cut between CR and LF", "cut between lines", "cut anywhere"]),
+        ("contours", 5, &["byte by byte"]),
+        ("drawn", 5, &["256 by 256", "no contour at a level", "a hundred lines and more at a level"]),
+        ("drawn", 30, &["several levels", "two lines and more at a level", "west unlike south"]),
+    ];
+    let program = Program::from_environment("OKUBINRAFO_CONTOURS");
+    rounds("contours_drawn", 250, TELLING, move |random| {
+        let (aim, level) = (an_aim(random), a_level(random));
+        let mut frame = a_frame(random);
+        if random.once_in(12) {
+            (frame.columns, frame.rows) = (256, 256);
+        }
+        if aim == Aim::Size {
+            frame = a_wrong_frame(random, frame);
+        }
+        let mut levels = a_network(random, &frame, level);
+        let place = random.within(0, levels.len() as u32 - 1) as usize;
+        if aim == Aim::NetworkLevel {
+            levels[place] = random.pick(&[15_001, 99_999]);
+        }
+        let mut lines = lines_of(random, &Network { frame, levels: &levels });
+        match aim {
+            Aim::Count => miscount(random, &mut lines),
+            Aim::NoData => put_no_data(random, &mut lines),
+            Aim::Layout => misspell(random, &mut lines),
+            _ => {}
+        }
+        let mut text = (lines.join("\r\n") + random.pick(&["", "\r\n"])).into_bytes();
+        if aim == Aim::Damage {
+            damage(random, &mut text);
+        }
+        let mut words = some_levels(random, level);
+        if aim == Aim::ContourLevel || (aim != Aim::Answer && random.once_in(3)) {
+            spoil_levels(random, &mut words);
+        }
+        let bytes: Vec<&[u8]> = words.iter().map(|word| word.as_bytes()).collect();
+        let expected = contours_csv(&text, &bytes);
+        let delivery = a_delivery(random, "contours", &text);
+        let own = program.run(&words, &text, &delivery);
+        count(&expected, frame, &words);
+        assert!(own == expected.as_bytes(), "{}", difference(&own, expected.as_bytes(), &text, &words));
+    });
+}
+
+/// Where two answers part, and what they answer.
+fn difference(own: &[u8], expected: &[u8], text: &[u8], words: &[String]) -> String {
+    let place = own.iter().zip(expected).take_while(|(one, other)| one == other).count();
+    let about = |bytes: &[u8]| String::from_utf8_lossy(&bytes[place.saturating_sub(60)..(place + 60).min(bytes.len())]).into_owned();
+    let (own, expected, text) = (about(own), about(expected), String::from_utf8_lossy(text));
+    format!("the program writes about byte {place} {own:?}\nthe reference {expected:?}\nlevels {words:?}\nnetwork {text:?}")
+}
