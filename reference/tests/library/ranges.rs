@@ -223,12 +223,12 @@ fn ranges_of_a_load() {
                 (0, 0, 12_001, 11, 11),
             ] {
                 let what = format!("point {point}, days {days}, limit {limit}");
-                assert_eq!(load(&library, &book, point, days, &[0; LOAD_NUMBERS]).0, loaded, "{what}");
-                assert_eq!(verdict(&library, &book, point, days, limit, &[7]), judged, "{what}");
                 // Where nothing earlier is wrong, 10 is found, and room last.
                 let none = |answer: u32| if answer == 0 { 10 } else { answer };
                 assert_eq!(load(&library, &missing, point, days, &[]).0, none(loaded), "{what}, none computed");
                 assert_eq!(verdict(&library, &missing, point, days, limit, &[]), none(judged), "{what}, none computed");
+                assert_eq!(load(&library, &book, point, days, &[0; LOAD_NUMBERS]).0, loaded, "{what}");
+                assert_eq!(verdict(&library, &book, point, days, limit, &[7]), judged, "{what}");
             }
             assert_eq!(load(&library, &book, 0, 1, &[0; LOAD_NUMBERS - 1]).0, 14);
             assert_eq!(verdict(&library, &book, 0, 1, 0, &[]), 14);
@@ -398,9 +398,9 @@ fn ranges_of_a_row() {
 }
 
 #[test]
-fn ranges_of_a_network_text() {
+fn ranges_in_a_network_text() {
     const TELLING: Telling = &[("read_network", 2, &["0", "12", "13", "17"]), ("read_network", 1, &["14"])];
-    directed("ranges_of_a_network_text", TELLING, || {
+    directed("ranges_in_a_network_text", TELLING, || {
         let library = Library::from_environment();
         let room = vec![77; 1_000];
         let reads = |text: &str, expected: u32| {
