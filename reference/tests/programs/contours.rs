@@ -1,11 +1,11 @@
 //! The contours program: a network file on standard input, contour levels as arguments.
 
 use crate::damage::damage;
-use crate::delivery::a_delivery;
+use crate::delivery::{a_delivery, Delivery};
 use crate::drawn::{a_frame, a_level, a_network};
 use crate::program::Program;
 use crate::random::Random;
-use crate::rounds::{rounds, saw, Telling};
+use crate::rounds::{directed, rounds, saw, Telling};
 use reference::contours_csv::contours_csv;
 use reference::network::{Frame, Network};
 use reference::text::spell_level;
@@ -26,23 +26,11 @@ enum Aim {
 /// Mostly an answer.
 fn an_aim(random: &mut Random) -> Aim {
     use Aim::*;
-    random.pick(&[
-        Answer,
-        Answer,
-        Answer,
-        Answer,
-        Answer,
-        Answer,
-        Answer,
-        Answer,
-        Size,
-        Count,
-        NetworkLevel,
-        NoData,
-        ContourLevel,
-        Layout,
-        Damage,
-    ])
+    if random.within(1, 5) <= 3 {
+        Answer
+    } else {
+        random.pick(&[Size, Count, NetworkLevel, NoData, ContourLevel, Layout, Damage])
+    }
 }
 
 fn a_wrong_frame(random: &mut Random, frame: Frame) -> Frame {
@@ -101,6 +89,34 @@ fn misspell(random: &mut Random, lines: &mut [String]) {
     }
 }
 
+/// A network file for the aim, and the frame that it is made of.
+fn a_file(random: &mut Random, aim: Aim, level: u32) -> (Frame, Vec<u8>) {
+    let mut frame = a_frame(random);
+    if random.once_in(12) {
+        (frame.columns, frame.rows) = (256, 256);
+    }
+    if aim == Aim::Size {
+        frame = a_wrong_frame(random, frame);
+    }
+    let mut levels = a_network(random, &frame, level);
+    if aim == Aim::NetworkLevel {
+        let place = random.within(0, levels.len() as u32 - 1) as usize;
+        levels[place] = random.pick(&[15_001, 99_999]);
+    }
+    let mut lines = lines_of(random, &Network { frame, levels: &levels });
+    match aim {
+        Aim::Count => miscount(random, &mut lines),
+        Aim::NoData => put_no_data(random, &mut lines),
+        Aim::Layout => misspell(random, &mut lines),
+        _ => {}
+    }
+    let mut text = (lines.join("\r\n") + random.pick(&["", "\r\n"])).into_bytes();
+    if aim == Aim::Damage {
+        damage(random, &mut text);
+    }
+    (frame, text)
+}
+
 /// The words of one to five contour levels about this one.
 fn some_levels(random: &mut Random, level: u32) -> Vec<String> {
     let about = |random: &mut Random| {
@@ -151,53 +167,37 @@ fn count(answer: &str, frame: Frame, words: &[String]) {
     }
 }
 
+/// Runs the program and compares.
+fn compare(program: &Program, text: &[u8], words: &[String], delivery: &Delivery) -> String {
+    let levels: Vec<&[u8]> = words.iter().map(|word| word.as_bytes()).collect();
+    let expected = contours_csv(text, &levels);
+    let own = program.run(words, text, delivery);
+    assert!(own == expected.as_bytes(), "{}", difference(&own, expected.as_bytes(), text, words));
+    expected
+}
+
 #[test]
 #[ignore = "needs OKUBINRAFO_CONTOURS, the command of the contours program"]
 fn contours_drawn() {
     const TELLING: Telling = &[
-        ("contours", 100, &["answered"]),
+        ("contours", 150, &["answered"]),
         ("contours", 5, &["12", "13", "15", "17", "a header line at fault", "a later line at fault"]),
         ("contours", 10, &["from a file", "in one piece", "cut between CR and LF", "cut between lines", "cut anywhere"]),
         ("contours", 5, &["byte by byte"]),
-        ("drawn", 5, &["256 by 256", "no contour at a level", "a hundred lines and more at a level"]),
+        ("drawn", 3, &["256 by 256", "no contour at a level", "a hundred lines and more at a level"]),
         ("drawn", 30, &["several levels", "two lines and more at a level", "west unlike south"]),
     ];
     let program = Program::from_environment("OKUBINRAFO_CONTOURS");
-    rounds("contours_drawn", 250, TELLING, move |random| {
+    rounds("contours_drawn", 300, TELLING, move |random| {
         let (aim, level) = (an_aim(random), a_level(random));
-        let mut frame = a_frame(random);
-        if random.once_in(12) {
-            (frame.columns, frame.rows) = (256, 256);
-        }
-        if aim == Aim::Size {
-            frame = a_wrong_frame(random, frame);
-        }
-        let mut levels = a_network(random, &frame, level);
-        let place = random.within(0, levels.len() as u32 - 1) as usize;
-        if aim == Aim::NetworkLevel {
-            levels[place] = random.pick(&[15_001, 99_999]);
-        }
-        let mut lines = lines_of(random, &Network { frame, levels: &levels });
-        match aim {
-            Aim::Count => miscount(random, &mut lines),
-            Aim::NoData => put_no_data(random, &mut lines),
-            Aim::Layout => misspell(random, &mut lines),
-            _ => {}
-        }
-        let mut text = (lines.join("\r\n") + random.pick(&["", "\r\n"])).into_bytes();
-        if aim == Aim::Damage {
-            damage(random, &mut text);
-        }
+        let (frame, text) = a_file(random, aim, level);
         let mut words = some_levels(random, level);
         if aim == Aim::ContourLevel || (aim != Aim::Answer && random.once_in(3)) {
             spoil_levels(random, &mut words);
         }
-        let bytes: Vec<&[u8]> = words.iter().map(|word| word.as_bytes()).collect();
-        let expected = contours_csv(&text, &bytes);
         let delivery = a_delivery(random, "contours", &text);
-        let own = program.run(&words, &text, &delivery);
-        count(&expected, frame, &words);
-        assert!(own == expected.as_bytes(), "{}", difference(&own, expected.as_bytes(), &text, &words));
+        let answer = compare(&program, &text, &words, &delivery);
+        count(&answer, frame, &words);
     });
 }
 
@@ -207,4 +207,23 @@ fn difference(own: &[u8], expected: &[u8], text: &[u8], words: &[String]) -> Str
     let about = |bytes: &[u8]| String::from_utf8_lossy(&bytes[place.saturating_sub(60)..(place + 60).min(bytes.len())]).into_owned();
     let (own, expected, text) = (about(own), about(expected), String::from_utf8_lossy(text));
     format!("the program writes about byte {place} {own:?}\nthe reference {expected:?}\nlevels {words:?}\nnetwork {text:?}")
+}
+
+/// Document 01's hill, cut in two at every place, at levels with a contour and without.
+#[test]
+#[ignore = "needs OKUBINRAFO_CONTOURS, the command of the contours program"]
+fn the_documents_hill_in_two_pieces() {
+    let program = Program::from_environment("OKUBINRAFO_CONTOURS");
+    directed("the_documents_hill_in_two_pieces", &[("contours", 100, &["answered"])], move || {
+        let rows = "40.00 40.00 40.00\r\n40.00 50.00 40.00\r\n40.00 40.00 40.00\r\n";
+        let text = format!("ncols 3\r\nnrows 3\r\nxllcenter 0\r\nyllcenter 0\r\ncellsize 100\r\n{rows}");
+        let ring = "MULTILINESTRING ((50.000 100.000, 100.000 50.000, 150.000 100.000, 100.000 150.000, 50.000 100.000))";
+        let drawn = format!("level;wkt\r\n50.01;MULTILINESTRING EMPTY\r\n45.00;{ring}\r\n");
+        for cut in 1..text.len() {
+            let words = ["50.01", "45.00"].map(str::to_string);
+            let answer = compare(&program, text.as_bytes(), &words, &Delivery::Pieces(vec![cut]));
+            assert_eq!(answer, drawn);
+            saw("contours", "answered");
+        }
+    });
 }

@@ -8,6 +8,7 @@ use std::os::fd::AsRawFd;
 use std::path::{Path, PathBuf};
 use std::process::{ChildStdin, Command, Stdio};
 use std::sync::atomic::{AtomicUsize, Ordering};
+use std::time::Duration;
 
 pub struct Program {
     command: String,
@@ -81,6 +82,8 @@ extern "C" {
 
 /// Asks how many bytes wait in a pipe.
 const FIONREAD: c_ulong = 0x541b;
+/// Between two looks at a pipe; nothing depends on how long it is.
+const A_WHILE: Duration = Duration::from_micros(20);
 /// The reading end of a pipe is closed.
 const POLLERR: c_short = 8;
 
@@ -100,6 +103,6 @@ fn is_read(pipe: &ChildStdin) -> bool {
         if asked.returned & POLLERR != 0 {
             return false;
         }
-        std::thread::yield_now();
+        std::thread::sleep(A_WHILE);
     }
 }

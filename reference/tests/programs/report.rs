@@ -83,8 +83,8 @@ fn compare(program: &Program, limits: Option<&[u8]>, register: &[u8], delivery: 
 #[ignore = "needs OKUBINRAFO_REPORT, the command of the report program"]
 fn reports() {
     const TELLING: Telling = &[
-        ("report", 150, &["answered"]),
-        ("report", 4, &["1", "3", "4", "6", "7", "10", "11", "15", "16"]),
+        ("report", 200, &["answered"]),
+        ("report", 3, &["1", "3", "4", "6", "7", "10", "11", "15", "16"]),
         ("report", 20, &["from a file", "in one piece", "cut between CR and LF", "cut between lines", "cut anywhere"]),
         ("report", 4, &["byte by byte", "cut about a buffer's end"]),
         ("answered", 20, &["over one buffer", "over two buffers", "a full book", "rows passed over", "movements missing"]),
@@ -92,7 +92,7 @@ fn reports() {
         ("answered", 5, &["eight points"]),
     ];
     let program = Program::from_environment("OKUBINRAFO_REPORT");
-    rounds("reports", 300, TELLING, move |random| {
+    rounds("reports", 400, TELLING, move |random| {
         let (aim, points) = (Aim::pick(random), random.within(1, 8));
         let register = a_register(random, aim, points);
         let days = random.pick(&[1, 1, 92, 365, 366]);
