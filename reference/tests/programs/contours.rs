@@ -89,17 +89,19 @@ fn misspell(random: &mut Random, lines: &mut [String]) {
     }
 }
 
-/// A network file for the aim, and the frame that it is made of.
+/// A network file for the aim, and the frame that it is made of; now and then it is wrong in a second way that the order
+/// puts later.
 fn a_file(random: &mut Random, aim: Aim, level: u32) -> (Frame, Vec<u8>) {
     let mut frame = a_frame(random);
     if random.once_in(12) {
         (frame.columns, frame.rows) = (256, 256);
     }
-    if aim == Aim::Size {
+    let second = random.once_in(3);
+    if aim == Aim::Size || (aim == Aim::Layout && second) {
         frame = a_wrong_frame(random, frame);
     }
     let mut levels = a_network(random, &frame, level);
-    if aim == Aim::NetworkLevel {
+    if aim == Aim::NetworkLevel || (matches!(aim, Aim::Size | Aim::Count) && second) {
         let place = random.within(0, levels.len() as u32 - 1) as usize;
         levels[place] = random.pick(&[15_001, 99_999]);
     }
