@@ -229,3 +229,44 @@ fn the_documents_hill_in_two_pieces() {
         }
     });
 }
+
+/// The ranges of a network file and of the levels, at their ends and one past them, with everything else right.
+#[test]
+#[ignore = "needs OKUBINRAFO_CONTOURS, the command of the contours program"]
+fn ranges_of_the_contours_program() {
+    const FRAME: Frame = Frame { columns: 3, rows: 2, spacing: 100, west: 5, south: 6 };
+    let program = Program::from_environment("OKUBINRAFO_CONTOURS");
+    directed("ranges_of_the_contours_program", &[("contours", 2, &["answered", "12", "13", "15"])], move || {
+        let runs = |frame: Frame, highest: u32, word: &str, expected: &str| {
+            let mut levels: Vec<u32> = (0..frame.points() as u32).map(|point| point % frame.columns).collect();
+            levels[0] = highest;
+            let text = reference::grid::write(&Network { frame, levels: &levels });
+            let answer = compare(&program, text.as_bytes(), &[word.to_string()], &Delivery::File);
+            assert!(answer.starts_with(expected), "{frame:?}, {highest}, level {word:?}: {answer:?}");
+            count(&answer, frame, &[word.to_string()]);
+        };
+        let drawn = "level;wkt\r\n";
+        for (frame, expected) in [
+            (Frame { columns: 1, ..FRAME }, "refused,12,0"),
+            (Frame { columns: 256, rows: 256, ..FRAME }, drawn),
+            (Frame { columns: 257, ..FRAME }, "refused,12,0"),
+            (Frame { rows: 1, ..FRAME }, "refused,12,0"),
+            (Frame { rows: 257, ..FRAME }, "refused,12,0"),
+            (Frame { spacing: 0, ..FRAME }, "refused,12,0"),
+            (Frame { spacing: 1, ..FRAME }, drawn),
+            (Frame { spacing: 500, ..FRAME }, drawn),
+            (Frame { spacing: 501, ..FRAME }, "refused,12,0"),
+            (Frame { west: 900_000, south: 900_000, ..FRAME }, drawn),
+            (Frame { west: 900_001, ..FRAME }, "refused,12,0"),
+            (Frame { south: 900_001, ..FRAME }, "refused,12,0"),
+        ] {
+            runs(frame, 0, "0.01", expected);
+        }
+        for (highest, expected) in [(15_000, drawn), (15_001, "refused,13,0"), (99_999, "refused,13,0")] {
+            runs(FRAME, highest, "0.01", expected);
+        }
+        for (word, expected) in [("0.00", "refused,15,0"), ("0.01", drawn), ("150.00", drawn), ("150.01", "refused,15,0")] {
+            runs(FRAME, 0, word, expected);
+        }
+    });
+}

@@ -145,3 +145,55 @@ fn the_documents_file_about_a_buffers_end() {
         }
     });
 }
+
+/// The ranges of both files, at their ends and one past them, with everything else right.
+#[test]
+#[ignore = "needs OKUBINRAFO_REPORT, the command of the report program"]
+fn ranges_of_the_report_program() {
+    const TELLING: Telling = &[("report", 1, &["1", "3", "4", "6", "7", "10", "11", "15", "16"]), ("report", 8, &["answered"])];
+    let program = Program::from_environment("OKUBINRAFO_REPORT");
+    directed("ranges_of_the_report_program", TELLING, move || {
+        let runs = |limits: &str, rows: &str, expected: &str| {
+            let (limits, register) = (format!("days,p1\r\n{limits}\r\n"), format!("{HEADER}{rows}"));
+            let answer = compare(&program, Some(limits.as_bytes()), register.as_bytes(), &Delivery::File);
+            assert!(answer.starts_with(expected), "{limits:?}, {rows:?}: {answer:?}");
+            count(&answer, register.as_bytes());
+        };
+        let answered = "point,level,limit,verdict,computed,missing\r\n1,";
+        for (limits, expected) in [
+            ("0,60.00", "refused,11,2"),
+            ("1,60.00", answered),
+            ("366,60.00", answered),
+            ("367,60.00", "refused,11,2"),
+            ("1,0.00", answered),
+            ("1,120.00", answered),
+            ("1,120.01", "refused,15,2"),
+            ("367,120.01", "refused,11,2"),
+        ] {
+            runs(limits, "7,G,70000,S,07:00:00,60.00", expected);
+        }
+        for (row, expected) in [
+            ("7,K,5999,S,07:00:00,60.00", answered),
+            ("7,K,6000,S,07:00:00,60.00", "refused,1,2"),
+            ("7,G,1000000,S,07:00:00,60.00", answered),
+            ("7,G,1000001,S,07:00:00,60.00", "refused,1,2"),
+            ("7,G,151,S,07:00:00,", "refused,10,0"),
+            ("7,G,150,S,07:00:00,", answered),
+            ("0,G,151,S,07:00:00,60.00", "refused,3,2"),
+            ("99999,G,151,S,07:00:00,60.00", answered),
+            ("100000,G,151,S,07:00:00,60.00", "refused,3,2"),
+            ("7,G,151,S,07:00:00,120.00", answered),
+            ("7,G,151,S,07:00:00,120.01", "refused,7,2"),
+            ("7,G,151,S,24:00:00,60.00", "refused,16,2"),
+            ("7,G,151,S,07:60:00,60.00", "refused,16,2"),
+            ("7,G,151,S,07:00:60,60.00", "refused,16,2"),
+        ] {
+            runs("1,60.00", row, expected);
+        }
+        let full: String = (1..=ROWS).map(|identity| format!("{identity},G,151,S,07:00:00,60.00\r\n")).collect();
+        runs("1,60.00", &full, answered);
+        runs("1,60.00", &format!("{full}2001,G,151,S,07:00:00,60.00"), "refused,6,2002");
+        runs("1,60.00", &format!("{full}2000,G,151,S,07:00:00,60.00"), "refused,4,2002");
+        runs("1,60.00", &format!("{full}2001,G,150,S,07:00:00,60.00"), answered);
+    });
+}
