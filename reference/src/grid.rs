@@ -10,22 +10,35 @@ const NO_DATA: &[u8] = b"-9999";
 
 /// A network's frame and its levels from the south row: 17, 12, 13, each judged over the whole text.
 pub fn read(text: &[u8]) -> Answer<(Frame, Vec<u32>)> {
-    let lines = lines(text);
-    let header = |number: usize, key| keyed(lines.get(number)?, key).and_then(whole);
-    let frame = || {
-        let (columns, rows) = (header(0, "ncols")?, header(1, "nrows")?);
-        let (west, south) = (header(2, "xllcenter")?, header(3, "yllcenter")?);
-        Some(Frame { columns, rows, spacing: header(4, "cellsize")?, west, south })
-    };
-    let frame = frame().ok_or(Refusal::Grid)?;
-    let (no_data, values) = cut_no_data(&lines[5..]).ok_or(Refusal::Grid)?;
-    let values = values.iter().map(|line| row(line, no_data)).collect::<Option<Vec<_>>>().ok_or(Refusal::Grid)?;
+    let (frame, values) = spelled(text).map_err(|_| Refusal::Grid)?;
     frame.check()?;
     let counts = values.len() == frame.rows as usize && values.iter().all(|row| row.len() == frame.columns as usize);
     ensure(counts, Refusal::Network)?;
     let levels = values.into_iter().rev().flatten().collect::<Option<Vec<u32>>>().ok_or(Refusal::NetworkLevel)?;
     ensure(levels.iter().all(|&level| level <= MAX_NETWORK_LEVEL), Refusal::NetworkLevel)?;
     Ok((frame, levels))
+}
+
+/// The first line off the layout, counted from 1; a missing line of the header is an empty one.
+pub fn fault_line(text: &[u8]) -> Option<usize> {
+    spelled(text).err()
+}
+
+/// The frame and the rows of values from the north, none for no data; or the first line off the layout.
+fn spelled(text: &[u8]) -> Result<(Frame, Vec<Vec<Option<u32>>>), usize> {
+    let lines = lines(text);
+    let frame = spelled_frame(&lines)?;
+    let (no_data, values) = cut_no_data(&lines[5..]).ok_or(6usize)?;
+    let first = lines.len() - values.len() + 1;
+    let rows = values.iter().enumerate().map(|(place, line)| row(line, no_data).ok_or(first + place));
+    Ok((frame, rows.collect::<Result<_, _>>()?))
+}
+
+fn spelled_frame(lines: &[&[u8]]) -> Result<Frame, usize> {
+    let header = |number: usize, key| lines.get(number - 1).and_then(|line| keyed(line, key)).and_then(whole).ok_or(number);
+    let (columns, rows) = (header(1, "ncols")?, header(2, "nrows")?);
+    let (west, south) = (header(3, "xllcenter")?, header(4, "yllcenter")?);
+    Ok(Frame { columns, rows, spacing: header(5, "cellsize")?, west, south })
 }
 
 /// The field after a key and one space.
@@ -106,6 +119,24 @@ mod tests {
             assert_eq!(read(if wrong.len() > 20 { wrong.as_bytes() } else { text.as_bytes() }), Err(Refusal::Grid), "{wrong:?}");
         }
         assert_eq!(read(b""), Err(Refusal::Grid));
+    }
+
+    #[test]
+    fn the_line_at_fault() {
+        let right = format!("{HEAD}NODATA_value 0\r\n1.00 2.00\r\n3.00 4.00");
+        assert_eq!(fault_line(right.as_bytes()), None);
+        for (old, new, line) in [
+            ("ncols 2", "", 1),
+            ("nrows 2", "nrows  2", 2),
+            ("cellsize 100", "cellsize 1.00", 5),
+            ("NODATA_value 0", "NODATA_value", 6),
+            ("1.00 2.00", "1.00 2", 7),
+            ("\r\nyllcenter 6\r\ncellsize 100\r\nNODATA_value 0\r\n1.00 2.00\r\n3.00 4.00", "", 4),
+        ] {
+            assert_eq!(fault_line(right.replacen(old, new, 1).as_bytes()), Some(line), "{new:?}");
+        }
+        assert_eq!(fault_line(format!("{right}\r\n\r\n").as_bytes()), Some(9));
+        assert_eq!(fault_line(b""), Some(1));
     }
 
     #[test]

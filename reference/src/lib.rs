@@ -5,6 +5,7 @@ pub mod big;
 pub mod book;
 pub mod calls;
 pub mod contour;
+pub mod contours_csv;
 pub mod grid;
 pub mod level;
 pub mod load;

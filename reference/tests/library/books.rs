@@ -1,9 +1,9 @@
 //! Random calls on random books, sound and unsound.
 
 use crate::compared::{change, load, verdict, Book, Change};
-use crate::library::Library;
+use crate::library::{compared_rounds, Library};
 use crate::random::Random;
-use crate::rounds::{rounds, Telling};
+use crate::rounds::Telling;
 use reference::book::Columns;
 
 const LOAD_NUMBERS: usize = 39;
@@ -131,6 +131,11 @@ fn spoil(random: &mut Random, book: &mut Book) {
     if random.once_in(10) {
         book.points = random.about(8);
     }
+    // No or nine points, and the levels fit them.
+    if random.once_in(10) {
+        book.points = random.pick(&[0, 9]);
+        book.levels.resize(book.identities.len() * book.points as usize, 0);
+    }
 }
 
 /// A load and a verdict, the limit about the level where there is one.
@@ -147,15 +152,15 @@ fn ask(library: &Library, random: &mut Random, book: &Book) {
 #[test]
 fn sequences_of_calls() {
     const TELLING: Telling = &[
-        ("enter", &[0, 1, 2, 3, 4, 6]),
-        ("supply", &[0, 3, 5, 7]),
-        ("take_back", &[0, 3, 5, 8]),
-        ("withdraw", &[0, 3, 5]),
-        ("replay", &[0, 14, 16]),
-        ("load", &[0, 9, 10, 11, 14]),
-        ("verdict", &[0, 9, 10, 11, 14, 15]),
+        ("enter", 1, &["0", "1", "2", "3", "4", "6"]),
+        ("supply", 1, &["0", "3", "5", "7"]),
+        ("take_back", 1, &["0", "3", "5", "8"]),
+        ("withdraw", 1, &["0", "3", "5"]),
+        ("replay", 1, &["0", "14", "16"]),
+        ("load", 1, &["0", "9", "10", "11", "14"]),
+        ("verdict", 1, &["0", "9", "10", "11", "14", "15"]),
     ];
-    rounds("sequences_of_calls", 4_000, TELLING, |library, random| {
+    compared_rounds("sequences_of_calls", 4_000, TELLING, |library, random| {
         let (rows, points) = (random.within(1, 14) as usize, random.within(1, 8));
         let mut book = Columns::new(rows, points);
         for _ in 0..random.within(1, 60) {
@@ -169,15 +174,15 @@ fn sequences_of_calls() {
 #[test]
 fn unsound_books() {
     const TELLING: Telling = &[
-        ("enter", &[0, 9]),
-        ("supply", &[0, 9]),
-        ("take_back", &[0, 9]),
-        ("withdraw", &[0, 9]),
-        ("replay", &[0, 9, 14, 16]),
-        ("load", &[0, 9]),
-        ("verdict", &[0, 9]),
+        ("enter", 1, &["0", "9"]),
+        ("supply", 1, &["0", "9"]),
+        ("take_back", 1, &["0", "9"]),
+        ("withdraw", 1, &["0", "9"]),
+        ("replay", 1, &["0", "9", "14", "16"]),
+        ("load", 1, &["0", "9"]),
+        ("verdict", 1, &["0", "9"]),
     ];
-    rounds("unsound_books", 20_000, TELLING, |library, random| {
+    compared_rounds("unsound_books", 20_000, TELLING, |library, random| {
         let (rows, points) = (random.within(0, 6), random.within(1, 8));
         let standing = random.within(0, rows) as usize;
         let mut book = a_book(random, rows as usize, standing, points, 12_000);
@@ -190,8 +195,9 @@ fn unsound_books() {
 
 #[test]
 fn loads_of_all_sizes() {
-    const TELLING: Telling = &[("load", &[0, 9, 10, 11, 14]), ("verdict", &[0, 9, 10, 11, 14, 15])];
-    rounds("loads_of_all_sizes", 3_000, TELLING, |library, random| {
+    const TELLING: Telling =
+        &[("load", 50, &["0", "9", "10", "11", "14", "below zero", "under 30.00"]), ("verdict", 50, &["0", "9", "10", "11", "14", "15"])];
+    compared_rounds("loads_of_all_sizes", 3_000, TELLING, |library, random| {
         let rows = random.pick(&[1, 2, 30, 300]);
         let (standing, points) = (random.within(0, rows) as usize, random.within(1, 8));
         let highest = random.pick(&[1, 300, 6_000, 12_000]);
@@ -205,8 +211,8 @@ fn loads_of_all_sizes() {
 /// All movements in one group at one level: the edges of every step from energy to level.
 #[test]
 fn every_level_by_itself() {
-    const TELLING: Telling = &[("load", &[0]), ("verdict", &[0])];
-    rounds("every_level_by_itself", 120, TELLING, |library, random| {
+    const TELLING: Telling = &[("load", 100, &["0", "below zero", "under 30.00"]), ("verdict", 100, &["0"])];
+    compared_rounds("every_level_by_itself", 120, TELLING, |library, random| {
         for _ in 0..100 {
             let mut book = Columns::new(1, 1);
             book.identities[0] = 1;
@@ -225,8 +231,8 @@ fn every_level_by_itself() {
 /// Books of up to 50,000 rows, and of one more.
 #[test]
 fn large_books() {
-    const TELLING: Telling = &[("enter", &[0, 9]), ("withdraw", &[0, 9]), ("load", &[0, 9])];
-    rounds("large_books", 12, TELLING, |library, random| {
+    const TELLING: Telling = &[("enter", 1, &["0", "9"]), ("withdraw", 1, &["0", "9"]), ("load", 1, &["0", "9"])];
+    compared_rounds("large_books", 12, TELLING, |library, random| {
         let rows = random.pick(&[2_000, 20_000, 49_999, 50_000, 50_000, 50_001]);
         let points = random.within(1, 8);
         let standing = random.pick(&[rows, rows - 1, rows / 2]);
@@ -245,8 +251,8 @@ fn large_books() {
 /// The largest energies and counts that a book can hold: every product on the way must still fit.
 #[test]
 fn fullest_books() {
-    const TELLING: Telling = &[("load", &[0]), ("verdict", &[0])];
-    rounds("fullest_books", 12, TELLING, |library, random| {
+    const TELLING: Telling = &[("load", 1, &["0"]), ("verdict", 1, &["0"])];
+    compared_rounds("fullest_books", 12, TELLING, |library, random| {
         let rows = 50_000;
         let computed = random.pick(&[1, 2, 25_000, 49_999, 50_000]);
         let (own, other) = random.pick(&[(2, 2), (2, 17), (17, 2), (0, 0), (1, 1)]);
@@ -267,8 +273,8 @@ fn fullest_books() {
 /// A register replayed into an empty book as one journal, in rising and in any order of identities.
 #[test]
 fn large_journals() {
-    const TELLING: Telling = &[("replay", &[0])];
-    rounds("large_journals", 8, TELLING, |library, random| {
+    const TELLING: Telling = &[("replay", 1, &["0"])];
+    compared_rounds("large_journals", 8, TELLING, |library, random| {
         let (rows, points) = (random.pick(&[500usize, 3_000]), random.within(1, 8));
         let rising = random.once_in(2);
         let mut journal = Vec::new();

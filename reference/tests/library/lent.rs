@@ -1,13 +1,7 @@
 //! Memory lent to the library, with marked memory on both sides, and the comparison after a call.
 
-use std::cell::RefCell;
-use std::collections::BTreeMap;
+use crate::rounds::saw;
 use std::fmt::Debug;
-
-thread_local! {
-    /// How often each call gave each answer in this thread's test.
-    pub static SEEN: RefCell<BTreeMap<(String, u32), u64>> = const { RefCell::new(BTreeMap::new()) };
-}
 
 /// An odd number of elements, so that no pointer is better aligned than its type asks.
 const MARGIN: usize = 17;
@@ -67,7 +61,7 @@ pub struct Made<'a> {
 
 impl Made<'_> {
     pub fn answers_agree(&self) -> &Self {
-        SEEN.with_borrow_mut(|seen| *seen.entry((self.call.to_string(), self.reference)).or_default() += 1);
+        saw(self.call, &self.reference.to_string());
         if self.library != self.reference {
             self.fail(&format!("the library answers {}, the reference {}", self.library, self.reference));
         }

@@ -1,5 +1,7 @@
 //! The exported library, opened by path.
 
+use crate::random::Random;
+use crate::rounds::{rounds, Telling};
 use std::ffi::{c_char, c_int, c_void, CStr, CString};
 
 extern "C" {
@@ -74,4 +76,10 @@ impl Library {
         }
         Library::from_handle(handle)
     }
+}
+
+/// Rounds of a test that makes its calls on the library of the environment.
+pub fn compared_rounds(test: &'static str, usual: u64, telling: Telling, body: fn(&Library, &mut Random)) {
+    let library = Library::from_environment();
+    rounds(test, usual, telling, move |random| body(&library, random));
 }

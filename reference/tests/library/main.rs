@@ -5,10 +5,18 @@
 
 mod books;
 mod compared;
+#[path = "../shared/damage.rs"]
 mod damage;
+#[path = "../shared/drawn.rs"]
+mod drawn;
 mod lent;
+mod levels;
 mod library;
 mod networks;
+mod places;
+#[path = "../shared/random.rs"]
 mod random;
+mod ranges;
+#[path = "../shared/rounds.rs"]
 mod rounds;
 mod texts;

@@ -1,34 +1,14 @@
 //! Random and adversarial networks: contours, their text, crossings and map points.
 
 use crate::compared::{ask, contours, write, Asked, Rooms, Written};
-use crate::library::Library;
+use crate::drawn::{a_frame, a_level, a_network};
+use crate::library::{compared_rounds, Library};
 use crate::random::Random;
-use crate::rounds::{rounds, Telling};
+use crate::rounds::Telling;
 use reference::network::Frame;
 
 /// A finite binary64 number that no answer has, by its bits.
 const OLD_PLACE: u64 = 0x40c8_1cd6_e631_f8a1;
-
-fn a_side(random: &mut Random) -> u32 {
-    match random.within(0, 60) {
-        0 => 256,
-        1 => random.within(2, 256),
-        2..=12 => 2,
-        13..=20 => 3,
-        _ => random.within(2, 24),
-    }
-}
-
-pub fn a_frame(random: &mut Random) -> Frame {
-    let spacing = random.pick(&[1, 7, 100, 333, 500]);
-    Frame {
-        columns: a_side(random),
-        rows: a_side(random),
-        spacing,
-        west: random.within(0, 900_000),
-        south: random.pick(&[0, 900_000, 123_457]),
-    }
-}
 
 /// A frame with one number about its limits, mostly out of range.
 fn a_wrong_frame(random: &mut Random, frame: Frame) -> Frame {
@@ -41,44 +21,6 @@ fn a_wrong_frame(random: &mut Random, frame: Frame) -> Frame {
         3 => Frame { west: origin, ..frame },
         _ => Frame { south: origin, ..frame },
     }
-}
-
-fn a_level(random: &mut Random) -> u32 {
-    random.pick(&[1, 2, 50, 4_500, 7_500, 14_999, 15_000])
-}
-
-/// Whether a point lies on a spiral wall that winds inwards, two points wide with its gap.
-fn on_spiral(row: u32, column: u32, frame: &Frame) -> bool {
-    let (down, right) = (frame.rows - 1 - row, frame.columns - 1 - column);
-    let ring = row.min(column).min(down).min(right);
-    (ring % 2 == 0) != (column == ring && row == ring + 1 && ring > 0)
-}
-
-/// The patterns that networks are drawn by.
-const PATTERNS: u32 = 10;
-
-pub fn a_network(random: &mut Random, frame: &Frame, level: u32) -> Vec<u32> {
-    let (pattern, high, low) = (random.within(0, PATTERNS - 1), random.within(level, 15_000), random.within(0, level - 1));
-    let (width, tilt) = (random.within(1, 6), random.within(1, 40));
-    let near = |random: &mut Random, spread: u32| random.within(level.saturating_sub(spread), (level + spread).min(15_000));
-    let place = |row: u32, column: u32| if row.abs_diff(column) % 2 == 0 { high } else { low };
-    let mut point = |row: u32, column: u32| match pattern {
-        0 => random.within(0, 15_000),
-        1 => near(random, 1),
-        2 => near(random, 5),
-        3 => place(row, column),
-        4 => place(row / width, column / width),
-        5 if on_spiral(row, column, frame) => high,
-        5 => low,
-        6 => random.pick(&[level, level, level - 1, high]),
-        // One hundredth out of 16, 80, 400 or 2,000: the printed place is a half.
-        8 => (level - 1 + 16 * random.pick(&[0, 0, 1, 5, 25, 125])).min(15_000),
-        7 => (level + 20 * tilt)
-            .saturating_sub((row.abs_diff(frame.rows / 2).pow(2) + column.abs_diff(frame.columns / 2).pow(2)) * tilt)
-            .min(15_000),
-        _ => random.pick(&[high, low]),
-    };
-    (0..frame.rows).flat_map(|row| (0..frame.columns).map(move |column| (row, column))).map(|(row, column)| point(row, column)).collect()
 }
 
 /// Contours with all the room there can be need of, with exact room and with each room too small by one.
@@ -134,14 +76,14 @@ fn compare_all(library: &Library, random: &mut Random, frame: Frame, levels: &[u
 #[test]
 fn networks_of_all_kinds() {
     const TELLING: Telling = &[
-        ("contours", &[0, 14]),
-        ("print_contours", &[0, 14]),
-        ("crossing", &[0, 14]),
-        ("map_point", &[0, 14]),
-        ("map_points", &[0, 14]),
-        ("write_network", &[0, 14]),
+        ("contours", 1, &["0", "14"]),
+        ("print_contours", 1, &["0", "14"]),
+        ("crossing", 1, &["0", "14"]),
+        ("map_point", 1, &["0", "14"]),
+        ("map_points", 1, &["0", "14"]),
+        ("write_network", 1, &["0", "14"]),
     ];
-    rounds("networks_of_all_kinds", 4_000, TELLING, |library, random| {
+    compared_rounds("networks_of_all_kinds", 4_000, TELLING, |library, random| {
         let (frame, level) = (a_frame(random), a_level(random));
         let levels = a_network(random, &frame, level);
         compare_all(library, random, frame, &levels, level);
@@ -151,14 +93,14 @@ fn networks_of_all_kinds() {
 #[test]
 fn refused_networks() {
     const TELLING: Telling = &[
-        ("contours", &[0, 12, 13, 15]),
-        ("print_contours", &[0, 12, 13, 15]),
-        ("crossing", &[0, 12, 13, 15]),
-        ("map_point", &[0, 12, 13, 15]),
-        ("map_points", &[0, 12, 13, 15]),
-        ("write_network", &[0, 12, 13]),
+        ("contours", 1, &["0", "12", "13", "15"]),
+        ("print_contours", 1, &["0", "12", "13", "15"]),
+        ("crossing", 1, &["0", "12", "13", "15"]),
+        ("map_point", 1, &["0", "12", "13", "15"]),
+        ("map_points", 1, &["0", "12", "13", "15"]),
+        ("write_network", 1, &["0", "12", "13"]),
     ];
-    rounds("refused_networks", 20_000, TELLING, |library, random| {
+    compared_rounds("refused_networks", 20_000, TELLING, |library, random| {
         let small = Frame { columns: random.within(2, 4), rows: random.within(2, 4), ..a_frame(random) };
         let mut level = a_level(random);
         let mut levels = a_network(random, &small, level);
@@ -181,8 +123,8 @@ fn refused_networks() {
 /// Every network of 2 by 2 points with five levels about v, and of 3 by 3 and 4 by 2 with three, a slice each round.
 #[test]
 fn all_small_networks() {
-    const TELLING: Telling = &[("contours", &[0, 14]), ("print_contours", &[0, 14])];
-    rounds("all_small_networks", 40, TELLING, |library, random| {
+    const TELLING: Telling = &[("contours", 1, &["0", "14"]), ("print_contours", 1, &["0", "14"])];
+    compared_rounds("all_small_networks", 40, TELLING, |library, random| {
         let spacing = random.within(1, 500);
         for (columns, rows, values) in [(2, 2, 5u32), (3, 3, 3), (4, 2, 3)] {
             let frame = Frame { columns, rows, spacing, west: 1, south: 2 };
@@ -199,8 +141,8 @@ fn all_small_networks() {
 /// The largest networks, where an answer is longest.
 #[test]
 fn large_networks() {
-    const TELLING: Telling = &[("contours", &[0, 14]), ("print_contours", &[0, 14])];
-    rounds("large_networks", 12, TELLING, |library, random| {
+    const TELLING: Telling = &[("contours", 1, &["0", "14"]), ("print_contours", 1, &["0", "14"])];
+    compared_rounds("large_networks", 12, TELLING, |library, random| {
         let frame = Frame { columns: random.pick(&[256, 255]), rows: 256, ..a_frame(random) };
         let level = a_level(random);
         let levels = a_network(random, &frame, level);

@@ -2,9 +2,10 @@
 
 use crate::compared::{read_network, read_row, write, Written};
 use crate::damage::damage;
-use crate::networks::{a_frame, a_network};
+use crate::drawn::{a_frame, a_network};
+use crate::library::compared_rounds;
 use crate::random::Random;
-use crate::rounds::{rounds, Telling};
+use crate::rounds::Telling;
 use reference::network::{Frame, Network};
 
 fn a_row(random: &mut Random, points: u32) -> String {
@@ -24,8 +25,8 @@ fn a_row(random: &mut Random, points: u32) -> String {
 
 #[test]
 fn rows_read() {
-    const TELLING: Telling = &[("read_row", &[0, 1, 3, 7, 14, 16])];
-    rounds("rows_read", 150_000, TELLING, |library, random| {
+    const TELLING: Telling = &[("read_row", 1, &["0", "1", "3", "7", "14", "16"])];
+    compared_rounds("rows_read", 150_000, TELLING, |library, random| {
         let points = if random.once_in(20) { random.about(8) } else { random.within(1, 8) };
         let mut line = a_row(random, points.min(9)).into_bytes();
         for _ in 0..random.pick(&[0, 0, 1, 1, 2, 3]) {
@@ -40,8 +41,8 @@ fn rows_read() {
 
 #[test]
 fn rows_written() {
-    const TELLING: Telling = &[("write_row", &[0, 1, 3, 7, 9, 14])];
-    rounds("rows_written", 100_000, TELLING, |library, random| {
+    const TELLING: Telling = &[("write_row", 1, &["0", "1", "3", "7", "9", "14"])];
+    compared_rounds("rows_written", 100_000, TELLING, |library, random| {
         let points = random.about(8);
         let mass = random.pick(&[0, 100, 5_999, 6_000, 1_000_000, 1_000_001]);
         let mut fields = vec![random.about(99_999), random.about(2), mass, random.about(1), random.about(86_399), random.about(1)];
@@ -95,8 +96,8 @@ fn a_network_text(random: &mut Random) -> String {
 
 #[test]
 fn networks_read() {
-    const TELLING: Telling = &[("read_network", &[0, 12, 13, 14, 17]), ("write_network", &[0])];
-    rounds("networks_read", 60_000, TELLING, |library, random| {
+    const TELLING: Telling = &[("read_network", 1, &["0", "12", "13", "14", "17"]), ("write_network", 1, &["0"])];
+    compared_rounds("networks_read", 60_000, TELLING, |library, random| {
         let mut text = a_network_text(random).into_bytes();
         for _ in 0..random.pick(&[0, 0, 1, 1, 1, 2, 3]) {
             damage(random, &mut text);
@@ -116,8 +117,8 @@ fn networks_read() {
 /// Whole and cut texts of the largest networks.
 #[test]
 fn large_networks_read() {
-    const TELLING: Telling = &[("read_network", &[0])];
-    rounds("large_networks_read", 4, TELLING, |library, random| {
+    const TELLING: Telling = &[("read_network", 1, &["0"])];
+    compared_rounds("large_networks_read", 4, TELLING, |library, random| {
         let frame = Frame { columns: 256, rows: 256, ..a_frame(random) };
         let levels = a_network(random, &frame, 7_500);
         let text = reference::grid::write(&Network { frame, levels: &levels }).into_bytes();

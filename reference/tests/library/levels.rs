@@ -1,0 +1,110 @@
+//! From energy to level, on both edges of every level under 30.00 and of many above it.
+
+use crate::compared::{load, verdict, Book};
+use crate::library::Library;
+use crate::rounds::{directed, Telling};
+use reference::book::Columns;
+use reference::calls::LOAD_NUMBERS;
+use reference::level::table_b;
+
+const DAY: u32 = 0;
+const EVENING: u32 = 1;
+const NIGHT: u32 = 2;
+
+/// A book of computed movements, each by its group and level.
+fn a_book(movements: &[(u32, u32)]) -> Book {
+    let mut book = Columns::new(movements.len().max(1), 1);
+    for (row, &(group, level)) in movements.iter().enumerate() {
+        book.identities[row] = row as u32 + 1;
+        book.groups[row] = group;
+        book.marks[row] = 1;
+        book.levels[row] = level;
+    }
+    book
+}
+
+/// A book with this total: movements by day with energies of 1, 10, 100 and so on to 10^12.
+fn a_book_of(total: u64) -> Book {
+    let mut movements = Vec::new();
+    let mut rest = total;
+    for tens in (0..=12).rev() {
+        let energy = 10u64.pow(tens);
+        movements.extend((0..rest / energy).map(|_| (DAY, 1_000 * tens)));
+        rest %= energy;
+    }
+    a_book(&movements)
+}
+
+/// The least total whose M is this.
+fn total_of(mean: u64, days: u32) -> u64 {
+    (mean * 86_400 * u64::from(days)).div_ceil(1_000)
+}
+
+/// Total and level of a book, which both sides agree on.
+fn loaded(library: &Library, book: &Book, days: u32) -> (u64, Option<u64>) {
+    let (answer, numbers) = load(library, book, 0, days, &[0; LOAD_NUMBERS]);
+    assert_eq!(answer, 0, "the book has a load");
+    (numbers[0], (numbers[1] == 1).then_some(numbers[2]))
+}
+
+#[test]
+fn both_edges_of_a_level() {
+    const TELLING: Telling = &[("load", 6_000, &["0", "under 30.00"]), ("load", 1, &["below zero"]), ("verdict", 6_000, &["0"])];
+    directed("both_edges_of_a_level", TELLING, || {
+        let library = Library::from_environment();
+        assert_eq!(loaded(&library, &a_book_of(total_of(999, 1)), 1).1, None, "M of 999 is below zero");
+        assert_eq!(loaded(&library, &a_book_of(total_of(1_000, 1)), 1).1, Some(0), "M of 1,000 is 0.00");
+        for n in (0..3_000).chain((3_000..10_000).step_by(41)) {
+            let days = if n < 3_000 { 1 + n as u32 % 366 } else { 1 };
+            let most = table_b()[n % 1_000] * 10u64.pow(n as u32 / 1_000) / 1_000;
+            for (mean, expected) in [(most, n as u64), (most + 1, n as u64 + 1)] {
+                let (total, book) = (total_of(mean, days), a_book_of(total_of(mean, days)));
+                assert_eq!(loaded(&library, &book, days), (total, Some(expected)), "M of {mean} over {days} days");
+            }
+            let limit = n as u32;
+            verdict(&library, &a_book_of(total_of(most, days)), 0, days, limit, &[7]);
+            verdict(&library, &a_book_of(total_of(most + 1, days)), 0, days, limit, &[7]);
+        }
+    });
+}
+
+/// The energies that document 01 works by hand, by day, in the evening and at night.
+#[test]
+fn worked_energies() {
+    directed("worked_energies", &[("load", 12, &["0"])], || {
+        let library = Library::from_environment();
+        for (group, level, energy) in [
+            (DAY, 0, 1),
+            (DAY, 500, 3),
+            (DAY, 3_500, 3_162),
+            (DAY, 6_500, 3_162_277),
+            (DAY, 7_500, 31_622_770),
+            (EVENING, 0, 3),
+            (EVENING, 3_000, 3_162),
+            (EVENING, 6_000, 3_162_277),
+            (NIGHT, 2_500, 3_162),
+            (NIGHT, 5_500, 3_162_277),
+            (NIGHT, 6_500, 31_622_770),
+            (NIGHT, 12_000, 10u64.pow(13)),
+        ] {
+            for aircraft_and_kind in 0..6 {
+                let book = a_book(&[(3 * aircraft_and_kind + group, level)]);
+                assert_eq!(loaded(&library, &book, 1).0, energy, "group {group}, level {level}");
+            }
+        }
+    });
+}
+
+/// Document 01's file, and the same without its W: the level goes by the whole total.
+#[test]
+fn movements_of_groups_without_levels() {
+    directed("movements_of_groups_without_levels", &[("load", 2, &["0"])], || {
+        let library = Library::from_environment();
+        let mut book = a_book(&[(DAY, 10_000), (DAY, 10_000), (DAY, 0), (17, 0)]);
+        book.marks[2..].fill(0);
+        assert_eq!(loaded(&library, &book, 1), (40_000_000_000, Some(5_666)));
+        book.identities[3] = 0;
+        book.groups[3] = 0;
+        assert_eq!(loaded(&library, &book, 1), (30_000_000_000, Some(5_541)));
+    });
+}

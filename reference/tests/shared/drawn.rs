@@ -1,0 +1,63 @@
+//! Random and adversarial networks.
+
+use crate::random::Random;
+use reference::network::Frame;
+
+fn a_side(random: &mut Random) -> u32 {
+    match random.within(0, 60) {
+        0 => 256,
+        1 => random.within(2, 256),
+        2..=12 => 2,
+        13..=20 => 3,
+        _ => random.within(2, 24),
+    }
+}
+
+pub fn a_frame(random: &mut Random) -> Frame {
+    let spacing = random.pick(&[1, 7, 100, 333, 500]);
+    Frame {
+        columns: a_side(random),
+        rows: a_side(random),
+        spacing,
+        west: random.within(0, 900_000),
+        south: random.pick(&[0, 900_000, 123_457]),
+    }
+}
+
+pub fn a_level(random: &mut Random) -> u32 {
+    random.pick(&[1, 2, 50, 4_500, 7_500, 14_999, 15_000])
+}
+
+/// Whether a point lies on a spiral wall that winds inwards, two points wide with its gap.
+fn on_spiral(row: u32, column: u32, frame: &Frame) -> bool {
+    let (down, right) = (frame.rows - 1 - row, frame.columns - 1 - column);
+    let ring = row.min(column).min(down).min(right);
+    (ring % 2 == 0) != (column == ring && row == ring + 1 && ring > 0)
+}
+
+/// The patterns that networks are drawn by.
+const PATTERNS: u32 = 10;
+
+pub fn a_network(random: &mut Random, frame: &Frame, level: u32) -> Vec<u32> {
+    let (pattern, high, low) = (random.within(0, PATTERNS - 1), random.within(level, 15_000), random.within(0, level - 1));
+    let (width, tilt) = (random.within(1, 6), random.within(1, 40));
+    let near = |random: &mut Random, spread: u32| random.within(level.saturating_sub(spread), (level + spread).min(15_000));
+    let place = |row: u32, column: u32| if row.abs_diff(column) % 2 == 0 { high } else { low };
+    let mut point = |row: u32, column: u32| match pattern {
+        0 => random.within(0, 15_000),
+        1 => near(random, 1),
+        2 => near(random, 5),
+        3 => place(row, column),
+        4 => place(row / width, column / width),
+        5 if on_spiral(row, column, frame) => high,
+        5 => low,
+        6 => random.pick(&[level, level, level - 1, high]),
+        // One hundredth out of 16, 80, 400 or 2,000: the printed place is a half.
+        8 => (level - 1 + 16 * random.pick(&[0, 0, 1, 5, 25, 125])).min(15_000),
+        7 => (level + 20 * tilt)
+            .saturating_sub((row.abs_diff(frame.rows / 2).pow(2) + column.abs_diff(frame.columns / 2).pow(2)) * tilt)
+            .min(15_000),
+        _ => random.pick(&[high, low]),
+    };
+    (0..frame.rows).flat_map(|row| (0..frame.columns).map(move |column| (row, column))).map(|(row, column)| point(row, column)).collect()
+}
