@@ -5,3 +5,4 @@ pub mod Flights
 pub mod Printed
 pub mod Counting
 pub mod Says
+pub mod Spelling

@@ -111,12 +111,16 @@ line-unbroken point limit load =
     joined-free 13 (pointFields point limit load) (λ e. absurd (omega arith)) (fields-free 13 (omega arith) point limit load)
 
 -- the value at an index of a listing
-pub listing-at : (f : ℕ → List ℕ) (n i : ℕ) → i < n → getD (listing f n) i [] ≡ f i
+pub listing-at : {A : Type 0} (f : ℕ → A) (d : A) (n i : ℕ) → i < n → getD (listing f n) i d ≡ f i
 unfolding listing
-listing-at f zero i h = absurd (omega arith)
-listing-at f (suc n) i h =
+listing-at f d zero i h = absurd (omega arith)
+listing-at f d (suc n) i h =
     either (eqb i n)
     (λ same. let e = eqb-true i n same in
-    rw e (ap (λ (k : ℕ). getD (listing f n ++ (f n ∷ [])) k []) (sym (length-listing f n)) ∙ getD-append-seam (listing f n) (f n) [] []))
+    rw e (ap (λ (k : ℕ). getD (listing f n ++ (f n ∷ [])) k d) (sym (length-listing f n)) ∙ getD-append-seam (listing f n) (f n) [] d))
     (λ other. let less : i < n = omega (arith, eqb-false i n other) in
-    List·getD-append (listing f n) (f n ∷ []) [] i (rw (length-listing f n) less) ∙ listing-at f n i less)
+    List·getD-append (listing f n) (f n ∷ []) d i (rw (length-listing f n) less) ∙ listing-at f d n i less)
+
+-- also where something stands behind it
+pub value-at : (f : ℕ → ℕ) (n : ℕ) (rest : List ℕ) (i : ℕ) → i < n → getD (listing f n ++ rest) i 0 ≡ f i
+value-at f n rest i h = List·getD-append (listing f n) rest 0 i (rw (length-listing f n) h) ∙ listing-at f 0 n i h

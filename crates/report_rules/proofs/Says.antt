@@ -44,7 +44,7 @@ unfolding pointLine
 points-free l b zero h = header-unbroken
 points-free l b (suc i) h =
     let less : i < l .points = omega (arith, length-listing (pointLine l b) (l .points)) in
-    ap (countOf 13) (listing-at (pointLine l b) (l .points) i less)
+    ap (countOf 13) (listing-at (pointLine l b) [] (l .points) i less)
     ∙ line-unbroken i (getD (l .limits) i 0) (bookLoad (l .points) i b (l .days))
 
 points-lines : (l : Limits) (b : Book) → linesOf (pointsText l b) ≡ headerLine ∷ listing (pointLine l b) (l .points)
@@ -96,7 +96,7 @@ module _ (limits register : List ℕ) (fine : limitsOf limits .refusal ≡ 0) (a
   unfolding pointLine
   field point k h six =
       ap (λ (ls : List (List ℕ)). fieldOf 44 k (getD ls (suc point) [])) lines-are
-      ∙ ap (fieldOf 44 k) (listing-at (pointLine l b) p point h)
+      ∙ ap (fieldOf 44 k) (listing-at (pointLine l b) [] p point h)
       ∙ field-at point (getD (l .limits) point 0) (bookLoad p point b (l .days)) k six
 
   -- the flights computed, and those without levels, of the load at each point
