@@ -6,7 +6,10 @@ use mathlib.Core.List.{List, [], _∷_}
 use Prim.Native.Nat.{ℕ, zero, suc, _+_, _≤_, _<_}
 use native.Mathlib.Omega.{arith}
 use lib.ListN.{length, getD}
-use Rattle.level.specs.Level.{verdictOf}
+use borrow.Author.Tests.{lt-ltb, le-ltb}
+use Rattle.level.specs.declared.Level.{Level}
+use Rattle.level.specs.declared.Level.the-variants.{BelowZero, At}
+use Rattle.level.specs.Level.{levelGiven, levelValue, verdictOf}
 use Rattle.book.specs.Columns.{Book}
 use Rattle.book.specs.History.{Movement, Made, emptyBook, booked, movements}
 use Rattle.counted.specs.declared.Load.{Load}
@@ -16,7 +19,8 @@ use Rattle.counted.proofs.CountedOnce.{counted-once}
 use Rattle.text.specs.Line.{linesOf}
 use Rattle.text.specs.Field.{countOf, fieldOf}
 use Rattle.text.specs.Index.{listing}
-use Rattle.text.specs.Number.{showNumber}
+use Rattle.text.specs.Number.{showNumber, showLevel}
+use Rattle.text.specs.Spelled.{bytes}
 use Rattle.text.proofs.Fields.{Free}
 use Rattle.text.proofs.Indices.{length-listing}
 use Rattle.register.specs.declared.limits.Limits.{Limits}
@@ -24,10 +28,10 @@ use Rattle.register.specs.Limits.{limitsOf}
 use Rattle.reporting.specs.Reading.{registered}
 use Rattle.reporting.specs.Booking.{registerCalls}
 use Rattle.reporting.proofs.Bookings.{register-booked}
-use Rattle.report_text.specs.Text.{ended, line, headerLine, pointFields, pointLine, pointsText, bookRefusal, bookText}
+use Rattle.report_text.specs.Text.{ended, line, headerLine, levelText, verdictText, pointFields, pointLine, pointsText, bookRefusal, bookText}
 use Rattle.report_text.specs.Totals as totals
 use Rattle.report_rules.specs.Report.{bookRows, registerText, reportOf}
-use Rattle.report_rules.specs.Flights.{rowsIn, flightsIn, howMany, computed, bookIn, standingIn, printed, PointSays, ReportSays}
+use Rattle.report_rules.specs.Flights.{rowsIn, flightsIn, howMany, computed, bookIn, standingIn, printed, levelAt, PointSays, ReportSays}
 use Rattle.report_rules.proofs.Answers.{reading-reported, register-text, report-accepted}
 use Rattle.report_rules.proofs.Flights.{all-stand}
 use Rattle.report_rules.proofs.Printed.{lines-ended, header-unbroken, field-at, line-unbroken, listing-at}
@@ -50,6 +54,27 @@ points-free l b (suc i) h =
 points-lines : (l : Limits) (b : Book) → linesOf (pointsText l b) ≡ headerLine ∷ listing (pointLine l b) (l .points)
 unfolding pointsText
 points-lines l b = lines-ended (headerLine ∷ listing (pointLine l b) (l .points)) (points-free l b)
+
+-- a level and a verdict in words
+text-given : (x : Level) → levelGiven x ≡ 1 → levelText x ≡ showLevel (levelValue x)
+text-given BelowZero e = absurd (omega arith)
+text-given (At n) e = refl
+
+text-below : (x : Level) → levelGiven x ≡ 0 → levelText x ≡ bytes "below"
+text-below BelowZero e = refl
+text-below (At n) e = absurd (omega arith)
+
+text-over : (x : Level) (limit : ℕ) → levelGiven x ≡ 1 → limit < levelValue x → verdictText (verdictOf x limit) ≡ bytes "over"
+text-over BelowZero limit e m = absurd (omega arith)
+text-over (At n) limit e m = rw (lt-ltb limit n m) refl
+
+text-within : (x : Level) (limit : ℕ) → levelValue x ≤ limit → verdictText (verdictOf x limit) ≡ bytes "within"
+text-within BelowZero limit m = refl
+text-within (At n) limit m = rw (le-ltb limit n m) refl
+
+text-none : (x : Level) (limit : ℕ) → levelGiven x ≡ 0 → verdictText (verdictOf x limit) ≡ bytes "within"
+text-none BelowZero limit e = refl
+text-none (At n) limit e = absurd (omega arith)
 
 module _ (limits register : List ℕ) (fine : limitsOf limits .refusal ≡ 0) (accepted : registered (limitsOf limits .points) (emptyBook (limitsOf limits .points) bookRows) register .refusal ≡ 0)
     (reported : bookRefusal (limitsOf limits) (bookIn (limitsOf limits .points) register) ≡ 0) where
@@ -118,9 +143,12 @@ module _ (limits register : List ℕ) (fine : limitsOf limits .refusal ≡ 0) (a
         points = λ point h.
             record {
               number = field point 0 h (omega arith);
-              level = field point 1 h (omega arith);
+              rounded = λ e. field point 1 h (omega arith) ∙ text-given (levelAt l register point) e;
+              below = λ e. field point 1 h (omega arith) ∙ text-below (levelAt l register point) e;
               limit = field point 2 h (omega arith);
-              verdict = field point 3 h (omega arith);
+              over = λ e m. field point 3 h (omega arith) ∙ text-over (levelAt l register point) (getD (l .limits) point 0) e m;
+              within = λ m. field point 3 h (omega arith) ∙ text-within (levelAt l register point) (getD (l .limits) point 0) m;
+              none = λ e. field point 3 h (omega arith) ∙ text-none (levelAt l register point) (getD (l .limits) point 0) e;
               with-levels = field point 4 h (omega arith) ∙ ap showNumber (with-levels point h);
               without = field point 5 h (omega arith) ∙ ap showNumber (without point h);
             };

@@ -6,7 +6,8 @@ use mathlib.Core.Bool.{Bool, true, cond, not}
 use mathlib.Core.List.{List, [], _∷_}
 use lib.ListN.{length, getD, take, drop}
 use lib.Dec.{eqb, ltb}
-use Rattle.level.specs.Level.{verdictOf}
+use Rattle.level.specs.declared.Level.{Level}
+use Rattle.level.specs.Level.{levelGiven, levelValue}
 use Rattle.movement.specs.Group.{groupOf}
 use Rattle.movement.specs.Rules.{fieldsFit}
 use Rattle.book.specs.Columns.{Book, sound}
@@ -25,7 +26,6 @@ use Rattle.reporting.specs.declared.Taken.the-variants.{PassedOver}
 use Rattle.reporting.specs.Intake.{rowTaken}
 use Rattle.reporting.specs.Reading.{registered}
 use Rattle.reporting.specs.Booking.{registerCalls}
-use Rattle.report_text.specs.Text.{levelText, verdictText, bookRefusal}
 use Rattle.report_rules.specs.Report.{bookRows, reportOf}
 
 -- The flights of a register
@@ -79,17 +79,27 @@ printed text point k = fieldOf 44 k (getD (linesOf text) (suc point) [])
 abbrev pub computed : Movement → Bool
 computed m = hasLevels (m .held)
 
+-- the level at a point, as the load answers it
+abbrev pub levelAt : Limits → List ℕ → ℕ → Level
+levelAt l register point = bookLoad (l .points) point (bookIn (l .points) register) (l .days) .level
+
 -- the line of a point: its number from 1, level, limit, verdict, and the flights with levels and without
 pub record PointSays (l : Limits) (register text : List ℕ) (point : ℕ) : Type 0 where
   pub number : printed text point 0 ≡ showNumber (point + 1)
-  pub level : printed text point 1 ≡ levelText (bookLoad (l .points) point (bookIn (l .points) register) (l .days) .level)
+  -- the level, or `below` where none is given
+  pub rounded : levelGiven (levelAt l register point) ≡ 1
+      → printed text point 1 ≡ showLevel (levelValue (levelAt l register point))
+  pub below : levelGiven (levelAt l register point) ≡ 0 → printed text point 1 ≡ bytes "below"
   pub limit : printed text point 2 ≡ showLevel (getD (l .limits) point 0)
-  pub verdict : printed text point 3
-      ≡ verdictText (verdictOf (bookLoad (l .points) point (bookIn (l .points) register) (l .days) .level) (getD (l .limits) point 0))
+  -- `over` where a level is given and is greater than the limit, otherwise `within`
+  pub over : levelGiven (levelAt l register point) ≡ 1 → getD (l .limits) point 0 < levelValue (levelAt l register point)
+      → printed text point 3 ≡ bytes "over"
+  pub within : levelValue (levelAt l register point) ≤ getD (l .limits) point 0 → printed text point 3 ≡ bytes "within"
+  pub none : levelGiven (levelAt l register point) ≡ 0 → printed text point 3 ≡ bytes "within"
   pub with-levels : printed text point 4 ≡ showNumber (howMany computed (flightsIn (l .points) (rowsIn register)))
   pub without : printed text point 5 ≡ showNumber (howMany (λ m. not (computed m)) (flightsIn (l .points) (rowsIn register)))
 
--- limits and register accepted, and at least one flight computed or none standing: the report
+-- limits.csv and register accepted, and the book not refused (10): the report
 pub record ReportSays (limits register : List ℕ) : Type 0 where
   pub header : getD (linesOf (reportOf limits register)) 0 [] ≡ bytes "point,level,limit,verdict,computed,missing"
   -- a line for each point and no other
