@@ -6,3 +6,4 @@ pub mod Printed
 pub mod Counting
 pub mod Says
 pub mod Spelling
+pub mod Refusing

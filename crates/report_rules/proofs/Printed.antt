@@ -76,6 +76,10 @@ unfolding atLeast
 verdict-text-free d low Within = least-free 46 d low (bytes "within") refl
 verdict-text-free d low Over = least-free 46 d low (bytes "over") refl
 
+pub spelled-free : (d : ℕ) → d < 46 → countOf d (bytes "refused") ≡ 0
+unfolding atLeast
+spelled-free d low = least-free 46 d low (bytes "refused") refl
+
 fields-free : (d : ℕ) → d < 46 → (point limit : ℕ) (load : Load) → Free d (pointFields point limit load)
 fields-free d low point limit load zero h = shown-free d low 20 (point + 1)
 fields-free d low point limit load (suc zero) h = level-text-free d low (load .level)
@@ -98,7 +102,7 @@ unfolding countOf
 comma-past d r ne = rw (ne-eqb 44 d ne) refl
 
 -- joined fields have no other byte than theirs and the comma
-joined-free : (d : ℕ) (fs : List (List ℕ)) → (44 ≡ d → ⊥) → Free d fs → countOf d (joinedBy 44 fs) ≡ 0
+pub joined-free : (d : ℕ) (fs : List (List ℕ)) → (44 ≡ d → ⊥) → Free d fs → countOf d (joinedBy 44 fs) ≡ 0
 unfolding joinedBy
 joined-free d [] ne free = none-in d
 joined-free d (f ∷ []) ne free = free 0 (omega arith)

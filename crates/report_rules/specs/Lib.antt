@@ -1,3 +1,4 @@
 pub mod Report
 pub mod Flights
 pub mod Spelled
+pub mod Refused

@@ -1,0 +1,276 @@
+-- A report is refused with the number and the line that document 01 gives.
+-- Assumes nothing.
+use mathlib.Core.Path.{_≡_, refl, sym, ap, _∙_}
+use mathlib.Core.Bool.{Bool, true, false, cond, _&&_, and-false}
+use mathlib.Core.List.{List, [], _∷_, _++_}
+use Prim.Native.Nat.{ℕ, zero, suc, _+_, _-_, _*_, _/_, _%_, _≤_, _<_}
+use native.Mathlib.Omega.{arith}
+use native.Mathlib.Numerals.{add-one}
+use lib.ListN.{length, getD, take}
+use lib.Seq.{length-take-le}
+use lib.Dec.{eqb, leb, ltb}
+use borrow.Author.Tests.{eq-eqb, ne-eqb, eqb-true, eqb-false, lt-ltb, le-leb, ltb-true, leb-true}
+use Rattle.refusal.proofs.Laws.{and-left, and-right}
+use Rattle.text.specs.Line.{linesOf}
+use Rattle.text.specs.Field.{countOf, fieldOf, joinedBy}
+use Rattle.text.specs.Number.{showNumber}
+use Rattle.text.specs.Same.{sameText}
+use Rattle.text.specs.Spelled.{bytes}
+use Rattle.text.specs.declared.number.Number.{Number}
+use Rattle.text.specs.declared.number.Number.the-variants.{Got, Off}
+use Rattle.text.proofs.Digits.{either}
+use Rattle.text.proofs.Fields.{Free, join-field}
+use Rattle.text.proofs.Free.{shown-free}
+use Rattle.book.specs.Columns.{Book}
+use Rattle.book.specs.Calls.{refusal, after}
+use Rattle.book.specs.History.{emptyBook}
+use Rattle.register.specs.Header.{headerOf, registerHeader}
+use Rattle.register.specs.Limits.{limitsOf}
+use Rattle.register.specs.Row.{layoutOf}
+use Rattle.reporting.specs.Intake.{takenNumber, entering, supplying, suppliedTaken, enteredTaken, layoutTaken, rowTaken}
+use Rattle.reporting.specs.Reading.{Reading, opening, pointsRefusal, lineRefusal, lineRead, linesRead, closing, registered}
+use Rattle.reporting.proofs.Readings.{stuck, all-lines}
+use Rattle.report_text.specs.Text.{ended, line, refusedText, bookRefusal, bookText}
+use Rattle.report_rules.specs.Report.{bookRows, readingText, registerText, reportOf}
+use Rattle.report_rules.specs.Flights.{bookIn}
+use Rattle.report_rules.specs.Refused.{Refuses, ReportRefused, FirstRefused, RegisterRefused, HeaderExactly, RowRefused}
+use Rattle.report_rules.proofs.Answers.{reading-refused, reading-reported, register-text, report-refused, report-accepted}
+use Rattle.report_rules.proofs.Printed.{lines-ended, spelled-free, joined-free}
+
+-- The one line of a refusal
+
+refused-free : (d : ℕ) → d < 46 → (number n : ℕ) → Free d (bytes "refused" ∷ showNumber number ∷ showNumber n ∷ [])
+refused-free d low number n zero h = spelled-free d low
+refused-free d low number n (suc zero) h = shown-free d low 20 number
+refused-free d low number n (suc (suc zero)) h = shown-free d low 20 n
+refused-free d low number n (suc (suc (suc i))) h = absurd (omega arith)
+
+refused-lines : (number n : ℕ) → linesOf (refusedText number n) ≡ line (bytes "refused" ∷ showNumber number ∷ showNumber n ∷ []) ∷ []
+unfolding refusedText
+refused-lines number n = lines-ended (line (bytes "refused" ∷ showNumber number ∷ showNumber n ∷ []) ∷ []) free
+  where
+    free : Free 13 (line (bytes "refused" ∷ showNumber number ∷ showNumber n ∷ []) ∷ [])
+    free zero h =
+        joined-free 13 (bytes "refused" ∷ showNumber number ∷ showNumber n ∷ []) (λ e. absurd (omega arith)) (refused-free 13 (omega arith) number n)
+    free (suc i) h = absurd (omega arith)
+
+refuses : (text : List ℕ) (number n : ℕ) → text ≡ refusedText number n → Refuses text number n
+refuses text number n e =
+    record { one = ap length lines; word = field 0 (omega arith); number= = field 1 (omega arith); line= = field 2 (omega arith) }
+  where
+    fields : List (List ℕ)
+    fields = bytes "refused" ∷ showNumber number ∷ showNumber n ∷ []
+
+    lines : linesOf text ≡ line (bytes "refused" ∷ showNumber number ∷ showNumber n ∷ []) ∷ []
+    lines = ap linesOf e ∙ refused-lines number n
+
+    field : (k : ℕ) → k < 3 → fieldOf 44 k (getD (linesOf text) 0 []) ≡ getD (bytes "refused" ∷ showNumber number ∷ showNumber n ∷ []) k []
+    field k h =
+        ap (λ (ls : List (List ℕ)). fieldOf 44 k (getD ls 0 [])) lines
+        ∙ join-field 44 (bytes "refused" ∷ showNumber number ∷ showNumber n ∷ []) (refused-free 44 (omega arith) number n) k h
+
+-- the book is refused
+book-refused : (limits register : List ℕ) → limitsOf limits .refusal ≡ 0
+    → registered (limitsOf limits .points) (emptyBook (limitsOf limits .points) bookRows) register .refusal ≡ 0
+    → (bookRefusal (limitsOf limits) (bookIn (limitsOf limits .points) register) ≡ 0 → ⊥)
+    → reportOf limits register ≡ refusedText (bookRefusal (limitsOf limits) (bookIn (limitsOf limits .points) register)) 0
+unfolding bookText
+book-refused limits register fine accepted ne =
+    let l = limitsOf limits in
+    let s = registered (l .points) (emptyBook (l .points) bookRows) register in
+    report-accepted limits register fine ∙ sym (register-text l register s refl) ∙ reading-reported l s accepted
+    ∙ rw (ne-eqb (bookRefusal l (s .book)) 0 ne) refl
+
+pub refused-report : (limits register : List ℕ) → ReportRefused limits register
+refused-report limits register =
+    let l = limitsOf limits in
+    let s = registered (l .points) (emptyBook (l .points) bookRows) register in
+    record {
+      by-limits = λ ne. refuses (reportOf limits register) (l .refusal) (l .line) (report-refused limits register ne);
+      by-register = λ fine ne. refuses (reportOf limits register) (s .refusal) (s .line)
+          (report-accepted limits register fine ∙ sym (register-text l register s refl) ∙ reading-refused l s ne);
+      by-book = λ fine accepted ne. refuses (reportOf limits register) (bookRefusal l (s .book)) 0 (book-refused limits register fine accepted ne);
+    }
+
+-- The first refusal of some lines
+
+record FirstAt (p : ℕ) (s : Reading) (ls : List (List ℕ)) : Type 0 where
+  before : ℕ
+  reached : before < length ls
+  fine : linesRead p s (take before ls) .refusal ≡ 0
+  line : linesRead p s ls .line ≡ s .line + before
+  number : linesRead p s ls .refusal ≡ lineRefusal p (s .line + before) (linesRead p s (take before ls) .book) (getD ls before [])
+
+line-stops : (p : ℕ) (s : Reading) (l : List ℕ) → (lineRead p s l .refusal ≡ 0 → ⊥) → lineRead p s l .line ≡ s .line
+unfolding lineRead
+line-stops p s l ne = rw (ne-eqb (lineRefusal p (s .line) (s .book) l) 0 ne) refl
+
+line-goes : (p : ℕ) (s : Reading) (l : List ℕ) → lineRead p s l .refusal ≡ 0 → lineRead p s l .line ≡ s .line + 1
+unfolding lineRead
+line-goes p s l z = rw z refl
+
+read-number : (p : ℕ) (s : Reading) (l : List ℕ) → lineRead p s l .refusal ≡ lineRefusal p (s .line) (s .book) l
+unfolding lineRead
+read-number p s l = refl
+
+first-at : (p : ℕ) (s : Reading) (ls : List (List ℕ)) → s .refusal ≡ 0 → (linesRead p s ls .refusal ≡ 0 → ⊥) → FirstAt p s ls
+unfolding linesRead
+first-at p s [] z ne = absurd (ne z)
+first-at p s (l ∷ ls) z ne =
+    let go = eq-eqb (s .refusal) 0 z in
+    let s₁ = lineRead p s l in
+    either (eqb (s₁ .refusal) 0)
+    (λ yes. let none = eqb-true (s₁ .refusal) 0 yes in
+    let k = first-at p s₁ ls none (rw go at ne) in
+    let on : s₁ .line + k .before ≡ s .line + suc (k .before) = omega (arith, line-goes p s l none) in
+    record {
+      before = suc (k .before);
+      reached = omega (arith, k .reached);
+      fine = rw go (k .fine);
+      line = rw go (k .line ∙ on);
+      number = rw (go, ← on) (k .number);
+    })
+    (λ no. let some = eqb-false (s₁ .refusal) 0 no in
+    let stays = stuck p s₁ ls some in
+    record {
+      before = 0;
+      reached = omega arith;
+      fine = z;
+      line = rw (go, stays) (line-stops p s l some ∙ omega arith);
+      number = rw (go, stays) (stopped p s l);
+    })
+  where
+    stopped : (p : ℕ) (s : Reading) (l : List ℕ) → lineRead p s l .refusal ≡ lineRefusal p (s .line + 0) (s .book) l
+    stopped p s l = let q : s .line + 0 ≡ s .line = omega arith in rw q (read-number p s l)
+
+-- The whole register
+
+closing-refused : (s : Reading) → (s .refusal ≡ 0 → ⊥) → closing s ≡ s
+unfolding closing
+closing-refused s ne = rw (ne-eqb (s .refusal) 0 ne) refl
+
+closing-read : (s : Reading) → 2 ≤ s .line → closing s ≡ s
+unfolding closing
+closing-read s two = rw (ne-eqb (s .line) 1 (λ e. absurd (omega arith)), and-false (eqb (s .refusal) 0)) refl
+
+no-line : (ls : List (List ℕ)) → length ls ≡ 0 → ls ≡ []
+no-line [] z = refl
+no-line (l ∷ ls) z = absurd (omega arith)
+
+empty-register : (p : ℕ) (b : Book) (register : List ℕ) → linesOf register ≡ [] → registered p b register ≡ record { refusal = 16; line = 1; book = b }
+unfolding registered linesRead closing
+empty-register p b register e = rw e refl
+
+first-of : (p : ℕ) (b : Book) (register : List ℕ) → 1 ≤ length (linesOf register) → (registered p b register .refusal ≡ 0 → ⊥) → FirstRefused p b register
+unfolding registered
+first-of p b register some ne =
+    let ls = linesOf register in
+    let s = linesRead p (opening b) ls in
+    let not : s .refusal ≡ 0 → ⊥ = λ z. ne (ap (λ (q : Reading). q .refusal) (closing-read s (omega (arith, all-lines p (opening b) ls z))) ∙ z) in
+    let k = first-at p (opening b) ls refl not in
+    let e = closing-refused s not in
+    let on : 1 + k .before ≡ k .before + 1 = omega arith in
+    record {
+      before = k .before;
+      reached = k .reached;
+      fine = k .fine;
+      line = ap (λ (q : Reading). q .line) e ∙ k .line ∙ on;
+      number = ap (λ (q : Reading). q .refusal) e ∙ rw on at (k .number);
+    }
+
+pub register-refused : (p : ℕ) (b : Book) (register : List ℕ) → RegisterRefused p b register
+register-refused p b register =
+    record {
+      empty = λ z. let e = empty-register p b register (no-line (linesOf register) z) in
+          (ap (λ (s : Reading). s .refusal) e, ap (λ (s : Reading). s .line) e);
+      first = first-of p b register;
+    }
+
+-- What refuses a line
+
+same-is : (a b : List ℕ) → sameText a b ≡ true → a ≡ b
+unfolding sameText
+same-is [] [] e = refl
+same-is [] (y ∷ b) e = let z : _≡_ {A = ℕ} 0 1 = cc in absurd (omega arith)
+same-is (x ∷ a) [] e = let z : _≡_ {A = ℕ} 0 1 = cc in absurd (omega arith)
+same-is (x ∷ a) (y ∷ b) e =
+    let head = eqb-true x y (and-left (eqb x y) (sameText a b) e) in
+    let rest = same-is a b (and-right (eqb x y) (sameText a b) e) in cc
+
+same-self : (a : List ℕ) → sameText a a ≡ true
+unfolding sameText
+same-self [] = refl
+same-self (x ∷ a) = rw (eq-eqb x x refl) (same-self a)
+
+-- the header of p points
+abbrev headerTo : ℕ → List ℕ
+headerTo p = take (22 + 3 * p) (bytes "id,type,mtow,kind,time,l1,l2,l3,l4,l5,l6,l7,l8")
+
+header-is : (s : List ℕ) (p : ℕ) → headerOf registerHeader 22 s ≡ Got p → ((1 ≤ p) × (p ≤ 8)) × (s ≡ headerTo p)
+unfolding headerOf
+header-is s p e =
+    let n = length s in
+    let a = ltb 22 n in
+    let b = a && leb n (length registerHeader) in
+    let c = b && eqb ((n - 22) % 3) 0 in
+    let d = c && leb ((n - 22) / 3) 8 in
+    let f = sameText s (take n registerHeader) in
+    either (d && f)
+    (λ all. let yd = and-left d f all in
+    let yc = and-left c (leb ((n - 22) / 3) 8) yd in
+    let yb = and-left b (eqb ((n - 22) % 3) 0) yc in
+    let long = ltb-true 22 n (and-left a (leb n (length registerHeader)) yb) in
+    let third = eqb-true ((n - 22) % 3) 0 (and-right b (eqb ((n - 22) % 3) 0) yc) in
+    let few = leb-true ((n - 22) / 3) 8 (and-right c (leb ((n - 22) / 3) 8) yd) in
+    let g : Got ((n - 22) / 3) ≡ Got p = rw all at e in
+    let q : (n - 22) / 3 ≡ p = cc in
+    let size : n ≡ 22 + 3 * p = omega arith in
+    ((omega arith, omega arith), same-is s (take n registerHeader) (and-right d f all) ∙ ap (λ k. take k registerHeader) size))
+    (λ no. let g : Off ≡ Got p = rw no at e in let z : _≡_ {A = ℕ} 0 1 = cc in absurd (omega arith))
+
+is-header : (s : List ℕ) (p : ℕ) → 1 ≤ p → p ≤ 8 → s ≡ headerTo p → headerOf registerHeader 22 s ≡ Got p
+unfolding headerOf
+is-header s p some few e =
+    let n : length s ≡ 22 + 3 * p = ap length e ∙ length-take-le (22 + 3 * p) registerHeader (omega arith) in
+    let third : (22 + 3 * p - 22) % 3 ≡ 0 = omega arith in
+    let whole : (22 + 3 * p - 22) / 3 ≡ p = omega arith in
+    let same : sameText s (take (22 + 3 * p) registerHeader) ≡ true = rw e (same-self (headerTo p)) in
+    rw (n, lt-ltb 22 (22 + 3 * p) (omega arith), le-leb (22 + 3 * p) 46 (omega arith), third, whole, le-leb p 8 few, same) refl
+
+points-none : (p : ℕ) (r : Number) → pointsRefusal p r ≡ 0 → r ≡ Got p
+points-none p Off z = absurd (omega arith)
+points-none p (Got n) z =
+    either (eqb n p) (λ yes. ap Got (eqb-true n p yes)) (λ no. absurd (omega (arith, rw no at z)))
+
+points-other : (p : ℕ) (r : Number) → (pointsRefusal p r ≡ 0 → ⊥) → pointsRefusal p r ≡ 16
+points-other p Off ne = refl
+points-other p (Got n) ne = either (eqb n p) (λ yes. absurd (ne (rw yes refl))) (λ no. rw no refl)
+
+pub header-exactly : (p : ℕ) (b : Book) (line : List ℕ) → HeaderExactly p b line
+unfolding lineRefusal
+header-exactly p b line =
+    record {
+      passes = (
+        λ z. header-is line p (points-none p (headerOf registerHeader 22 line) z),
+        λ h. rw (is-header line p (h .0 .0) (h .0 .1) (h .1), eq-eqb p p refl) refl,
+      );
+      otherwise = points-other p (headerOf registerHeader 22 line);
+    }
+
+supplied-number : (s : ℕ) → takenNumber (suppliedTaken s) ≡ s
+supplied-number s = either (eqb s 0) (λ yes. rw yes (sym (eqb-true s 0 yes))) (λ no. rw no refl)
+
+pub row-refused : (p n : ℕ) (b : Book) (row : List ℕ) → (n ≡ 1 → ⊥) → RowRefused p n b row
+unfolding lineRefusal rowTaken layoutTaken enteredTaken
+row-refused p n b row more =
+    let l = layoutOf p row in
+    let r = refusal p b (entering l) in
+    let s = refusal p (after p b (entering l)) (supplying p l) in
+    let two = ne-eqb n 1 more in
+    record {
+      off = λ ne. rw (two, ne-eqb (l .refusal) 0 ne) refl;
+      passed = λ z e. rw (two, eq-eqb (l .refusal) 0 z, eq-eqb r 2 e) refl;
+      entered = λ z ne nt. rw (two, eq-eqb (l .refusal) 0 z, ne-eqb r 2 nt, ne-eqb r 0 ne) refl;
+      blank = λ z e c. rw (two, eq-eqb (l .refusal) 0 z, e, eq-eqb (l .fields .computed) 0 c) refl;
+      supplied = λ z e c. rw (two, eq-eqb (l .refusal) 0 z, e, ne-eqb (l .fields .computed) 0 c) (supplied-number s);
+    }
