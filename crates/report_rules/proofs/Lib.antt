@@ -7,3 +7,4 @@ pub mod Counting
 pub mod Says
 pub mod Spelling
 pub mod Refusing
+pub mod LimitsExact

@@ -202,40 +202,39 @@ unfolding sameText
 same-self [] = refl
 same-self (x ∷ a) = rw (eq-eqb x x refl) (same-self a)
 
--- the header of p points
-abbrev headerTo : ℕ → List ℕ
-headerTo p = take (22 + 3 * p) (bytes "id,type,mtow,kind,time,l1,l2,l3,l4,l5,l6,l7,l8")
-
-header-is : (s : List ℕ) (p : ℕ) → headerOf registerHeader 22 s ≡ Got p → ((1 ≤ p) × (p ≤ 8)) × (s ≡ headerTo p)
+-- a header is the full text up to its last point, and such a text is a header
+pub header-is : (full : List ℕ) (lead : ℕ) (s : List ℕ) (p : ℕ) → headerOf full lead s ≡ Got p
+    → ((1 ≤ p) × (p ≤ 8)) × (s ≡ take (lead + 3 * p) full)
 unfolding headerOf
-header-is s p e =
+header-is full lead s p e =
     let n = length s in
-    let a = ltb 22 n in
-    let b = a && leb n (length registerHeader) in
-    let c = b && eqb ((n - 22) % 3) 0 in
-    let d = c && leb ((n - 22) / 3) 8 in
-    let f = sameText s (take n registerHeader) in
+    let a = ltb lead n in
+    let b = a && leb n (length full) in
+    let c = b && eqb ((n - lead) % 3) 0 in
+    let d = c && leb ((n - lead) / 3) 8 in
+    let f = sameText s (take n full) in
     either (d && f)
     (λ all. let yd = and-left d f all in
-    let yc = and-left c (leb ((n - 22) / 3) 8) yd in
-    let yb = and-left b (eqb ((n - 22) % 3) 0) yc in
-    let long = ltb-true 22 n (and-left a (leb n (length registerHeader)) yb) in
-    let third = eqb-true ((n - 22) % 3) 0 (and-right b (eqb ((n - 22) % 3) 0) yc) in
-    let few = leb-true ((n - 22) / 3) 8 (and-right c (leb ((n - 22) / 3) 8) yd) in
-    let g : Got ((n - 22) / 3) ≡ Got p = rw all at e in
-    let q : (n - 22) / 3 ≡ p = cc in
-    let size : n ≡ 22 + 3 * p = omega arith in
-    ((omega arith, omega arith), same-is s (take n registerHeader) (and-right d f all) ∙ ap (λ k. take k registerHeader) size))
+    let yc = and-left c (leb ((n - lead) / 3) 8) yd in
+    let yb = and-left b (eqb ((n - lead) % 3) 0) yc in
+    let long = ltb-true lead n (and-left a (leb n (length full)) yb) in
+    let third = eqb-true ((n - lead) % 3) 0 (and-right b (eqb ((n - lead) % 3) 0) yc) in
+    let few = leb-true ((n - lead) / 3) 8 (and-right c (leb ((n - lead) / 3) 8) yd) in
+    let g : Got ((n - lead) / 3) ≡ Got p = rw all at e in
+    let q : (n - lead) / 3 ≡ p = cc in
+    let size : n ≡ lead + 3 * p = omega arith in
+    ((omega arith, omega arith), same-is s (take n full) (and-right d f all) ∙ ap (λ k. take k full) size))
     (λ no. let g : Off ≡ Got p = rw no at e in let z : _≡_ {A = ℕ} 0 1 = cc in absurd (omega arith))
 
-is-header : (s : List ℕ) (p : ℕ) → 1 ≤ p → p ≤ 8 → s ≡ headerTo p → headerOf registerHeader 22 s ≡ Got p
+pub is-header : (full : List ℕ) (lead : ℕ) (s : List ℕ) (p : ℕ) → length full ≡ lead + 24 → 1 ≤ p → p ≤ 8 → s ≡ take (lead + 3 * p) full
+    → headerOf full lead s ≡ Got p
 unfolding headerOf
-is-header s p some few e =
-    let n : length s ≡ 22 + 3 * p = ap length e ∙ length-take-le (22 + 3 * p) registerHeader (omega arith) in
-    let third : (22 + 3 * p - 22) % 3 ≡ 0 = omega arith in
-    let whole : (22 + 3 * p - 22) / 3 ≡ p = omega arith in
-    let same : sameText s (take (22 + 3 * p) registerHeader) ≡ true = rw e (same-self (headerTo p)) in
-    rw (n, lt-ltb 22 (22 + 3 * p) (omega arith), le-leb (22 + 3 * p) 46 (omega arith), third, whole, le-leb p 8 few, same) refl
+is-header full lead s p size some few e =
+    let n : length s ≡ lead + 3 * p = ap length e ∙ length-take-le (lead + 3 * p) full (omega arith) in
+    let third : (lead + 3 * p - lead) % 3 ≡ 0 = omega arith in
+    let whole : (lead + 3 * p - lead) / 3 ≡ p = omega arith in
+    let same : sameText s (take (lead + 3 * p) full) ≡ true = rw e (same-self (take (lead + 3 * p) full)) in
+    rw (n, lt-ltb lead (lead + 3 * p) (omega arith), le-leb (lead + 3 * p) (length full) (omega arith), third, whole, le-leb p 8 few, same) refl
 
 points-none : (p : ℕ) (r : Number) → pointsRefusal p r ≡ 0 → r ≡ Got p
 points-none p Off z = absurd (omega arith)
@@ -251,8 +250,8 @@ unfolding lineRefusal
 header-exactly p b line =
     record {
       passes = (
-        λ z. header-is line p (points-none p (headerOf registerHeader 22 line) z),
-        λ h. rw (is-header line p (h .0 .0) (h .0 .1) (h .1), eq-eqb p p refl) refl,
+        λ z. header-is registerHeader 22 line p (points-none p (headerOf registerHeader 22 line) z),
+        λ h. rw (is-header registerHeader 22 line p refl (h .0 .0) (h .0 .1) (h .1), eq-eqb p p refl) refl,
       );
       otherwise = points-other p (headerOf registerHeader 22 line);
     }

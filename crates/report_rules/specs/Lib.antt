@@ -2,3 +2,4 @@ pub mod Report
 pub mod Flights
 pub mod Spelled
 pub mod Refused
+pub mod LimitsSpelled
