@@ -1,4 +1,4 @@
--- Document 01, "every crossing, one time", said of the levels: where each crossed edge stands in the contours.
+-- Every crossing, one time, said of the levels and by the edge numbers of document 01: where each crossed edge stands.
 -- Assumes nothing.
 use mathlib.Core.Path.{_≡_}
 use mathlib.Core.Bool.{false}
