@@ -15,6 +15,7 @@ use Rattle.network.specs.Edges.{edges, numberOf, WithinEdge}
 use Rattle.network.specs.Crossed.{unlike}
 use Rattle.network.specs.Numbering.{In, Out}
 use Rattle.network.proofs.Numbers.{at-number, by-cond}
+use Rattle.network.proofs.Numbering.{crossed-exactly}
 use Rattle.lines.specs.declared.Side.{Side}
 use Rattle.lines.specs.declared.Side.the-variants.{South, East, North, West}
 use Rattle.lines.specs.declared.Ahead.{Ahead}
@@ -22,7 +23,7 @@ use Rattle.lines.specs.declared.Ahead.the-variants.{Square, Outside}
 use Rattle.lines.specs.Picture.{Picture, picture, cutOf}
 use Rattle.lines.specs.Squares.{turn, sideEdge, corner, exitSide, exitOf}
 use Rattle.lines.specs.Crossings.{northOf, southOf, westOf, eastOf, crossed, aheadOf, behindOf, isOutside, To, through, nextOf, nextNumber, edgeOf, crossedAt, entersAt, nextAt}
-use Rattle.lines.specs.Rule.{HasEnd, fourCorners, lines, IsCrossed, Heads, EntersExactly, CutsOff, Entering, FollowsRule}
+use Rattle.lines.specs.Rule.{HasEnd, fourCorners, lines, IsCrossed, CrossesExactly, Heads, EntersExactly, CutsOff, Entering, FollowsRule}
 use Rattle.lines.proofs.Heading.{Entry, Entered, entered, leaves-elsewhere, side-within}
 use Rattle.lines.proofs.Back.{four-turns, Leads, leads}
 
@@ -116,6 +117,22 @@ other-way h = ⊎-elim (λ p. inr p) (λ q. inl q) h
 module _ (levels : List ℕ) (nx ny v : ℕ) (wide : 2 ≤ nx) where
   abbrev g : Picture
   g = lines levels nx ny v
+
+  -- ---- which edges are crossed
+
+  -- an edge is crossed if that of its number is
+  of-number : {P : Type 0} (e : Edge) → WithinEdge nx ny e → (crossedAt g (numberOf nx ny e) ≡ true) ↔ P → IsCrossed levels nx ny v e ↔ P
+  of-number {P} e w i = subst (λ (x : Edge). (crossed g x ≡ true) ↔ P) (at-number nx ny wide e w) i
+
+  crossing : (row col : ℕ) → CrossesExactly levels nx ny v row col
+  crossing row col =
+      let x = crossed-exactly levels nx ny v wide in
+      record {
+        lying = λ h k. of-number (Horizontal row col) (h, k) (x .lying row col h k);
+        standing = λ h k. of-number (Vertical row col) (h, k) (x .standing row col h k);
+        lying-at = λ h k. x .lying row col h k;
+        standing-at = λ h k. x .standing row col h k;
+      }
 
   -- ---- where a crossing heads, and where it comes in
 
@@ -227,6 +244,8 @@ module _ (levels : List ℕ) (nx ny v : ℕ) (wide : 2 ≤ nx) where
   pub follows-rule : FollowsRule levels nx ny v
   follows-rule = record {
     sides = λ row col. record { south = refl; east = refl; north = refl; west = refl };
+    crosses = crossing;
+    count = refl;
     heads = heading;
     enters = entering;
     two = λ row col s s' i only. to-the-other row col s i s' only;

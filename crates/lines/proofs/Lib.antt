@@ -9,3 +9,4 @@ pub mod Every
 pub mod Following
 pub mod Only
 pub mod Rings
+pub mod EachEdge

@@ -53,7 +53,7 @@ abbrev firstOf : List ℕ → ℕ
 firstOf ns = getD ns 0 0
 
 -- an edge of a list of contours is on the first of them or on a later one
-on-contours : (n : ℕ) (c : Contour) (cs : List Contour) → occurs n (edgesOf (c ∷ cs)) ≡ occurs n (c .edges) + occurs n (edgesOf cs)
+pub on-contours : (n : ℕ) (c : Contour) (cs : List Contour) → occurs n (edgesOf (c ∷ cs)) ≡ occurs n (c .edges) + occurs n (edgesOf cs)
 unfolding edgesOf
 on-contours n c cs = occurs-append n (c .edges) (edgesOf cs)
 

@@ -4,3 +4,4 @@ pub mod Crossings
 pub mod Contours
 pub mod Once
 pub mod Rule
+pub mod EachEdge

@@ -8,13 +8,13 @@ use Prim.Native.Nat.{ℕ, _+_, _-_, _*_, _≤_, _<_}
 use Rattle.network.specs.declared.Edge.{Edge}
 use Rattle.network.specs.declared.Edge.the-variants.{Horizontal, Vertical}
 use Rattle.network.specs.Edges.{edges, numberOf, WithinEdge}
-use Rattle.network.specs.Numbering.{pointLevel, In, Out}
+use Rattle.network.specs.Numbering.{pointLevel, In, Out, OneIn}
 use Rattle.lines.specs.declared.Side.{Side}
 use Rattle.lines.specs.declared.Side.the-variants.{South, East, North, West}
 use Rattle.lines.specs.declared.Ahead.the-variants.{Square, Outside}
 use Rattle.lines.specs.Picture.{Picture, picture}
 use Rattle.lines.specs.Squares.{sideEdge}
-use Rattle.lines.specs.Crossings.{crossed, aheadOf, entersAt, nextAt}
+use Rattle.lines.specs.Crossings.{crossed, aheadOf, edgesIn, crossedAt, entersAt, nextAt}
 
 -- the sides of the square whose south-west corner is the point of that row and column
 pub record SquareSides (row col : ℕ) : Type 0 where
@@ -40,6 +40,16 @@ module _ (levels : List ℕ) (nx ny v : ℕ) where
 
   abbrev pub IsCrossed : Edge → Type 0
   IsCrossed e = crossed lines e ≡ true
+
+  -- An edge of the network is crossed exactly if one of its two points is in and the other is not;
+  -- so is the edge of its number, r·(nx−1)+c for a horizontal one and ny·(nx−1)+r·nx+c for a vertical one.
+  pub record CrossesExactly (row col : ℕ) : Type 0 where
+    pub lying : row < ny → col + 1 < nx → IsCrossed (Horizontal row col) ↔ OneIn levels nx v row col row (col + 1)
+    pub standing : row + 1 < ny → col < nx → IsCrossed (Vertical row col) ↔ OneIn levels nx v row col (row + 1) col
+    pub lying-at : row < ny → col + 1 < nx
+        → (crossedAt lines (row * (nx - 1) + col) ≡ true) ↔ OneIn levels nx v row col row (col + 1)
+    pub standing-at : row + 1 < ny → col < nx
+        → (crossedAt lines (ny * (nx - 1) + row * nx + col) ≡ true) ↔ OneIn levels nx v row col (row + 1) col
 
   -- Each crossing heads across its edge with the in end on its left, into the square there, or out.
   pub record Heads (row col : ℕ) : Type 0 where
@@ -83,6 +93,9 @@ module _ (levels : List ℕ) (nx ny v : ℕ) where
 
   pub record FollowsRule : Type 0 where
     pub sides : (row col : ℕ) → SquareSides row col
+    pub crosses : (row col : ℕ) → CrossesExactly row col
+    -- so many edges there are
+    pub count : edgesIn lines ≡ ny * (nx - 1) + (ny - 1) * nx
     pub heads : (row col : ℕ) → Heads row col
     pub enters : (row col : ℕ) → EntersExactly row col
     -- in a square with two crossed edges the entered one leads to the other
