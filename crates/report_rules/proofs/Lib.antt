@@ -8,3 +8,4 @@ pub mod Says
 pub mod Spelling
 pub mod Refusing
 pub mod LimitsExact
+pub mod Orders

@@ -150,7 +150,7 @@ module _ (n d : ℕ) (ls line : List ℕ) (few : n ≤ 8) (v : Valued n d ls lin
 
 -- Judged in order
 
-within-all : (top : ℕ) (xs : List ℕ) → ((i : ℕ) → getD xs i 0 ≤ top) → allWithin top xs ≡ true
+pub within-all : (top : ℕ) (xs : List ℕ) → ((i : ℕ) → getD xs i 0 ≤ top) → allWithin top xs ≡ true
 unfolding allWithin
 within-all top [] h = refl
 within-all top (x ∷ xs) h = rw (le-leb x top (h 0)) (within-all top xs (λ i. h (suc i)))

@@ -3,3 +3,4 @@ pub mod Flights
 pub mod Spelled
 pub mod Refused
 pub mod LimitsSpelled
+pub mod RowOrders
