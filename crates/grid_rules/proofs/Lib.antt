@@ -1,2 +1,3 @@
 pub mod Places
 pub mod Said
+pub mod Wrote
