@@ -1,3 +1,4 @@
 pub mod Places
 pub mod Said
 pub mod Wrote
+pub mod Layouts
