@@ -25,7 +25,7 @@ use Rattle.grid.proofs.Values.{same-equal, same-self, number-back}
 use Rattle.grid_rules.specs.Laid.{line, Named, Behind}
 use Rattle.grid_rules.specs.Refused.{keys, Keyed, Level, Naming, RowOn, LineOn, Fault}
 use Rattle.grid_rules.proofs.Places.{test-at, all-at, map-at, value-field, value-count}
-use Rattle.grid_rules.proofs.Said.{got-of, key-line}
+use Rattle.grid_rules.proofs.Said.{got-of, word-names, other-names}
 
 got-is : {n : ℕ} (x : _) → x ≡ Got n → isGot x ≡ true
 got-is x e = rw e refl
@@ -258,24 +258,13 @@ module _ (text : List ℕ) where
           before = λ k e j h. line-on j (off-at 1 tests k (omega arith) (e ∙ one k) .1 j h);
         }
 
-  word-names : Named text → names (sixth lines) ≡ true
-  unfolding begins
-  word-names e = ap (λ (t : List ℕ). sameText t (bytes "NODATA_value")) e ∙ same-self (bytes "NODATA_value")
-
-  other-names : (Named text → ⊥) → names (sixth lines) ≡ false
-  unfolding begins
-  other-names other =
-      either (sameText (take 12 (line text 5)) (bytes "NODATA_value"))
-      (λ yes. absurd (other (same-equal (take 12 (line text 5)) (bytes "NODATA_value") yes)))
-      (λ plain. plain)
-
   tests-named : Named text → tests ≡ headOn lines ++ (namesWell (line text 5) ∷ map (isRow (drop 13 (line text 5))) (drop 6 lines))
   unfolding noDataOf rowsOf
-  tests-named word = rw (word-names word)
+  tests-named word = rw (word-names text word)
 
   tests-plain : (Named text → ⊥) → tests ≡ headOn lines ++ map (isRow (bytes "-9999")) (drop 5 lines)
   unfolding noDataOf rowsOf
-  tests-plain other = rw (other-names other)
+  tests-plain other = rw (other-names text other)
 
   -- what holds wherever the rows start
   pub behind : (holds : ℕ → List ℕ → Type 0)
@@ -286,14 +275,14 @@ module _ (text : List ℕ) where
       → Behind text holds
   unfolding noDataOf rowsOf
   behind holds rule = record {
-    named = λ word. let names-it = word-names word in
+    named = λ word. let names-it = word-names text word in
         let rest = map (isRow (drop 13 (line text 5))) (drop 6 lines) in
         rule 6 (drop 13 (line text 5)) (omega arith) (omega arith) (λ _. word)
         (λ _. ap (λ (bs : List Bool). getD bs 5 true) (tests-named word))
         (λ i. ap (λ (bs : List Bool). getD bs (6 + i) true) (tests-named word)
         ∙ getD-append-add (headOn lines ++ (namesWell (line text 5) ∷ [])) rest i true)
         (rw names-it) (rw names-it);
-    unnamed = λ other. let plain = other-names other in
+    unnamed = λ other. let plain = other-names text other in
         let rest = map (isRow (bytes "-9999")) (drop 5 lines) in
         rule 5 (bytes "-9999") (omega arith) (omega arith) (λ six. absurd (omega arith))
         (λ six. absurd (omega arith))

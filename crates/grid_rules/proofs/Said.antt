@@ -30,7 +30,7 @@ use Rattle.grid.proofs.StoreLaws.{levels-length}
 use Rattle.grid.proofs.FileLaws.{off-append}
 use Rattle.grid.proofs.ReadLaws.{fit-both}
 use Rattle.grid.proofs.Values.{same-equal, same-self}
-use Rattle.grid_rules.specs.Laid.{line, Named, Headed, Laid, Says, frameIn, levelsIn}
+use Rattle.grid_rules.specs.Laid.{line, Named, Headed, Sized, Laid, Says, frameIn, levelsIn}
 use Rattle.grid_rules.proofs.Places.{test-at, all-at, map-at, value-field, value-count, level-at}
 
 pub got-of : (x : Number) → isGot x ≡ true → x ≡ Got (valueOf x)
@@ -81,29 +81,38 @@ passed lines headers room read =
 pub number-at : (lines : List (List ℕ)) (key : List ℕ) (i : ℕ) → isGot (numberAt key i lines) ≡ true → getD lines i [] ≡ key ++ showWhole (valueOf (numberAt key i lines))
 number-at lines key i e = key-line key (getD lines i []) (valueOf (numberAt key i lines)) (got-of (numberAt key i lines) e)
 
--- rows that start in line `first`, all passed
-module _ (lines : List (List ℕ)) (first : ℕ) (p : Passed lines) (start : rowsOf lines ≡ drop first lines) (there : first ≤ length lines)
-    (on : (k : ℕ) → k < length (rowsOf lines) → isRow (noDataOf lines) (getD (rowsOf lines) k []) ≡ true) where
-  fit : (length (rowsOf lines) ≡ frameOf lines .rows) × (all (hasValues (frameOf lines .columns)) (rowsOf lines) ≡ true)
-  fit = fit-both (frameOf lines) (rowsOf lines) (p .fits)
+-- rows that fit and start in line `first`
+module _ (lines : List (List ℕ)) (first : ℕ) (fits : rowsFit (frameOf lines) (rowsOf lines) ≡ true)
+    (start : rowsOf lines ≡ drop first lines) (there : first ≤ length lines) where
+  pub fit : (length (rowsOf lines) ≡ frameOf lines .rows) × (all (hasValues (frameOf lines .columns)) (rowsOf lines) ≡ true)
+  fit = fit-both (frameOf lines) (rowsOf lines) fits
 
-  height : length lines ≡ first + frameOf lines .rows
+  pub height : length lines ≡ first + frameOf lines .rows
   height = omega (arith, fit .0, ap length start, length-drop first lines)
 
-  row-line : (k : ℕ) → getD (rowsOf lines) k [] ≡ getD lines (first + k) []
+  pub row-line : (k : ℕ) → getD (rowsOf lines) k [] ≡ getD lines (first + k) []
   row-line k = ap (λ (l : List (List ℕ)). getD l k []) start ∙ getD-drop first lines k []
 
-  wide : (k : ℕ) → k < length (rowsOf lines) → length (valuesOf (getD (rowsOf lines) k [])) ≡ frameOf lines .columns
+  pub wide : (k : ℕ) → k < length (rowsOf lines) → length (valuesOf (getD (rowsOf lines) k [])) ≡ frameOf lines .columns
   wide k h = eqb-true _ _ (all-at (hasValues (frameOf lines .columns)) (rowsOf lines) [] (fit .1) k h)
 
-  width : (k : ℕ) → k < frameOf lines .rows → countOf 32 (getD lines (first + k) []) + 1 ≡ frameOf lines .columns
+  pub width : (k : ℕ) → k < frameOf lines .rows → countOf 32 (getD lines (first + k) []) + 1 ≡ frameOf lines .columns
   width k h = rw (← row-line k) (omega (arith, value-count (getD (rowsOf lines) k []), wide k (omega (arith, fit .0))))
 
+  pub sized : (text : List ℕ) → linesOf text ≡ lines → Sized text (frameOf lines) first
+  sized text same = record {
+    height = rw same height;
+    width = λ r h. rw same (width (frameOf lines .rows - suc r) (omega arith));
+  }
+
+-- and of which every value is given
+module _ (lines : List (List ℕ)) (first : ℕ) (p : Passed lines) (start : rowsOf lines ≡ drop first lines) (there : first ≤ length lines)
+    (on : (k : ℕ) → k < length (rowsOf lines) → isRow (noDataOf lines) (getD (rowsOf lines) k []) ≡ true) where
   value : (k c : ℕ) → k < length (rowsOf lines) → c < frameOf lines .columns
       → let t = fieldOf 32 c (getD (rowsOf lines) k []) in t ≡ showLevel (levelIn t)
   value k c h w =
       let row = getD (rowsOf lines) k [] in
-      let inside : c < length (valuesOf row) = omega (arith, wide k h) in
+      let inside : c < length (valuesOf row) = omega (arith, wide lines first (p .fits) start there k h) in
       let v = all-at (isValue (noDataOf lines)) (valuesOf row) [] (on k h) c inside in
       let g = all-at (given (noDataOf lines)) (valuesOf row) [] (all-at (rowGiven (noDataOf lines)) (rowsOf lines) [] (p .given) k h) c inside in
       rw (← value-field row c) (value-is (noDataOf lines) (getD (valuesOf row) c []) v g)
@@ -111,11 +120,12 @@ module _ (lines : List (List ℕ)) (first : ℕ) (p : Passed lines) (start : row
   level : (r c : ℕ) → r < frameOf lines .rows → c < frameOf lines .columns
       → fieldOf 32 c (getD lines (first + (frameOf lines .rows - suc r)) []) ≡ showLevel (getD (levelsOf (rowsOf lines)) (r * frameOf lines .columns + c) 0)
   level r c h w =
+      let fit-now = fit lines first (p .fits) start there in
       let k = length (rowsOf lines) - suc r in
-      let same : frameOf lines .rows - suc r ≡ k = ap (λ (n : ℕ). n - suc r) (sym (fit .0)) in
-      let below : r < length (rowsOf lines) = omega (arith, fit .0) in
-      rw (same, ← row-line k)
-      (value k c (omega arith) w ∙ ap showLevel (sym (level-at (frameOf lines .columns) (rowsOf lines) (fit .1) r c below w)))
+      let same : frameOf lines .rows - suc r ≡ k = ap (λ (n : ℕ). n - suc r) (sym (fit-now .0)) in
+      let below : r < length (rowsOf lines) = omega (arith, fit-now .0) in
+      rw (same, ← row-line lines first (p .fits) start there k)
+      (value k c (omega arith) w ∙ ap showLevel (sym (level-at (frameOf lines .columns) (rowsOf lines) (fit-now .1) r c below w)))
 
 -- a line that has bytes is there
 line-there : (lines : List (List ℕ)) (i : ℕ) → 1 ≤ length (getD lines i []) → suc i ≤ length lines
@@ -126,15 +136,33 @@ line-there lines i h =
     let empty : length (getD lines i []) ≡ 0 = ap length (List·getD-eq-default lines [] {n = i} short) in
     absurd (omega arith))
 
-module _ (text : List ℕ) (p : Passed (linesOf text)) where
+-- the sixth line begins with the word or not
+pub word-names : (text : List ℕ) → Named text → names (sixth (linesOf text)) ≡ true
+unfolding begins
+word-names text e = ap (λ (t : List ℕ). sameText t (bytes "NODATA_value")) e ∙ same-self (bytes "NODATA_value")
+
+pub other-names : (text : List ℕ) → (Named text → ⊥) → names (sixth (linesOf text)) ≡ false
+unfolding begins
+other-names text other =
+    either (sameText (take 12 (line text 5)) (bytes "NODATA_value"))
+    (λ yes. absurd (other (same-equal (take 12 (line text 5)) (bytes "NODATA_value") yes)))
+    (λ plain. plain)
+
+-- a line that begins with a word has bytes
+word-there : (t w : List ℕ) (n : ℕ) → take n t ≡ w → 1 ≤ length w → 1 ≤ length t
+word-there [] w n e h = absurd (omega (arith, ap length (sym (take-nil n) ∙ e)))
+word-there (c ∷ t) w n e h = omega arith
+
+-- a text with no line off its layout
+module _ (text : List ℕ) (none : faultLine (linesOf text) ≡ 0) where
   abbrev lines : List (List ℕ)
   lines = linesOf text
 
   test : (i : ℕ) → getD (headOn lines ++ (namedOn lines ++ map (isRow (noDataOf lines)) (rowsOf lines))) i true ≡ true
   unfolding faultLine
-  test = test-at 1 (headOn lines ++ (namedOn lines ++ map (isRow (noDataOf lines)) (rowsOf lines))) (omega arith) (p .fault)
+  test = test-at 1 (headOn lines ++ (namedOn lines ++ map (isRow (noDataOf lines)) (rowsOf lines))) (omega arith) none
 
-  five-there : 5 ≤ length lines
+  pub five-there : 5 ≤ length lines
   five-there = line-there lines 4 (rw (number-at lines cellsize 4 (test 4)) (omega arith))
 
   pub headed : Headed text (textFrame text)
@@ -147,19 +175,8 @@ module _ (text : List ℕ) (p : Passed (linesOf text)) where
     spacing = number-at lines cellsize 4 (test 4);
   }
 
-  laid-from : (first : ℕ) → rowsOf lines ≡ drop first lines → first ≤ length lines
-      → ((k : ℕ) → k < length (rowsOf lines) → isRow (noDataOf lines) (getD (rowsOf lines) k []) ≡ true)
-      → Laid text (textLevels text) (textFrame text) first
-  laid-from first start there on = record {
-    head = headed;
-    size = record {
-      height = height lines first p start there on;
-      width = λ r h. width lines first p start there on (frameOf lines .rows - suc r) (omega arith);
-    };
-    number = let fit = fit-both (frameOf lines) (rowsOf lines) (p .fits) in
-        levels-length (frameOf lines .columns) (rowsOf lines) (fit .1) ∙ ap (λ (n : ℕ). n * frameOf lines .columns) (fit .0);
-    level = level lines first p start there on;
-  }
+  pub six-there : Named text → 6 ≤ length lines
+  six-there word = line-there lines 5 (word-there (line text 5) (bytes "NODATA_value") 12 word (omega arith))
 
   -- the tests of rows that stand behind n other tests
   rows-on : (nodata : List ℕ) (rows : List (List ℕ)) (bs : List Bool) → ((i : ℕ) → getD (bs ++ map (isRow nodata) rows) i true ≡ true)
@@ -167,34 +184,37 @@ module _ (text : List ℕ) (p : Passed (linesOf text)) where
   rows-on nodata rows bs h k inside =
       sym (map-at (isRow nodata) rows [] true k inside) ∙ sym (getD-append-add bs (map (isRow nodata) rows) k true) ∙ h (length bs + k)
 
-  on : (k : ℕ) → k < length (rowsOf lines) → isRow (noDataOf lines) (getD (rowsOf lines) k []) ≡ true
-  on = rows-on (noDataOf lines) (rowsOf lines) (headOn lines ++ namedOn lines) test
+  pub rows-are : (k : ℕ) → k < length (rowsOf lines) → isRow (noDataOf lines) (getD (rowsOf lines) k []) ≡ true
+  rows-are = rows-on (noDataOf lines) (rowsOf lines) (headOn lines ++ namedOn lines) test
 
-  names-word : names (sixth lines) ≡ true → Named text
-  unfolding begins
-  names-word e = same-equal (take 12 (line text 5)) (bytes "NODATA_value") e
+pub from-six : (text : List ℕ) → Named text → rowsOf (linesOf text) ≡ drop 6 (linesOf text)
+unfolding rowsOf
+from-six text word = rw (word-names text word)
 
-  word-names : Named text → names (sixth lines) ≡ true
-  unfolding begins
-  word-names e = ap (λ (t : List ℕ). sameText t (bytes "NODATA_value")) e ∙ same-self (bytes "NODATA_value")
+pub from-five : (text : List ℕ) → (Named text → ⊥) → rowsOf (linesOf text) ≡ drop 5 (linesOf text)
+unfolding rowsOf
+from-five text other = rw (other-names text other)
 
-  from-six : names (sixth lines) ≡ true → rowsOf lines ≡ drop 6 lines
-  unfolding rowsOf
-  from-six e = rw e
+pub levels-number : (lines : List (List ℕ)) → rowsFit (frameOf lines) (rowsOf lines) ≡ true
+    → length (levelsOf (rowsOf lines)) ≡ frameOf lines .rows * frameOf lines .columns
+levels-number lines fits =
+    let fit = fit-both (frameOf lines) (rowsOf lines) fits in
+    levels-length (frameOf lines .columns) (rowsOf lines) (fit .1) ∙ ap (λ (n : ℕ). n * frameOf lines .columns) (fit .0)
 
-  from-five : names (sixth lines) ≡ false → rowsOf lines ≡ drop 5 lines
-  unfolding rowsOf
-  from-five e = rw e
-
-  -- a line that begins with a word has bytes
-  word-there : (t w : List ℕ) (n : ℕ) → take n t ≡ w → 1 ≤ length w → 1 ≤ length t
-  word-there [] w n e h = absurd (omega (arith, ap length (sym (take-nil n) ∙ e)))
-  word-there (c ∷ t) w n e h = omega arith
+module _ (text : List ℕ) (p : Passed (linesOf text)) where
+  laid-from : (first : ℕ) → rowsOf (linesOf text) ≡ drop first (linesOf text) → first ≤ length (linesOf text)
+      → Laid text (textLevels text) (textFrame text) first
+  laid-from first start there = record {
+    head = headed text (p .fault);
+    size = sized (linesOf text) first (p .fits) start there text refl;
+    number = levels-number (linesOf text) (p .fits);
+    level = level (linesOf text) first p start there (rows-are text (p .fault));
+  }
 
   pub says-passed : Says text (textLevels text) (textFrame text)
   says-passed = record {
-    named = λ word. laid-from 6 (from-six (word-names word)) (line-there lines 5 (word-there (line text 5) (bytes "NODATA_value") 12 word (omega arith))) on;
-    unnamed = λ other. either (names (sixth lines)) (λ yes. absurd (other (names-word yes))) (λ plain. laid-from 5 (from-five plain) five-there on);
+    named = λ word. laid-from 6 (from-six text word) (six-there text (p .fault) word);
+    unnamed = λ other. laid-from 5 (from-five text other) (five-there text (p .fault));
   }
 
 -- a text that is not refused says its network
@@ -207,8 +227,6 @@ pub says-left : (text headers levels : List ℕ) → readRefusal text (length he
 says-left text headers levels read =
     let on = eq-eqb (readRefusal text (length headers) (length levels)) 0 read in
     let p = passed (linesOf text) (length headers) (length levels) read in
-    let fit = fit-both (textFrame text) (rowsOf (linesOf text)) (p .fits) in
-    let size : length (textLevels text) ≡ textFrame text .rows * textFrame text .columns =
-    levels-length (textFrame text .columns) (rowsOf (linesOf text)) (fit .1) ∙ ap (λ (n : ℕ). n * textFrame text .columns) (fit .0) in
+    let size = levels-number (linesOf text) (p .fits) in
     rw on (rw (take-at (textLevels text) (drop (length (textLevels text)) levels) (textFrame text .rows * textFrame text .columns) size)
     (says-passed text p))
