@@ -1,10 +1,11 @@
--- A line passes its test exactly if it is on its layout, and the line at fault is the first that does not. Assumes nothing.
+-- A line passes its test exactly if it is on its layout, and the line at fault is the first that does not.
+-- Assumes nothing.
 use Prim.Native.Nat.{ℕ, zero, suc, _+_, _-_, _/_, _%_, _≤_, _<_}
 use mathlib.Core.Path.{_≡_, refl, sym, ap, _∙_}
 use mathlib.Core.List.{List, [], _∷_, _++_, map}
-use mathlib.Core.Bool.{Bool, true, false, cond, not, _&&_, _||_, true≢false}
+use mathlib.Core.Bool.{Bool, true, false, cond, _||_, true≢false}
 use native.Mathlib.Omega.{arith}
-use borrow.Author.Tests.{eqb-true, eqb-false, eq-eqb, ne-eqb, ltb-true, ltb-false}
+use borrow.Author.Tests.{eqb-true, ne-eqb, ltb-true, ltb-false}
 use lib.Dec.{eqb, ltb}
 use lib.ListN.{length, getD, take, drop, take-append-drop, List·getD-append, List·getD-eq-default, length-drop, length-map}
 use lib.Seq.{getD-drop, getD-append-add, take-suc}
@@ -14,18 +15,18 @@ use Rattle.text.specs.Field.{countOf, fieldOf}
 use Rattle.text.specs.Number.{wholeOf, levelOf, isGot, valueOf, shown, showWhole, showTwo, showLevel}
 use Rattle.text.specs.Same.{sameText}
 use Rattle.text.specs.Spelled.{bytes}
-use Rattle.text.specs.declared.number.Number.the-variants.{Got, Off}
+use Rattle.text.specs.declared.number.Number.the-variants.{Got}
 use Rattle.text.proofs.Digits.{either, whole-small}
 use Rattle.text.proofs.Shown.{whole-back, level-back, shown-least}
 use Rattle.text.proofs.Exact.{whole-exact, level-exact, level-small}
 use Rattle.grid.specs.Row.{all, valuesOf, isValue, isRow}
-use Rattle.grid.specs.File.{noDataWord, unnamed, begins, numberAfter, numberAt, names, sixth, unsigned, isNumber, isSpelling, spelledIn, namesWell, headOn, namedOn, noDataOf, rowsOf, firstOff, faultLine}
+use Rattle.grid.specs.File.{unnamed, numberAfter, isNumber, isSpelling, namesWell, headOn, namedOn, noDataOf, rowsOf, firstOff, faultLine}
 use Rattle.grid.proofs.ValueLaws.{all-cons, all-none}
 use Rattle.grid.proofs.Values.{same-equal, same-self, number-back}
 use Rattle.grid_rules.specs.Laid.{line, Named, Behind}
 use Rattle.grid_rules.specs.Refused.{keys, Keyed, Level, Naming, RowOn, LineOn, Fault}
 use Rattle.grid_rules.proofs.Places.{test-at, all-at, map-at, value-field, value-count}
-use Rattle.grid_rules.proofs.Said.{got-of, word-names, other-names}
+use Rattle.grid_rules.proofs.Said.{got-of, key-line, word-names, other-names}
 
 got-is : {n : ℕ} (x : _) → x ≡ Got n → isGot x ≡ true
 got-is x e = rw e refl
@@ -33,19 +34,9 @@ got-is x e = rw e refl
 -- ---- header lines
 
 key-on : (key l : List ℕ) → isGot (numberAfter key l) ≡ true → Keyed key l
-unfolding numberAfter begins
 key-on key l e =
-    either (sameText (take (length key) l) key)
-    (λ yes. let g : isGot (wholeOf (drop (length key) l)) ≡ true = rw yes at e in
-    let w = got-of (wholeOf (drop (length key) l)) g in
-    let k = same-equal (take (length key) l) key yes in
-    record {
-      number = valueOf (wholeOf (drop (length key) l));
-      most = whole-small (drop (length key) l) _ w;
-      is = sym (take-append-drop (length key) l) ∙ ap (λ (a : List ℕ). a ++ drop (length key) l) k
-          ∙ ap (λ (b : List ℕ). key ++ b) (whole-exact (drop (length key) l) _ w);
-    })
-    (λ other. let z : false ≡ true = rw other at e in absurd (true≢false (sym z)))
+    let k = key-line key l (valueOf (numberAfter key l)) (got-of (numberAfter key l) e) in
+    record { number = valueOf (numberAfter key l); most = k .0; is = k .1 }
 
 key-passes : (key l : List ℕ) → Keyed key l → isGot (numberAfter key l) ≡ true
 key-passes key l k = got-is (numberAfter key l) (ap (numberAfter key) (k .is) ∙ number-back key (k .number) (k .most))

@@ -2,3 +2,4 @@ pub mod Places
 pub mod Said
 pub mod Wrote
 pub mod Layouts
+pub mod Order

@@ -1,8 +1,8 @@
 -- A text that is read says its network, line by line and place by place. Assumes nothing.
-use Prim.Native.Nat.{ℕ, zero, suc, _+_, _-_, _*_, _≤_, _<_}
+use Prim.Native.Nat.{ℕ, suc, _+_, _-_, _*_, _≤_, _<_}
 use mathlib.Core.Path.{_≡_, refl, sym, ap, _∙_}
 use mathlib.Core.List.{List, [], _∷_, _++_, map}
-use mathlib.Core.Bool.{Bool, true, false, cond, _&&_, _||_, true≢false}
+use mathlib.Core.Bool.{Bool, true, false, _&&_, _||_, true≢false}
 use native.Mathlib.Omega.{arith}
 use borrow.Author.Tests.{eqb-true, eq-eqb, leb-true, leb-false, not-true}
 use lib.Dec.{eqb, leb}
@@ -18,16 +18,14 @@ use Rattle.text.specs.Same.{sameText}
 use Rattle.text.specs.Spelled.{bytes}
 use Rattle.text.specs.declared.number.Number.{Number}
 use Rattle.text.specs.declared.number.Number.the-variants.{Got, Off}
-use Rattle.text.proofs.Digits.{either}
+use Rattle.text.proofs.Digits.{either, whole-small}
 use Rattle.text.proofs.Exact.{whole-exact, level-exact}
 use Rattle.network.specs.Limits.{mostLevel}
 use Rattle.network.specs.Refusals.{sided, placed, filled, checked}
-use Rattle.network.specs.declared.Frame.{Frame}
 use Rattle.grid.specs.Row.{all, valuesOf, given, isValue, isRow, hasValues, rowGiven, levelIn, levelsOf}
-use Rattle.grid.specs.File.{ncols, nrows, xllcenter, yllcenter, cellsize, noDataWord, begins, numberAfter, numberAt, names, sixth, headOn, namedOn, frameOf, noDataOf, rowsOf, firstOff, faultLine, rowsFit}
+use Rattle.grid.specs.File.{ncols, nrows, xllcenter, yllcenter, cellsize, begins, numberAfter, numberAt, names, sixth, headOn, namedOn, frameOf, noDataOf, rowsOf, faultLine, rowsFit}
 use Rattle.grid.specs.Read.{headerSize, textFrame, textLevels, linesRefusal, readRefusal, headerAfter, levelsAfter}
 use Rattle.grid.proofs.StoreLaws.{levels-length}
-use Rattle.grid.proofs.FileLaws.{off-append}
 use Rattle.grid.proofs.ReadLaws.{fit-both}
 use Rattle.grid.proofs.Values.{same-equal, same-self}
 use Rattle.grid_rules.specs.Laid.{line, Named, Headed, Sized, Laid, Says, frameIn, levelsIn}
@@ -37,14 +35,17 @@ pub got-of : (x : Number) → isGot x ≡ true → x ≡ Got (valueOf x)
 got-of (Got n) e = refl
 got-of Off e = absurd (true≢false (sym e))
 
--- a header line that gives a number is its key and that number
-pub key-line : (key l : List ℕ) (n : ℕ) → numberAfter key l ≡ Got n → l ≡ key ++ showWhole n
+-- a header line that gives a number is its key and that number, of seven digits at most
+pub key-line : (key l : List ℕ) (n : ℕ) → numberAfter key l ≡ Got n → (n < 10000000) × (l ≡ key ++ showWhole n)
 unfolding numberAfter begins
 key-line key l n e =
     either (sameText (take (length key) l) key)
-    (λ yes. let w = whole-exact (drop (length key) l) n (rw yes at e) in
-    let k = same-equal (take (length key) l) key yes in
-    sym (take-append-drop (length key) l) ∙ ap (λ (a : List ℕ). a ++ drop (length key) l) k ∙ ap (λ (b : List ℕ). key ++ b) w)
+    (λ yes. let number : wholeOf (drop (length key) l) ≡ Got n = rw yes at e in
+    let w = whole-exact (drop (length key) l) n number in
+    let k = same-equal (take (length key) l) key yes in (
+      whole-small (drop (length key) l) n number,
+      sym (take-append-drop (length key) l) ∙ ap (λ (a : List ℕ). a ++ drop (length key) l) k ∙ ap (λ (b : List ℕ). key ++ b) w,
+    ))
     (λ other. let z : Off ≡ Got n = rw other at e in let k : _≡_ {A = ℕ} 0 1 = cc in absurd (omega arith))
 
 -- a value that is given is its level's text
@@ -79,9 +80,13 @@ passed lines headers room read =
 
 -- a header line that gives a number, by its place
 pub number-at : (lines : List (List ℕ)) (key : List ℕ) (i : ℕ) → isGot (numberAt key i lines) ≡ true → getD lines i [] ≡ key ++ showWhole (valueOf (numberAt key i lines))
-number-at lines key i e = key-line key (getD lines i []) (valueOf (numberAt key i lines)) (got-of (numberAt key i lines) e)
+number-at lines key i e = key-line key (getD lines i []) (valueOf (numberAt key i lines)) (got-of (numberAt key i lines) e) .1
 
--- rows that fit and start in line `first`
+-- rows that start in line `first`
+pub row-line : (lines : List (List ℕ)) (first : ℕ) → rowsOf lines ≡ drop first lines → (k : ℕ) → getD (rowsOf lines) k [] ≡ getD lines (first + k) []
+row-line lines first start k = ap (λ (l : List (List ℕ)). getD l k []) start ∙ getD-drop first lines k []
+
+-- and fit
 module _ (lines : List (List ℕ)) (first : ℕ) (fits : rowsFit (frameOf lines) (rowsOf lines) ≡ true)
     (start : rowsOf lines ≡ drop first lines) (there : first ≤ length lines) where
   pub fit : (length (rowsOf lines) ≡ frameOf lines .rows) × (all (hasValues (frameOf lines .columns)) (rowsOf lines) ≡ true)
@@ -90,14 +95,11 @@ module _ (lines : List (List ℕ)) (first : ℕ) (fits : rowsFit (frameOf lines)
   pub height : length lines ≡ first + frameOf lines .rows
   height = omega (arith, fit .0, ap length start, length-drop first lines)
 
-  pub row-line : (k : ℕ) → getD (rowsOf lines) k [] ≡ getD lines (first + k) []
-  row-line k = ap (λ (l : List (List ℕ)). getD l k []) start ∙ getD-drop first lines k []
-
   pub wide : (k : ℕ) → k < length (rowsOf lines) → length (valuesOf (getD (rowsOf lines) k [])) ≡ frameOf lines .columns
   wide k h = eqb-true _ _ (all-at (hasValues (frameOf lines .columns)) (rowsOf lines) [] (fit .1) k h)
 
   pub width : (k : ℕ) → k < frameOf lines .rows → countOf 32 (getD lines (first + k) []) + 1 ≡ frameOf lines .columns
-  width k h = rw (← row-line k) (omega (arith, value-count (getD (rowsOf lines) k []), wide k (omega (arith, fit .0))))
+  width k h = rw (← row-line lines first start k) (omega (arith, value-count (getD (rowsOf lines) k []), wide k (omega (arith, fit .0))))
 
   pub sized : (text : List ℕ) → linesOf text ≡ lines → Sized text (frameOf lines) first
   sized text same = record {
@@ -124,7 +126,7 @@ module _ (lines : List (List ℕ)) (first : ℕ) (p : Passed lines) (start : row
       let k = length (rowsOf lines) - suc r in
       let same : frameOf lines .rows - suc r ≡ k = ap (λ (n : ℕ). n - suc r) (sym (fit-now .0)) in
       let below : r < length (rowsOf lines) = omega (arith, fit-now .0) in
-      rw (same, ← row-line lines first (p .fits) start there k)
+      rw (same, ← row-line lines first start k)
       (value k c (omega arith) w ∙ ap showLevel (sym (level-at (frameOf lines .columns) (rowsOf lines) (fit-now .1) r c below w)))
 
 -- a line that has bytes is there

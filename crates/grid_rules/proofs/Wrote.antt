@@ -1,5 +1,5 @@
 -- A text that is written says its network, line by line and place by place. Assumes nothing.
-use Prim.Native.Nat.{ℕ, zero, suc, _+_, _*_, _≤_, _<_}
+use Prim.Native.Nat.{ℕ, zero, suc, _+_, _*_, _≤_}
 use mathlib.Core.Path.{_≡_, refl, sym, ap, _∙_}
 use mathlib.Core.List.{List, [], _∷_, _++_, append-assoc}
 use mathlib.Core.Bool.{true, false, true≢false}
@@ -18,13 +18,12 @@ use Rattle.network.specs.Edges.{Checked}
 use Rattle.network.specs.Refusals.{networkRefusal}
 use Rattle.network.specs.declared.Frame.{Frame}
 use Rattle.network.proofs.Refusals.{not-refused, checked-off}
-use Rattle.grid.specs.File.{ncols, nrows, xllcenter, yllcenter, cellsize, begins, names, sixth}
-use Rattle.grid.specs.Read.{textFrame, textLevels}
+use Rattle.grid.specs.File.{ncols, nrows, xllcenter, yllcenter, cellsize, begins, names}
 use Rattle.grid.specs.Write.{rowLine, rowAt, rowLines, textOf, networkLines, showNetwork, writeRefusal, textAfter, sizeAfter}
 use Rattle.grid.proofs.WriteLaws.{row-first}
 use Rattle.grid.proofs.Values.{Free, lines-apart, row-free, key-free, names-row, same-self}
 use Rattle.grid.proofs.Back.{frame-back, levels-back, refusal-back}
-use Rattle.grid_rules.specs.Laid.{line, Named, Laid, Says, Written}
+use Rattle.grid_rules.specs.Laid.{Named, Written}
 use Rattle.grid_rules.proofs.Said.{says}
 
 -- lines of which there is one at least, each with its CRLF, end in CRLF

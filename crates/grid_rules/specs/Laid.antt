@@ -1,4 +1,5 @@
--- Where a network file says what: document 01, "Files and the report program", line by line and place by place. Assumes nothing.
+-- Where a network file says what, line by line and place by place: document 01, "Files and the report program".
+-- Assumes nothing.
 use Prim.Native.Nat.{ℕ, suc, _+_, _-_, _*_, _<_}
 use mathlib.Core.Path.{_≡_}
 use mathlib.Core.List.{List, [], _∷_, _++_}
@@ -46,7 +47,7 @@ pub record Laid (text levels : List ℕ) (f : Frame) (first : ℕ) : Type 0 wher
 abbrev pub Named : List ℕ → Type 0
 Named text = take 12 (line text 5) ≡ bytes "NODATA_value"
 
--- what holds of the line where the rows start and of the spelling of no data: as the sixth line names it, or else `-9999`
+-- what holds of the line where the rows start and of the spelling of no data: as the sixth line has it, or `-9999`
 pub record Behind (text : List ℕ) (holds : ℕ → List ℕ → Type 0) : Type 0 where
   pub named : Named text → holds 6 (drop 13 (line text 5))
   pub unnamed : (Named text → ⊥) → holds 5 (bytes "-9999")

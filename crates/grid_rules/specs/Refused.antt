@@ -1,5 +1,5 @@
--- Which network texts are refused, by which number and at which line: document 01, "Files and the report program" and "Refusal
--- numbers": 17 where a line is off its layout, then 12, then 13, then 14. Assumes nothing.
+-- Which network texts are refused, by which number and at which line: document 01, "Files and the report program" and
+-- "Refusal numbers": 17 where a line is off its layout, then 12, then 13, then 14. Assumes nothing.
 use Prim.Native.Nat.{ℕ, suc, _*_, _≤_, _<_}
 use mathlib.Core.Path.{_≡_}
 use mathlib.Core.Bool.{Bool, cond}
@@ -72,9 +72,11 @@ pub record Given (nodata t : List ℕ) : Type 0 where
   pub is : t ≡ showLevel number
 
 abbrev pub AllGiven : (text : List ℕ) → ℕ → List ℕ → Type 0
-AllGiven text first nodata = (k c : ℕ) → first ≤ k → k < length (linesOf text) → c ≤ countOf 32 (line text k) → Given nodata (valueAt (line text k) c)
+AllGiven text first nodata =
+    (k c : ℕ) → first ≤ k → k < length (linesOf text) → c ≤ countOf 32 (line text k)
+    → Given nodata (valueAt (line text k) c)
 
--- n is the refusal of a text whose header says the frame f, or 0, where room is lent for so many header numbers and levels
+-- n is the refusal of a text whose header says the frame f, or 0; room is lent for so many header numbers and levels
 pub record Refused (text : List ℕ) (headers room n : ℕ) (f : Frame) (first : ℕ) (nodata : List ℕ) : Type 0 where
   -- 17 exactly where a line is off its layout
   pub off : n ≡ 17 → ((k : ℕ) → LineOn text first nodata k) → ⊥
@@ -90,3 +92,10 @@ pub record Refused (text : List ℕ) (headers room n : ℕ) (f : Frame) (first :
   pub narrow : n ≡ 14 → 5 ≤ headers → f .rows * f .columns ≤ room → ⊥
   pub roomy : n ≡ 0 → (5 ≤ headers) × (f .rows * f .columns ≤ room)
   pub known : (n ≡ 17 → ⊥) → (n ≡ 12 → ⊥) → (n ≡ 13 → ⊥) → (n ≡ 14 → ⊥) → n ≡ 0
+
+-- A value spelled as no data is: 13, where every line is on its layout, the rows fit and the frame is in range
+abbrev pub NoDataRefused : (text : List ℕ) → ℕ → Frame → ℕ → List ℕ → Type 0
+NoDataRefused text n f first nodata =
+    ((k : ℕ) → LineOn text first nodata k) → Sized text f first → InRange f
+    → (k c : ℕ) → first ≤ k → k < length (linesOf text) → c ≤ countOf 32 (line text k)
+    → valueAt (line text k) c ≡ nodata → n ≡ 13
