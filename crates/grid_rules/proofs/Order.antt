@@ -235,12 +235,9 @@ module _ (text : List ℕ) where
     rows-fit s =
         both-true (eqb (length rows) (f .rows)) (all (hasValues (f .columns)) rows) (eq-eqb (length rows) (f .rows) (rows-number s))
         (all-from (hasValues (f .columns)) rows []
-        (λ i h. let r = f .rows - suc i in
-        let less : r < f .rows = omega (arith, rows-number s) in
-        let place : first + (f .rows - suc r) ≡ first + i = omega (arith, rows-number s) in
-        let same : getD rows i [] ≡ line text (first + (f .rows - suc r)) =
-        row-line lines first start i ∙ ap (λ (j : ℕ). getD lines j []) (sym place) in
-        eq-eqb (length (valuesOf (getD rows i []))) (f .columns) (ap (λ (l : List ℕ). length (valuesOf l)) same ∙ value-count _ ∙ omega (arith, s .width r less))))
+        (λ i h. let inside : i < f .rows = omega (arith, rows-number s) in
+        let number = ap (λ (l : List ℕ). length (valuesOf l)) (row-line lines first start i) ∙ value-count (line text (first + i)) in
+        eq-eqb (length (valuesOf (getD rows i []))) (f .columns) (number ∙ omega (arith, s .width i inside))))
 
     fits-pass : Sized text f first → InRange f → fitting ≡ true
     fits-pass s r =

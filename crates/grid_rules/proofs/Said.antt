@@ -102,10 +102,7 @@ module _ (lines : List (List ℕ)) (first : ℕ) (fits : rowsFit (frameOf lines)
   width k h = rw (← row-line lines first start k) (omega (arith, value-count (getD (rowsOf lines) k []), wide k (omega (arith, fit .0))))
 
   pub sized : (text : List ℕ) → linesOf text ≡ lines → Sized text (frameOf lines) first
-  sized text same = record {
-    height = rw same height;
-    width = λ r h. rw same (width (frameOf lines .rows - suc r) (omega arith));
-  }
+  sized text same = record { height = rw same height; width = λ k h. rw same (width k h) }
 
 -- and of which every value is given
 module _ (lines : List (List ℕ)) (first : ℕ) (p : Passed lines) (start : rowsOf lines ≡ drop first lines) (there : first ≤ length lines)

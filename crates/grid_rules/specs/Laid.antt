@@ -18,10 +18,6 @@ line text k = getD (linesOf text) k []
 abbrev pub valueAt : List ℕ → ℕ → List ℕ
 valueAt row place = fieldOf 32 place row
 
--- row r counted from the south: the rows run from north to south, the first of them in line `first`
-abbrev pub rowFromSouth : List ℕ → ℕ → Frame → ℕ → List ℕ
-rowFromSouth text first f r = line text (first + (f .rows - suc r))
-
 -- the keys in this order and spelling, one space, a whole number
 pub record Headed (text : List ℕ) (f : Frame) : Type 0 where
   pub columns : line text 0 ≡ bytes "ncols " ++ showWhole (f .columns)
@@ -33,7 +29,11 @@ pub record Headed (text : List ℕ) (f : Frame) : Type 0 where
 -- as many rows as the header says and no line more, and as many values in each
 pub record Sized (text : List ℕ) (f : Frame) (first : ℕ) : Type 0 where
   pub height : length (linesOf text) ≡ first + f .rows
-  pub width : (r : ℕ) → r < f .rows → countOf 32 (rowFromSouth text first f r) + 1 ≡ f .columns
+  pub width : (k : ℕ) → k < f .rows → countOf 32 (line text (first + k)) + 1 ≡ f .columns
+
+-- row r counted from the south: the rows run from north to south, the first of them in line `first`
+abbrev pub rowFromSouth : List ℕ → ℕ → Frame → ℕ → List ℕ
+rowFromSouth text first f r = line text (first + (f .rows - suc r))
 
 -- a text that says this network, its rows from line `first` on: each level at its place
 pub record Laid (text levels : List ℕ) (f : Frame) (first : ℕ) : Type 0 where
