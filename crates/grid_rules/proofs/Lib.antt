@@ -1,0 +1,5 @@
+pub mod Places
+pub mod Said
+pub mod Wrote
+pub mod Layouts
+pub mod Order

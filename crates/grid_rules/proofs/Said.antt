@@ -1,0 +1,231 @@
+-- A text that is read says its network, line by line and place by place. Assumes nothing.
+use Prim.Native.Nat.{ℕ, suc, _+_, _-_, _*_, _≤_, _<_}
+use mathlib.Core.Path.{_≡_, refl, sym, ap, _∙_}
+use mathlib.Core.List.{List, [], _∷_, _++_, map}
+use mathlib.Core.Bool.{Bool, true, false, _&&_, _||_, true≢false}
+use native.Mathlib.Omega.{arith}
+use borrow.Author.Tests.{eqb-true, eq-eqb, leb-true, leb-false, not-true}
+use lib.Dec.{eqb, leb}
+use lib.ListN.{length, getD, take, drop, length-drop, take-append-drop, List·getD-eq-default}
+use lib.Seq.{getD-drop, getD-append-add, take-nil, take-at}
+use Rattle.refusal.proofs.Laws.{refuse-none}
+use Rattle.refusal.specs.Refuse.{refuse}
+use Rattle.refusal.specs.Range.{allWithin}
+use Rattle.text.specs.Line.{linesOf}
+use Rattle.text.specs.Field.{countOf, fieldOf}
+use Rattle.text.specs.Number.{wholeOf, levelOf, isGot, valueOf, showWhole, showLevel}
+use Rattle.text.specs.Same.{sameText}
+use Rattle.text.specs.Spelled.{bytes}
+use Rattle.text.specs.declared.number.Number.{Number}
+use Rattle.text.specs.declared.number.Number.the-variants.{Got, Off}
+use Rattle.text.proofs.Digits.{either, whole-small}
+use Rattle.text.proofs.Exact.{whole-exact, level-exact}
+use Rattle.network.specs.Limits.{mostLevel}
+use Rattle.network.specs.Refusals.{sided, placed, filled, checked}
+use Rattle.grid.specs.Row.{all, valuesOf, given, isValue, isRow, hasValues, rowGiven, levelIn, levelsOf}
+use Rattle.grid.specs.File.{ncols, nrows, xllcenter, yllcenter, cellsize, begins, numberAfter, numberAt, names, sixth, headOn, namedOn, frameOf, noDataOf, rowsOf, faultLine, rowsFit}
+use Rattle.grid.specs.Read.{headerSize, textFrame, textLevels, linesRefusal, readRefusal, headerAfter, levelsAfter}
+use Rattle.grid.proofs.StoreLaws.{levels-length}
+use Rattle.grid.proofs.ReadLaws.{fit-both}
+use Rattle.grid.proofs.Values.{same-equal, same-self}
+use Rattle.grid_rules.specs.Laid.{line, Named, Headed, Sized, Laid, Says, frameIn, levelsIn}
+use Rattle.grid_rules.proofs.Places.{test-at, all-at, map-at, value-field, value-count, level-at}
+
+pub got-of : (x : Number) → isGot x ≡ true → x ≡ Got (valueOf x)
+got-of (Got n) e = refl
+got-of Off e = absurd (true≢false (sym e))
+
+-- a header line that gives a number is its key and that number, of seven digits at most
+pub key-line : (key l : List ℕ) (n : ℕ) → numberAfter key l ≡ Got n → (n < 10000000) × (l ≡ key ++ showWhole n)
+unfolding numberAfter begins
+key-line key l n e =
+    either (sameText (take (length key) l) key)
+    (λ yes. let number : wholeOf (drop (length key) l) ≡ Got n = rw yes at e in
+    let w = whole-exact (drop (length key) l) n number in
+    let k = same-equal (take (length key) l) key yes in (
+      whole-small (drop (length key) l) n number,
+      sym (take-append-drop (length key) l) ∙ ap (λ (a : List ℕ). a ++ drop (length key) l) k ∙ ap (λ (b : List ℕ). key ++ b) w,
+    ))
+    (λ other. let z : Off ≡ Got n = rw other at e in let k : _≡_ {A = ℕ} 0 1 = cc in absurd (omega arith))
+
+-- a value that is given is its level's text
+value-is : (nodata t : List ℕ) → isValue nodata t ≡ true → given nodata t ≡ true → t ≡ showLevel (levelIn t)
+value-is nodata t v g =
+    let other = not-true (sameText t nodata) g in
+    level-exact t (levelIn t) (got-of (levelOf t) (or-false (isGot (levelOf t)) (rw other at v)))
+  where
+    or-false : (a : Bool) → (a || false) ≡ true → a ≡ true
+    or-false true e = refl
+    or-false false e = e
+
+-- what lines that are not refused have passed
+pub record Passed (lines : List (List ℕ)) : Type 0 where
+  pub fault : faultLine lines ≡ 0
+  pub fits : rowsFit (frameOf lines) (rowsOf lines) ≡ true
+  pub given : all (rowGiven (noDataOf lines)) (rowsOf lines) ≡ true
+
+pub passed : (lines : List (List ℕ)) (headers room : ℕ) → linesRefusal lines headers room ≡ 0 → Passed lines
+unfolding linesRefusal
+passed lines headers room read =
+    let levels = levelsOf (rowsOf lines) in
+    let f = frameOf lines in
+    let last = refuse 14 (leb headerSize headers && leb (length levels) room) 0 in
+    let g = refuse 13 (all (rowGiven (noDataOf lines)) (rowsOf lines)) last in
+    let a = refuse-none 17 (eqb (faultLine lines) 0) (refuse 12 (rowsFit f (rowsOf lines)) (checked levels f g)) (omega arith) read in
+    let b = refuse-none 12 (rowsFit f (rowsOf lines)) (checked levels f g) (omega arith) (a .1) in
+    let c = refuse-none 12 (sided f && placed f && filled levels f) (refuse 13 (allWithin mostLevel levels) g) (omega arith) (b .1) in
+    let d = refuse-none 13 (allWithin mostLevel levels) g (omega arith) (c .1) in
+    let e = refuse-none 13 (all (rowGiven (noDataOf lines)) (rowsOf lines)) last (omega arith) (d .1) in
+    record { fault = eqb-true (faultLine lines) 0 (a .0); fits = b .0; given = e .0 }
+
+-- a header line that gives a number, by its place
+pub number-at : (lines : List (List ℕ)) (key : List ℕ) (i : ℕ) → isGot (numberAt key i lines) ≡ true → getD lines i [] ≡ key ++ showWhole (valueOf (numberAt key i lines))
+number-at lines key i e = key-line key (getD lines i []) (valueOf (numberAt key i lines)) (got-of (numberAt key i lines) e) .1
+
+-- rows that start in line `first`
+pub row-line : (lines : List (List ℕ)) (first : ℕ) → rowsOf lines ≡ drop first lines → (k : ℕ) → getD (rowsOf lines) k [] ≡ getD lines (first + k) []
+row-line lines first start k = ap (λ (l : List (List ℕ)). getD l k []) start ∙ getD-drop first lines k []
+
+-- and fit
+module _ (lines : List (List ℕ)) (first : ℕ) (fits : rowsFit (frameOf lines) (rowsOf lines) ≡ true)
+    (start : rowsOf lines ≡ drop first lines) (there : first ≤ length lines) where
+  pub fit : (length (rowsOf lines) ≡ frameOf lines .rows) × (all (hasValues (frameOf lines .columns)) (rowsOf lines) ≡ true)
+  fit = fit-both (frameOf lines) (rowsOf lines) fits
+
+  pub height : length lines ≡ first + frameOf lines .rows
+  height = omega (arith, fit .0, ap length start, length-drop first lines)
+
+  pub wide : (k : ℕ) → k < length (rowsOf lines) → length (valuesOf (getD (rowsOf lines) k [])) ≡ frameOf lines .columns
+  wide k h = eqb-true _ _ (all-at (hasValues (frameOf lines .columns)) (rowsOf lines) [] (fit .1) k h)
+
+  pub width : (k : ℕ) → k < frameOf lines .rows → countOf 32 (getD lines (first + k) []) + 1 ≡ frameOf lines .columns
+  width k h = rw (← row-line lines first start k) (omega (arith, value-count (getD (rowsOf lines) k []), wide k (omega (arith, fit .0))))
+
+  pub sized : (text : List ℕ) → linesOf text ≡ lines → Sized text (frameOf lines) first
+  sized text same = record { height = rw same height; width = λ k h. rw same (width k h) }
+
+-- and of which every value is given
+module _ (lines : List (List ℕ)) (first : ℕ) (p : Passed lines) (start : rowsOf lines ≡ drop first lines) (there : first ≤ length lines)
+    (on : (k : ℕ) → k < length (rowsOf lines) → isRow (noDataOf lines) (getD (rowsOf lines) k []) ≡ true) where
+  value : (k c : ℕ) → k < length (rowsOf lines) → c < frameOf lines .columns
+      → let t = fieldOf 32 c (getD (rowsOf lines) k []) in t ≡ showLevel (levelIn t)
+  value k c h w =
+      let row = getD (rowsOf lines) k [] in
+      let inside : c < length (valuesOf row) = omega (arith, wide lines first (p .fits) start there k h) in
+      let v = all-at (isValue (noDataOf lines)) (valuesOf row) [] (on k h) c inside in
+      let g = all-at (given (noDataOf lines)) (valuesOf row) [] (all-at (rowGiven (noDataOf lines)) (rowsOf lines) [] (p .given) k h) c inside in
+      rw (← value-field row c) (value-is (noDataOf lines) (getD (valuesOf row) c []) v g)
+
+  level : (r c : ℕ) → r < frameOf lines .rows → c < frameOf lines .columns
+      → fieldOf 32 c (getD lines (first + (frameOf lines .rows - suc r)) []) ≡ showLevel (getD (levelsOf (rowsOf lines)) (r * frameOf lines .columns + c) 0)
+  level r c h w =
+      let fit-now = fit lines first (p .fits) start there in
+      let k = length (rowsOf lines) - suc r in
+      let same : frameOf lines .rows - suc r ≡ k = ap (λ (n : ℕ). n - suc r) (sym (fit-now .0)) in
+      let below : r < length (rowsOf lines) = omega (arith, fit-now .0) in
+      rw (same, ← row-line lines first start k)
+      (value k c (omega arith) w ∙ ap showLevel (sym (level-at (frameOf lines .columns) (rowsOf lines) (fit-now .1) r c below w)))
+
+-- a line that has bytes is there
+line-there : (lines : List (List ℕ)) (i : ℕ) → 1 ≤ length (getD lines i []) → suc i ≤ length lines
+line-there lines i h =
+    either (leb (suc i) (length lines))
+    (λ yes. leb-true (suc i) (length lines) yes)
+    (λ other. let short : length lines ≤ i = omega (arith, leb-false (suc i) (length lines) other) in
+    let empty : length (getD lines i []) ≡ 0 = ap length (List·getD-eq-default lines [] {n = i} short) in
+    absurd (omega arith))
+
+-- the sixth line begins with the word or not
+pub word-names : (text : List ℕ) → Named text → names (sixth (linesOf text)) ≡ true
+unfolding begins
+word-names text e = ap (λ (t : List ℕ). sameText t (bytes "NODATA_value")) e ∙ same-self (bytes "NODATA_value")
+
+pub other-names : (text : List ℕ) → (Named text → ⊥) → names (sixth (linesOf text)) ≡ false
+unfolding begins
+other-names text other =
+    either (sameText (take 12 (line text 5)) (bytes "NODATA_value"))
+    (λ yes. absurd (other (same-equal (take 12 (line text 5)) (bytes "NODATA_value") yes)))
+    (λ plain. plain)
+
+-- a line that begins with a word has bytes
+word-there : (t w : List ℕ) (n : ℕ) → take n t ≡ w → 1 ≤ length w → 1 ≤ length t
+word-there [] w n e h = absurd (omega (arith, ap length (sym (take-nil n) ∙ e)))
+word-there (c ∷ t) w n e h = omega arith
+
+-- a text with no line off its layout
+module _ (text : List ℕ) (none : faultLine (linesOf text) ≡ 0) where
+  abbrev lines : List (List ℕ)
+  lines = linesOf text
+
+  test : (i : ℕ) → getD (headOn lines ++ (namedOn lines ++ map (isRow (noDataOf lines)) (rowsOf lines))) i true ≡ true
+  unfolding faultLine
+  test = test-at 1 (headOn lines ++ (namedOn lines ++ map (isRow (noDataOf lines)) (rowsOf lines))) (omega arith) none
+
+  pub five-there : 5 ≤ length lines
+  five-there = line-there lines 4 (rw (number-at lines cellsize 4 (test 4)) (omega arith))
+
+  pub headed : Headed text (textFrame text)
+  unfolding frameOf
+  headed = record {
+    columns = number-at lines ncols 0 (test 0);
+    rows = number-at lines nrows 1 (test 1);
+    west = number-at lines xllcenter 2 (test 2);
+    south = number-at lines yllcenter 3 (test 3);
+    spacing = number-at lines cellsize 4 (test 4);
+  }
+
+  pub six-there : Named text → 6 ≤ length lines
+  six-there word = line-there lines 5 (word-there (line text 5) (bytes "NODATA_value") 12 word (omega arith))
+
+  -- the tests of rows that stand behind n other tests
+  rows-on : (nodata : List ℕ) (rows : List (List ℕ)) (bs : List Bool) → ((i : ℕ) → getD (bs ++ map (isRow nodata) rows) i true ≡ true)
+      → (k : ℕ) → k < length rows → isRow nodata (getD rows k []) ≡ true
+  rows-on nodata rows bs h k inside =
+      sym (map-at (isRow nodata) rows [] true k inside) ∙ sym (getD-append-add bs (map (isRow nodata) rows) k true) ∙ h (length bs + k)
+
+  pub rows-are : (k : ℕ) → k < length (rowsOf lines) → isRow (noDataOf lines) (getD (rowsOf lines) k []) ≡ true
+  rows-are = rows-on (noDataOf lines) (rowsOf lines) (headOn lines ++ namedOn lines) test
+
+pub from-six : (text : List ℕ) → Named text → rowsOf (linesOf text) ≡ drop 6 (linesOf text)
+unfolding rowsOf
+from-six text word = rw (word-names text word)
+
+pub from-five : (text : List ℕ) → (Named text → ⊥) → rowsOf (linesOf text) ≡ drop 5 (linesOf text)
+unfolding rowsOf
+from-five text other = rw (other-names text other)
+
+pub levels-number : (lines : List (List ℕ)) → rowsFit (frameOf lines) (rowsOf lines) ≡ true
+    → length (levelsOf (rowsOf lines)) ≡ frameOf lines .rows * frameOf lines .columns
+levels-number lines fits =
+    let fit = fit-both (frameOf lines) (rowsOf lines) fits in
+    levels-length (frameOf lines .columns) (rowsOf lines) (fit .1) ∙ ap (λ (n : ℕ). n * frameOf lines .columns) (fit .0)
+
+module _ (text : List ℕ) (p : Passed (linesOf text)) where
+  laid-from : (first : ℕ) → rowsOf (linesOf text) ≡ drop first (linesOf text) → first ≤ length (linesOf text)
+      → Laid text (textLevels text) (textFrame text) first
+  laid-from first start there = record {
+    head = headed text (p .fault);
+    size = sized (linesOf text) first (p .fits) start there text refl;
+    number = levels-number (linesOf text) (p .fits);
+    level = level (linesOf text) first p start there (rows-are text (p .fault));
+  }
+
+  pub says-passed : Says text (textLevels text) (textFrame text)
+  says-passed = record {
+    named = λ word. laid-from 6 (from-six text word) (six-there text (p .fault) word);
+    unnamed = λ other. laid-from 5 (from-five text other) (five-there text (p .fault));
+  }
+
+-- a text that is not refused says its network
+pub says : (text : List ℕ) (headers room : ℕ) → readRefusal text headers room ≡ 0 → Says text (textLevels text) (textFrame text)
+says text headers room read = says-passed text (passed (linesOf text) headers room read)
+
+-- and so what a call leaves, where it does not refuse
+pub says-left : (text headers levels : List ℕ) → readRefusal text (length headers) (length levels) ≡ 0
+    → let header = headerAfter text headers levels in Says text (levelsIn header (levelsAfter text headers levels)) (frameIn header)
+says-left text headers levels read =
+    let on = eq-eqb (readRefusal text (length headers) (length levels)) 0 read in
+    let p = passed (linesOf text) (length headers) (length levels) read in
+    let size = levels-number (linesOf text) (p .fits) in
+    rw on (rw (take-at (textLevels text) (drop (length (textLevels text)) levels) (textFrame text .rows * textFrame text .columns) size)
+    (says-passed text p))
