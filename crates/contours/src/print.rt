@@ -4,6 +4,7 @@ use contour::core::MOST_EDGES;
 use contour::core::Progress;
 use libc::STDOUT_FILENO;
 use network::Frame;
+use sheet::intake::Turn;
 use sheet::put::put_refused;
 use sheet::put::put_start;
 use sheet::words::Given;
@@ -15,9 +16,11 @@ ghost use lib.ListN.{length, getD, take};
 ghost use Rattle.wkt.specs.Calls.{networkText};
 ghost use Rattle.wkt.specs.Parts.{Printable, linesFrom};
 ghost use Rattle.wkt.specs.Text.{textOf};
-ghost use Rattle.sheet.specs.Sheet.{lineStart, levelLine, sheetOf, refusedLine, lineBegun, mostText, overlongLine};
+ghost use Rattle.sheet.specs.Sheet.{lineStart, levelLine, sheetOf, refusedLine, lineBegun, overlongLine};
+ghost use Rattle.sheet.specs.Words.{Gathered};
 ghost use Rattle.sheet.specs.Drawing.{Accepted, Refused, Drawable};
 ghost use Rattle.sheet.specs.Due.{Due};
+ghost use Rattle.sheet.specs.Answer.{ReadWhole, ReadFailed, ReadFull, Answered};
 
 // The write of a part of the sheet, which is due at `at`. It answers the place past it.
 fn written(levels: &[u32], frame: Frame, asked: &[u32], at: usize, part: &[u8]) -> usize
@@ -32,12 +35,14 @@ fn written(levels: &[u32], frame: Frame, asked: &[u32], at: usize, part: &[u8]) 
 // The sheet of a network and words that are not refused.
 pub(crate) fn sheet(
     text: &[u8],
+    read: Turn,
     room: &[u32],
     given: Given,
     levels: &[u32],
     frame: Frame,
     asked: &[u32],
 )
+    requires { ⌜ ReadWhole read (now text) ⌝ }
     requires { ⌜ Accepted (now text) given (now room) (now levels) frame (now asked) ⌝ }
 {
     lines(levels, frame, asked);
@@ -168,38 +173,44 @@ fn parts(
 
 // The one line of a refusal: of a text and words that are refused, of bytes that can't be read on, and of bytes that
 // fill the buffer.
-pub(crate) fn refusal(text: &[u8], room: &[u32], given: Given, number: u32, line: u64)
-    requires { ⌜ Refused (now text) given (now room) number line ⌝ }
+pub(crate) fn refusal(text: &[u8], read: Turn, asked: &[u32], given: Given, number: u32, line: u64)
+    requires { ⌜ ReadWhole read (now text) ⌝ }
+    requires { ⌜ Refused (now text) given (now asked) number line ⌝ }
 {
-    refused(number, line);
+    refused(text, read, asked, given, number, line);
 }
 
-pub(crate) fn failure(text: &[u8], line: u64)
+pub(crate) fn failure(text: &[u8], read: Turn, asked: &[u32], given: Given, line: u64)
+    requires { ⌜ ReadFailed read (now text) ⌝ }
+    requires { ⌜ Gathered given (now asked) ⌝ }
     requires { ⌜ line ≡ lineBegun (now text) ⌝ }
 {
-    refused(17, line);
+    refused(text, read, asked, given, 17, line);
 }
 
-pub(crate) fn overlong(text: &[u8], line: u64)
-    requires { ⌜ length (now text) ≡ mostText ⌝ }
+pub(crate) fn overlong(text: &[u8], read: Turn, asked: &[u32], given: Given, line: u64)
+    requires { ⌜ ReadFull read (now text) ⌝ }
+    requires { ⌜ Gathered given (now asked) ⌝ }
     requires { ⌜ line ≡ overlongLine (now text) ⌝ }
 {
     if line == 0 {
-        refused(12, 0);
+        refused(text, read, asked, given, 12, 0);
         return;
     }
-    refused(17, line);
+    refused(text, read, asked, given, 17, line);
 }
 
-fn refused(number: u32, line: u64) {
+fn refused(text: &[u8], read: Turn, asked: &[u32], given: Given, number: u32, line: u64)
+    requires { ⌜ Answered read (now text) given (now asked) (refusedLine number line) ⌝ }
+{
     let mut room = [0u8; 64];
     let n = put_refused(&mut room, number, line);
-    write_refused(number, line, &room[..n]);
+    write(text, read, asked, given, &room[..n]);
 }
 
-// The write of it.
-fn write_refused(number: u32, line: u64, text: &[u8])
-    requires { ⌜ now text ≡ refusedLine number line ⌝ }
+// The one write of a refusal: no other text than what the reading and the words come to may be handed to it.
+fn write(text: &[u8], read: Turn, asked: &[u32], given: Given, out: &[u8])
+    requires { ⌜ Answered read (now text) given (now asked) (now out) ⌝ }
 {
-    io::write_all(STDOUT_FILENO, text);
+    io::write_all(STDOUT_FILENO, out);
 }

@@ -7,6 +7,7 @@ pub mod Levels
 pub mod Gathering
 pub mod Short
 pub mod Drawings
+pub mod Answers
 pub mod Order
 pub mod Telling
 pub mod Overlong

@@ -24,15 +24,12 @@ Inv-loop levels frame asked at₀ i₀ at i =
 abbrev μ-loop : tie.MeasureT-loop
 μ-loop levels frame asked at₀ i₀ at i = length asked - i
 
--- src/print.rt:51:51
 slice-aggregate-written : tie.Need-slice-aggregate-written Inv-loop μ-loop
 slice-aggregate-written c = search needs
 
--- src/print.rt:51:9
 written-requires : tie.Need-written-requires Inv-loop μ-loop
 written-requires c κs = let s = c .before .before .before in (s .pre, heading-due (now (s .args .levels)) (s .args .frame) (now (s .args .asked)))
 
--- src/print.rt:53:5
 loop-holds : tie.Need-loop-holds Inv-loop μ-loop
 loop-holds c =
     let a = c .before .before .before .before .args in (
@@ -41,7 +38,6 @@ loop-holds c =
       lines-long (now (a .levels)) (a .frame) (now (a .asked)) (c .written .result) (c .written .ensures),
     )
 
--- src/print.rt:54:9
 one-level-requires : tie.Need-one-level-requires Inv-loop μ-loop
 one-level-requires c κs =
     let s = c .before .before .before .before .before .before in
@@ -49,15 +45,12 @@ one-level-requires c κs =
     let l = c .before .loop in
     (s .pre, (omega arith, due-front (levelLine (now (a .levels)) (a .frame) (getD (now (a .asked)) (l .i) 0)) (levelLines (now (a .levels)) (a .frame) (drop (l .i + 1) (now (a .asked)))) (rw (lines-more (now (a .levels)) (a .frame) (now (a .asked)) (l .i) (omega arith)) at (l .inv .1))))
 
--- src/print.rt:55:9
 add-i : tie.Need-add-i Inv-loop μ-loop
 add-i c = search needs
 
--- src/print.rt:53:5
 loop-less : tie.Need-loop-less Inv-loop μ-loop
 loop-less c = omega arith
 
--- src/print.rt:53:5
 loop-again : tie.Need-loop-again Inv-loop μ-loop
 loop-again c =
     let a = c .before .before .before .before .before .before .before .args in
@@ -70,7 +63,6 @@ loop-again c =
       omega (arith, c .one-level .ensures, ap length e, length-append one rest, l .inv .2),
     )
 
--- src/print.rt:47:1
 returns : tie.Need-returns Inv-loop μ-loop
 returns c =
     let a = c .before .before .before .before .before .before .args in

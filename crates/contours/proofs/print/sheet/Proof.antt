@@ -7,11 +7,9 @@ use Rattle.contours.proofs.print.sheet.Reads as reads
 use Rattle.contours.proofs.print.sheet.Lts as lts
 use Rattle.contours.proofs.print.lines.Reads as lines-reads
 
--- src/print.rt:43:5
 lines-requires : tie.Need-lines-requires
-lines-requires c κs = drawable (c .before .before .before .before .pre)
+lines-requires c κs = drawable (c .before .before .before .before .pre .1)
 
--- src/print.rt:33:1
 returns : tie.Need-returns
 returns c = search needs
 
