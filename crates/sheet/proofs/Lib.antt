@@ -12,3 +12,4 @@ pub mod Order
 pub mod Telling
 pub mod Overlong
 pub mod Stays
+pub mod Within
