@@ -22,14 +22,15 @@ ghost use Rattle.sheet.specs.Drawing.{Accepted, Refused, Drawable};
 ghost use Rattle.sheet.specs.Due.{Due};
 ghost use Rattle.sheet.specs.Answer.{ReadWhole, ReadFailed, ReadFull, Answered};
 
-// The write of a part of the sheet, which is due at `at`. It answers the place past it.
-fn written(levels: &[u32], frame: Frame, asked: &[u32], at: usize, part: &[u8]) -> usize
+// The one write of a part of the sheet, which is due past the `sent` bytes before it. The count goes on with it, so that
+// no part is due twice.
+fn written(levels: &[u32], frame: Frame, asked: &[u32], sent: &mut usize, part: &[u8])
     requires { ⌜ Drawable (now levels) frame (now asked) ⌝ }
-    requires { ⌜ Due (sheetOf (now levels) frame (now asked)) at (now part) ⌝ }
-    ensures { λ r. ⌜ r ≡ at + length (now (part .entry)) ⌝ }
+    requires { ⌜ Due (sheetOf (now levels) frame (now asked)) (now sent) (now part) ⌝ }
+    ensures { λ _. ⌜ now (sent .exit) ≡ now (sent .entry) + length (now (part .entry)) ⌝ }
 {
     io::write_all(STDOUT_FILENO, part);
-    at + part.len()
+    *sent = *sent + part.len();
 }
 
 // The sheet of a network and words that are not refused.
@@ -53,46 +54,48 @@ fn lines(levels: &[u32], frame: Frame, asked: &[u32]) -> usize
     requires { ⌜ Drawable (now levels) frame (now asked) ⌝ }
     ensures { λ r. ⌜ r ≡ length (sheetOf (now (levels .entry)) frame (now (asked .entry))) ⌝ }
 {
-    let mut at = written(levels, frame, asked, 0, b"level;wkt\r\n");
+    let mut sent = 0;
+    written(levels, frame, asked, &mut sent, b"level;wkt\r\n");
     let mut i = 0;
     while i < asked.len() {
-        at = one_level(levels, frame, asked, i, at);
+        one_level(levels, frame, asked, i, &mut sent);
         i += 1;
     }
-    at
+    sent
 }
 
 // The line of level number i.
-fn one_level(levels: &[u32], frame: Frame, asked: &[u32], i: usize, at: usize) -> usize
+fn one_level(levels: &[u32], frame: Frame, asked: &[u32], i: usize, sent: &mut usize)
     requires { ⌜ Drawable (now levels) frame (now asked) ⌝ }
     requires { ⌜ i < length (now asked) ⌝ }
-    requires { ⌜ Due (sheetOf (now levels) frame (now asked)) at
+    requires { ⌜ Due (sheetOf (now levels) frame (now asked)) (now sent)
         (levelLine (now levels) frame (getD (now asked) i 0)) ⌝ }
-    ensures { λ r. ⌜ r ≡ at + length (levelLine (now (levels .entry)) frame (getD (now (asked .entry)) i 0)) ⌝ }
+    ensures { λ _. ⌜ now (sent .exit) ≡ now (sent .entry)
+        + length (levelLine (now (levels .entry)) frame (getD (now (asked .entry)) i 0)) ⌝ }
 {
     let v = asked[i];
-    let from = start(levels, frame, asked, i, at);
-    let to = contours(levels, frame, asked, v, from);
-    written(levels, frame, asked, to, b"\r\n")
+    start(levels, frame, asked, i, sent);
+    contours(levels, frame, asked, v, sent);
+    written(levels, frame, asked, sent, b"\r\n");
 }
 
 // The level and its semicolon.
-fn start(levels: &[u32], frame: Frame, asked: &[u32], i: usize, at: usize) -> usize
+fn start(levels: &[u32], frame: Frame, asked: &[u32], i: usize, sent: &mut usize)
     requires { ⌜ Drawable (now levels) frame (now asked) ⌝ }
     requires { ⌜ i < length (now asked) ⌝ }
-    requires { ⌜ Due (sheetOf (now levels) frame (now asked)) at (lineStart (getD (now asked) i 0)) ⌝ }
-    ensures { λ r. ⌜ r ≡ at + length (lineStart (getD (now (asked .entry)) i 0)) ⌝ }
+    requires { ⌜ Due (sheetOf (now levels) frame (now asked)) (now sent) (lineStart (getD (now asked) i 0)) ⌝ }
+    ensures { λ _. ⌜ now (sent .exit) ≡ now (sent .entry) + length (lineStart (getD (now (asked .entry)) i 0)) ⌝ }
 {
     let mut room = [0u8; 16];
     let n = put_start(&mut room, asked[i]);
-    written(levels, frame, asked, at, &room[..n])
+    written(levels, frame, asked, sent, &room[..n]);
 }
 
 // The contours of a network at a level.
-fn contours(levels: &[u32], frame: Frame, asked: &[u32], v: u32, from: usize) -> usize
+fn contours(levels: &[u32], frame: Frame, asked: &[u32], v: u32, sent: &mut usize)
     requires { ⌜ Drawable (now levels) frame (now asked) ⌝ }
-    requires { ⌜ Due (sheetOf (now levels) frame (now asked)) from (networkText (now levels) frame v) ⌝ }
-    ensures { λ r. ⌜ r ≡ from + length (networkText (now (levels .entry)) frame v) ⌝ }
+    requires { ⌜ Due (sheetOf (now levels) frame (now asked)) (now sent) (networkText (now levels) frame v) ⌝ }
+    ensures { λ _. ⌜ now (sent .exit) ≡ now (sent .entry) + length (networkText (now (levels .entry)) frame v) ⌝ }
 {
     let mut edges = [0u32; MOST_EDGES];
     let mut counts = [0u32; MOST_EDGES];
@@ -100,7 +103,7 @@ fn contours(levels: &[u32], frame: Frame, asked: &[u32], v: u32, from: usize) ->
     let nx = frame.columns as usize;
     let ny = frame.rows as usize;
     let got = contour::core::list_contours(levels, nx, ny, v, &mut edges, &mut counts, &mut closed);
-    fronts(levels, frame, asked, v, &edges, &counts, &closed, got, from)
+    fronts(levels, frame, asked, v, &edges, &counts, &closed, got, sent);
 }
 
 // The contours at the fronts of longer buffers.
@@ -113,17 +116,17 @@ fn fronts(
     counts: &[u32],
     closed: &[u32],
     got: Progress,
-    from: usize,
-) -> usize
+    sent: &mut usize,
+)
     requires { ⌜ Drawable (now levels) frame (now asked) ⌝ }
     requires { ⌜ ((got .edges ≤ length (now edges))
         × ((got .contours ≤ length (now counts)) × (got .contours ≤ length (now closed))))
         × Printable (now levels) frame v (take (got .edges) (now edges))
         (take (got .contours) (now counts)) (take (got .contours) (now closed)) ⌝ }
-    requires { ⌜ Due (sheetOf (now levels) frame (now asked)) from (textOf (now levels) frame v
+    requires { ⌜ Due (sheetOf (now levels) frame (now asked)) (now sent) (textOf (now levels) frame v
         (linesFrom (take (got .edges) (now edges)) (take (got .contours) (now counts))
         (take (got .contours) (now closed)))) ⌝ }
-    ensures { λ r. ⌜ r ≡ from + length (textOf (now (levels .entry)) frame v
+    ensures { λ _. ⌜ now (sent .exit) ≡ now (sent .entry) + length (textOf (now (levels .entry)) frame v
         (linesFrom (take (got .edges) (now (edges .entry))) (take (got .contours) (now (counts .entry)))
         (take (got .contours) (now (closed .entry))))) ⌝ }
 {
@@ -137,8 +140,8 @@ fn fronts(
         &edges[..n],
         &counts[..m],
         &closed[..m],
-        from,
-    )
+        sent,
+    );
 }
 
 // The text, part by part.
@@ -150,25 +153,23 @@ fn parts(
     edges: &[u32],
     counts: &[u32],
     closed: &[u32],
-    from: usize,
-) -> usize
+    sent: &mut usize,
+)
     requires { ⌜ Drawable (now levels) frame (now asked) ⌝ }
     requires { ⌜ Printable (now levels) frame v (now edges) (now counts) (now closed) ⌝ }
-    requires { ⌜ Due (sheetOf (now levels) frame (now asked)) from
+    requires { ⌜ Due (sheetOf (now levels) frame (now asked)) (now sent)
         (textOf (now levels) frame v (linesFrom (now edges) (now counts) (now closed))) ⌝ }
-    ensures { λ r. ⌜ r ≡ from + length (textOf (now (levels .entry)) frame v
+    ensures { λ _. ⌜ now (sent .exit) ≡ now (sent .entry) + length (textOf (now (levels .entry)) frame v
         (linesFrom (now (edges .entry)) (now (counts .entry)) (now (closed .entry)))) ⌝ }
 {
     let mut room = io::buffer();
     let mut at = first();
-    let mut done = from;
     while at.line <= counts.len() {
         let part = print_part(levels, frame, v, edges, counts, closed, at, &mut room);
         let n = part.size;
-        done = written(levels, frame, asked, done, &room[..n]);
+        written(levels, frame, asked, sent, &room[..n]);
         at = part.next;
     }
-    done
 }
 
 // The one line of a refusal: of a text and words that are refused, of bytes that can't be read on, and of bytes that

@@ -41,7 +41,7 @@ pub record Turned (text : List ℕ) (n : ℕ) (t : Turn) (text′ : List ℕ) : 
   pub long : length text′ ≡ length text
 
 -- All reads: the pieces that came, joined, stand at the front of the buffer. It is whole only where the last read
--- answered 0, though there was room, and failed only where it answered less; else the buffer is full. There is no fourth
+-- answered 0, though there was room, and failed only where it answered less; else the buffer is full: no fourth state
 pub record TextRead (t : Turn) (text : List ℕ) : Type 0 where
   pub pieces : List (List ℕ)
   pub last : ℤ

@@ -11,7 +11,8 @@ use Rattle.grid.specs.File.{faultLine}
 use Rattle.grid.specs.Read.{textFrame, textLevels}
 use Rattle.wkt.specs.Calls.{networkText}
 use Rattle.sheet.specs.Words.{wordLevel}
-use Rattle.sheet.specs.Sheet.{textRefusal, refusalOf, refusedLine, writtenOf, lineBegun, failedOf, overlongLine, overlongOf}
+use Rattle.sheet.specs.Sheet.{textRefusal, refusalOf, refusedLine, writtenOf}
+use Rattle.sheet.specs.Sheet.{lineBegun, failedOf, overlongLine, overlongOf}
 
 -- `level;wkt`
 abbrev pub headingText : List ℕ

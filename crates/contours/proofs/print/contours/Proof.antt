@@ -54,8 +54,8 @@ slice-aggregate-fronts-3 c = search needs
 
 fronts-requires : tie.Need-fronts-requires
 fronts-requires c κs =
-    let s = c .before .before .before .before .before .before .before .before .before .before .before .before .before .before in
-    let t = c .before .before .before .before .before .before .list-contours in
+    let s = c .before .before .before .before .before .before .before .before .before .before .before .before .before .before .before in
+    let t = c .before .before .before .before .before .before .before .list-contours in
     let l = t .ensures in (
       s .pre .0,
       (
@@ -66,8 +66,8 @@ fronts-requires c κs =
 
 returns : tie.Need-returns
 returns c =
-    let a = c .before .before .before .before .before .before .before .before .before .before .before .before .before .before .before .args in
-    c .fronts .ensures ∙ ap (λ (t : List ℕ). a .from + length t) (text-front (c .before .before .before .before .before .before .before .list-contours .ensures) (now (a .levels)) (a .frame) (a .v))
+    let a = c .before .before .before .before .before .before .before .before .before .before .before .before .before .before .before .before .args in
+    c .fronts .ensures ∙ ap (λ (t : List ℕ). a .sent .now + length t) (text-front (c .before .before .before .before .before .before .before .before .list-contours .ensures) (now (a .levels)) (a .frame) (a .v))
 
 pub contours-spec : {M : Type 1} → statement M
 contours-spec =

@@ -17,32 +17,32 @@ use Rattle.contours.proofs.print.one_level.Reads as one-level-reads
 use Rattle.contours.proofs.print.written.Reads as written-reads
 
 abbrev Inv-loop : tie.InvT-loop
-Inv-loop levels frame asked at₀ i₀ at i =
-    (i ≤ length asked) × (Due (sheetOf levels frame asked) at (levelLines levels frame (drop i asked)))
-    × (at + length (levelLines levels frame (drop i asked)) ≡ length (sheetOf levels frame asked))
+Inv-loop levels frame asked sent₀ i₀ sent i =
+    (i ≤ length asked) × (Due (sheetOf levels frame asked) sent (levelLines levels frame (drop i asked)))
+    × (sent + length (levelLines levels frame (drop i asked)) ≡ length (sheetOf levels frame asked))
 
 abbrev μ-loop : tie.MeasureT-loop
-μ-loop levels frame asked at₀ i₀ at i = length asked - i
+μ-loop levels frame asked sent₀ i₀ sent i = length asked - i
 
 slice-aggregate-written : tie.Need-slice-aggregate-written Inv-loop μ-loop
 slice-aggregate-written c = search needs
 
 written-requires : tie.Need-written-requires Inv-loop μ-loop
-written-requires c κs = let s = c .before .before .before in (s .pre, heading-due (now (s .args .levels)) (s .args .frame) (now (s .args .asked)))
+written-requires c κs = let s = c .before .before .before .before in (s .pre, heading-due (now (s .args .levels)) (s .args .frame) (now (s .args .asked)))
 
 loop-holds : tie.Need-loop-holds Inv-loop μ-loop
 loop-holds c =
-    let a = c .before .before .before .before .args in (
+    let a = c .before .before .before .before .before .args in (
       omega arith,
-      lines-due (now (a .levels)) (a .frame) (now (a .asked)) (c .written .result) (c .written .ensures),
-      lines-long (now (a .levels)) (a .frame) (now (a .asked)) (c .written .result) (c .written .ensures),
+      lines-due (now (a .levels)) (a .frame) (now (a .asked)) _ (c .written .ensures),
+      lines-long (now (a .levels)) (a .frame) (now (a .asked)) _ (c .written .ensures),
     )
 
 one-level-requires : tie.Need-one-level-requires Inv-loop μ-loop
 one-level-requires c κs =
-    let s = c .before .before .before .before .before .before in
+    let s = c .before .before .before .before .before .before .before .before in
     let a = s .args in
-    let l = c .before .loop in
+    let l = c .before .before .loop in
     (s .pre, (omega arith, due-front (levelLine (now (a .levels)) (a .frame) (getD (now (a .asked)) (l .i) 0)) (levelLines (now (a .levels)) (a .frame) (drop (l .i + 1) (now (a .asked)))) (rw (lines-more (now (a .levels)) (a .frame) (now (a .asked)) (l .i) (omega arith)) at (l .inv .1))))
 
 add-i : tie.Need-add-i Inv-loop μ-loop
@@ -53,8 +53,8 @@ loop-less c = omega arith
 
 loop-again : tie.Need-loop-again Inv-loop μ-loop
 loop-again c =
-    let a = c .before .before .before .before .before .before .before .args in
-    let l = c .before .before .loop in
+    let a = c .before .before .before .before .before .before .before .before .before .args in
+    let l = c .before .before .before .loop in
     let one = levelLine (now (a .levels)) (a .frame) (getD (now (a .asked)) (l .i) 0) in
     let rest = levelLines (now (a .levels)) (a .frame) (drop (l .i + 1) (now (a .asked))) in
     let e = lines-more (now (a .levels)) (a .frame) (now (a .asked)) (l .i) (omega arith) in (
@@ -65,7 +65,7 @@ loop-again c =
 
 returns : tie.Need-returns Inv-loop μ-loop
 returns c =
-    let a = c .before .before .before .before .before .before .args in
+    let a = c .before .before .before .before .before .before .before .args in
     omega (arith, c .before .loop .inv .2, ap length (lines-none (now (a .levels)) (a .frame) (now (a .asked)) (c .before .loop .i) (omega arith)))
 
 pub lines-spec : {M : Type 1} → statement M

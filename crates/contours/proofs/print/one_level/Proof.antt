@@ -33,26 +33,26 @@ shared-slice-read-v c = search needs
 
 start-requires : tie.Need-start-requires
 start-requires c κs =
-    let s = c .before .before .before in
+    let s = c .before .before .before .before in
     (s .pre .0, (s .pre .1 .0, due-front (lineStart (v s)) (text s ++ lineEnd) (s .pre .1 .1)))
 
 contours-requires : tie.Need-contours-requires
 contours-requires c κs =
-    let s = c .before .before .before .before in
-    (s .pre .0, rw (c .start .ensures) (due-front (text s) lineEnd (due-rest (lineStart (v s)) (text s ++ lineEnd) (s .pre .1 .1))))
+    let s = c .before .before .before .before .before .before in
+    (s .pre .0, rw (c .before .start .ensures) (due-front (text s) lineEnd (due-rest (lineStart (v s)) (text s ++ lineEnd) (s .pre .1 .1))))
 
 slice-aggregate-written : tie.Need-slice-aggregate-written
 slice-aggregate-written c = search needs
 
 written-requires : tie.Need-written-requires
 written-requires c κs =
-    let s = c .before .before .before .before .before .before in
-    (s .pre .0, rw (c .before .contours .ensures, c .before .before .start .ensures) (due-rest (text s) lineEnd (due-rest (lineStart (v s)) (text s ++ lineEnd) (s .pre .1 .1))))
+    let s = c .before .before .before .before .before .before .before .before .before in
+    (s .pre .0, rw (c .before .before .contours .ensures, c .before .before .before .before .start .ensures) (due-rest (text s) lineEnd (due-rest (lineStart (v s)) (text s ++ lineEnd) (s .pre .1 .1))))
 
 returns : tie.Need-returns
 returns c =
-    let s = c .before .before .before .before .before .before .before in
-    omega (arith, c .written .ensures, c .before .before .contours .ensures, c .before .before .before .start .ensures, line-length (now (s .args .levels)) (s .args .frame) (v s))
+    let s = c .before .before .before .before .before .before .before .before .before .before in
+    omega (arith, c .written .ensures, c .before .before .before .contours .ensures, c .before .before .before .before .before .start .ensures, line-length (now (s .args .levels)) (s .args .frame) (v s))
 
 pub one-level-spec : {M : Type 1} → statement M
 one-level-spec =

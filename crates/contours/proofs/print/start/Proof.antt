@@ -27,16 +27,16 @@ put-start-requires : tie.Need-put-start-requires
 put-start-requires c κs = let s = c .before .before .before .before in (omega (arith, s .pre .0 .most (s .args .i) (s .pre .1 .0)), omega arith)
 
 array-share-prefix-room : tie.Need-array-share-prefix-room
-array-share-prefix-room c = wrote-fits (c .before .put-start .ensures)
+array-share-prefix-room c = wrote-fits (c .before .before .put-start .ensures)
 
 slice-aggregate-written : tie.Need-slice-aggregate-written
-slice-aggregate-written c = sym (length-take-le _ _ (wrote-fits (c .before .before .put-start .ensures)))
+slice-aggregate-written c = sym (length-take-le _ _ (wrote-fits (c .before .before .before .put-start .ensures)))
 
 written-requires : tie.Need-written-requires
-written-requires c κs = let s = c .before .before .before .before .before .before .before in (s .pre .0, rw (wrote-front (c .before .before .put-start .ensures)) (s .pre .1 .1))
+written-requires c κs = let s = c .before .before .before .before .before .before .before .before in (s .pre .0, rw (wrote-front (c .before .before .before .put-start .ensures)) (s .pre .1 .1))
 
 returns : tie.Need-returns
-returns c = let s = c .before .before .before .before .before .before .before .before in c .written .ensures ∙ ap (λ (t : List ℕ). s .args .at + length t) (wrote-front (c .before .before .before .put-start .ensures))
+returns c = let s = c .before .before .before .before .before .before .before .before .before in c .written .ensures ∙ ap (λ (t : List ℕ). s .args .sent .now + length t) (wrote-front (c .before .before .before .before .put-start .ensures))
 
 pub start-spec : {M : Type 1} → statement M
 start-spec =
