@@ -46,8 +46,14 @@ pub(crate) fn sheet(
     requires { ⌜ ReadWhole read (now text) ⌝ }
     requires { ⌜ Accepted (now text) given (now room) (now levels) frame (now asked) ⌝ }
 {
-    lines(levels, frame, asked);
+    let sent = lines(levels, frame, asked);
+    ended(levels, frame, asked, sent);
 }
+
+// The end of the sheet, which asks that all of it was sent.
+fn ended(levels: &[u32], frame: Frame, asked: &[u32], sent: usize)
+    requires { ⌜ sent ≡ length (sheetOf (now levels) frame (now asked)) ⌝ }
+{}
 
 // Its heading and its lines, to its end.
 fn lines(levels: &[u32], frame: Frame, asked: &[u32]) -> usize
