@@ -1,4 +1,4 @@
--- Which line is told of bytes that can't be read on, and of bytes that fill the room. Assumes nothing.
+-- How a refusal is spelled, and which line is told of bytes that can't be read on, and of bytes that fill the room. Assumes nothing.
 use Prim.Native.Nat.{ℕ, zero, suc, _+_, _≤_, _<_}
 use mathlib.Core.Path.{_≡_, refl, sym, ap, _∙_}
 use mathlib.Core.Bool.{Bool, true, false, cond, _&&_, and-false}
@@ -9,12 +9,17 @@ use lib.Dec.{eqb, leb, ltb}
 use lib.ListN.{length}
 use Rattle.refusal.proofs.Laws.{and-right}
 use Rattle.text.specs.Line.{onto, linesOf}
+use Rattle.text.specs.Number.{shown}
 use Rattle.text.proofs.Digits.{either}
 use Rattle.grid.specs.File.{faultLine}
 use Rattle.sheet.specs.Sheet.{refusedLine, lineBegun, overlongLine, overlongOf}
-use Rattle.sheet.specs.Told.{lineEnds, FailsPast, TellsWithin}
+use Rattle.sheet.specs.Told.{lineEnds, RefusalSpelled, FailsPast, TellsWithin}
 use Rattle.sheet.proofs.Begun.{overlong-head, overlong-ended}
 use Rattle.sheet.proofs.Stays.{fault-back}
+
+pub refusal-spelled : RefusalSpelled
+unfolding refusedLine shown
+refusal-spelled = record { each = λ number line. refl; of-line = refl; of-whole = refl }
 
 onto-many : (c : ℕ) (ls : List (List ℕ)) → 1 ≤ length ls → length (onto c ls) ≡ length ls
 onto-many c [] h = absurd (omega arith)

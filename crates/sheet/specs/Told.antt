@@ -5,7 +5,8 @@ use mathlib.Core.Bool.{cond, _&&_}
 use mathlib.Core.List.{List, [], _∷_, _++_}
 use lib.Dec.{eqb}
 use lib.ListN.{length, getD}
-use Rattle.text.specs.Number.{showLevel}
+use Rattle.text.specs.Number.{shown, showLevel}
+use Rattle.text.specs.Spelled.{bytes}
 use Rattle.text.specs.Line.{linesOf}
 use Rattle.grid.specs.File.{faultLine}
 use Rattle.grid.specs.Read.{textFrame, textLevels}
@@ -52,6 +53,14 @@ pub record Judged (text : List ℕ) (words : List (List ℕ)) : Type 0 where
       → writtenOf text words ≡ refusedLine 14 0
   pub drawn : textRefusal text ≡ 0 → AllSpell words → 1 ≤ length words → length words ≤ 15000
       → refusalOf text words ≡ 0
+
+-- The line of a refusal: `refused,`, the number, a comma and the line, each in as many digits as it needs, and a line end
+pub record RefusalSpelled : Type 0 where
+  pub each : (number line : ℕ)
+      → refusedLine number line
+      ≡ bytes "refused," ++ (shown 20 number ++ (bytes "," ++ (shown 20 line ++ (13 ∷ 10 ∷ []))))
+  pub of-line : refusedLine 17 65542 ≡ bytes "refused,17,65542" ++ (13 ∷ 10 ∷ [])
+  pub of-whole : refusedLine 12 0 ≡ bytes "refused,12,0" ++ (13 ∷ 10 ∷ [])
 
 -- how many line ends a text has: places of a CR, 13, with an LF, 10, behind it
 unfoldable pub lineEnds : List ℕ → ℕ
