@@ -17,6 +17,7 @@ use sheet::words::MOST_LEVELS;
 use sheet::words::words_refusal;
 ghost use mathlib.Core.Path.{_≡_};
 ghost use lib.ListN.{length};
+ghost use Rattle.sheet.specs.Answer.{ReadWhole, ReadFailed, ReadFull};
 ghost use Rattle.sheet.specs.Intake.{TextRead};
 ghost use Rattle.sheet.specs.Sheet.{textRefusal, refusedAt, mostText};
 ghost use Rattle.sheet.specs.Words.{Gathered, mostLevels, givenRefusal};
@@ -34,7 +35,7 @@ fn main() {
     answer(&text, read, &asked, given);
 }
 
-// What the reading came to.
+// What the reading came to: only a network that was read to its end is judged.
 fn answer(text: &[u8], read: Turn, asked: &[u32], given: Given)
     requires { ⌜ TextRead read (now text) ⌝ }
     requires { ⌜ length (now text) ≡ mostText ⌝ }
@@ -44,34 +45,39 @@ fn answer(text: &[u8], read: Turn, asked: &[u32], given: Given)
     let size = read.size;
     let state = read.state;
     if state == WHOLE {
-        judged(&text[..size], asked, given);
+        judged(&text[..size], read, asked, given);
         return;
     }
     if state == FAILED {
-        failed(&text[..size]);
+        failed(&text[..size], read, asked, given);
         return;
     }
-    overlong(text);
+    overlong(text, read, asked, given);
 }
 
 // The bytes can't be read on, which is never taken for their end.
-fn failed(text: &[u8]) {
+fn failed(text: &[u8], read: Turn, asked: &[u32], given: Given)
+    requires { ⌜ Gathered given (now asked) ⌝ }
+    requires { ⌜ ReadFailed read (now text) ⌝ }
+{
     let line = line_begun(text);
-    print::failure(text, line as u64);
+    print::failure(text, read, asked, given, line as u64);
     say::of_read_error(line as u64);
 }
 
 // The bytes fill the buffer.
-fn overlong(text: &[u8])
-    requires { ⌜ length (now text) ≡ mostText ⌝ }
+fn overlong(text: &[u8], read: Turn, asked: &[u32], given: Given)
+    requires { ⌜ Gathered given (now asked) ⌝ }
+    requires { ⌜ ReadFull read (now text) ⌝ }
 {
     let line = overlong_line(text);
-    print::overlong(text, line as u64);
+    print::overlong(text, read, asked, given, line as u64);
     say::of_overlong(line as u64);
 }
 
 // The whole network is judged, and then the words.
-fn judged(text: &[u8], asked: &[u32], given: Given)
+fn judged(text: &[u8], read: Turn, asked: &[u32], given: Given)
+    requires { ⌜ ReadWhole read (now text) ⌝ }
     requires { ⌜ Gathered given (now asked) ⌝ }
     requires { ⌜ length (now asked) ≡ mostLevels ⌝ }
 {
@@ -79,19 +85,20 @@ fn judged(text: &[u8], asked: &[u32], given: Given)
     let mut levels = [0u32; 65536];
     let why = grid::read::read_network(text, &mut header, &mut levels);
     if why != 0 {
-        refuse_network(text, why, asked, given);
+        refuse_network(text, read, why, asked, given);
         return;
     }
-    with_words(text, &header, &levels, asked, given);
+    with_words(text, read, &header, &levels, asked, given);
 }
 
 // The network is refused.
-fn refuse_network(text: &[u8], why: u32, asked: &[u32], given: Given)
+fn refuse_network(text: &[u8], read: Turn, why: u32, asked: &[u32], given: Given)
+    requires { ⌜ ReadWhole read (now text) ⌝ }
     requires { ⌜ Gathered given (now asked) ⌝ }
     requires { ⌜ (why ≡ textRefusal (now text)) × (why ≡ 0 → ⊥) ⌝ }
 {
     let line = refused_line(text, why);
-    print::refusal(text, asked, given, why, line);
+    print::refusal(text, read, asked, given, why, line);
     say::of_network(why, line);
 }
 
@@ -106,7 +113,8 @@ fn refused_line(text: &[u8], why: u32) -> u64
 }
 
 // The words, for a network that is not refused.
-fn with_words(text: &[u8], header: &[u32], levels: &[u32], asked: &[u32], given: Given)
+fn with_words(text: &[u8], read: Turn, header: &[u32], levels: &[u32], asked: &[u32], given: Given)
+    requires { ⌜ ReadWhole read (now text) ⌝ }
     requires { ⌜ Gathered given (now asked) ⌝ }
     requires { ⌜ length (now asked) ≡ mostLevels ⌝ }
     requires { ⌜ textRefusal (now text) ≡ 0 ⌝ }
@@ -114,15 +122,16 @@ fn with_words(text: &[u8], header: &[u32], levels: &[u32], asked: &[u32], given:
 {
     let why = words_refusal(given);
     if why != 0 {
-        print::refusal(text, asked, given, why, 0);
+        print::refusal(text, read, asked, given, why, 0);
         say::of_levels(why);
         return;
     }
-    draw(text, header, levels, asked, given);
+    draw(text, read, header, levels, asked, given);
 }
 
 // The sheet of a network and words that are not refused.
-fn draw(text: &[u8], header: &[u32], levels: &[u32], asked: &[u32], given: Given)
+fn draw(text: &[u8], read: Turn, header: &[u32], levels: &[u32], asked: &[u32], given: Given)
+    requires { ⌜ ReadWhole read (now text) ⌝ }
     requires { ⌜ Gathered given (now asked) ⌝ }
     requires { ⌜ length (now asked) ≡ mostLevels ⌝ }
     requires { ⌜ textRefusal (now text) ≡ 0 ⌝ }
@@ -140,6 +149,7 @@ fn draw(text: &[u8], header: &[u32], levels: &[u32], asked: &[u32], given: Given
     let count = given.count;
     print::sheet(
         text,
+        read,
         asked,
         given,
         &levels[..points],

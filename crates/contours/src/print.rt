@@ -4,6 +4,7 @@ use contour::core::MOST_EDGES;
 use contour::core::Progress;
 use libc::STDOUT_FILENO;
 use network::Frame;
+use sheet::intake::Turn;
 use sheet::put::put_refused;
 use sheet::put::put_start;
 use sheet::words::Given;
@@ -15,79 +16,92 @@ ghost use lib.ListN.{length, getD, take};
 ghost use Rattle.wkt.specs.Calls.{networkText};
 ghost use Rattle.wkt.specs.Parts.{Printable, linesFrom};
 ghost use Rattle.wkt.specs.Text.{textOf};
-ghost use Rattle.sheet.specs.Sheet.{lineStart, levelLine, sheetOf, refusedLine, lineBegun, mostText, overlongLine};
+ghost use Rattle.sheet.specs.Sheet.{lineStart, levelLine, sheetOf, refusedLine, lineBegun, overlongLine};
+ghost use Rattle.sheet.specs.Words.{Gathered};
 ghost use Rattle.sheet.specs.Drawing.{Accepted, Refused, Drawable};
 ghost use Rattle.sheet.specs.Due.{Due};
+ghost use Rattle.sheet.specs.Answer.{ReadWhole, ReadFailed, ReadFull, Answered};
 
-// The write of a part of the sheet, which is due at `at`. It answers the place past it.
-fn written(levels: &[u32], frame: Frame, asked: &[u32], at: usize, part: &[u8]) -> usize
+// The one write of a part of the sheet, which is due past the `sent` bytes before it. The count goes on with it, so that
+// no part is due twice.
+fn written(levels: &[u32], frame: Frame, asked: &[u32], sent: &mut usize, part: &[u8])
     requires { ⌜ Drawable (now levels) frame (now asked) ⌝ }
-    requires { ⌜ Due (sheetOf (now levels) frame (now asked)) at (now part) ⌝ }
-    ensures { λ r. ⌜ r ≡ at + length (now (part .entry)) ⌝ }
+    requires { ⌜ Due (sheetOf (now levels) frame (now asked)) (now sent) (now part) ⌝ }
+    ensures { λ _. ⌜ now (sent .exit) ≡ now (sent .entry) + length (now (part .entry)) ⌝ }
 {
     io::write_all(STDOUT_FILENO, part);
-    at + part.len()
+    *sent = *sent + part.len();
 }
 
 // The sheet of a network and words that are not refused.
 pub(crate) fn sheet(
     text: &[u8],
+    read: Turn,
     room: &[u32],
     given: Given,
     levels: &[u32],
     frame: Frame,
     asked: &[u32],
 )
+    requires { ⌜ ReadWhole read (now text) ⌝ }
     requires { ⌜ Accepted (now text) given (now room) (now levels) frame (now asked) ⌝ }
 {
-    lines(levels, frame, asked);
+    let sent = lines(levels, frame, asked);
+    ended(levels, frame, asked, sent);
 }
+
+// The end of the sheet, which asks that all of it was sent.
+fn ended(levels: &[u32], frame: Frame, asked: &[u32], sent: usize)
+    requires { ⌜ sent ≡ length (sheetOf (now levels) frame (now asked)) ⌝ }
+{}
 
 // Its heading and its lines, to its end.
 fn lines(levels: &[u32], frame: Frame, asked: &[u32]) -> usize
     requires { ⌜ Drawable (now levels) frame (now asked) ⌝ }
     ensures { λ r. ⌜ r ≡ length (sheetOf (now (levels .entry)) frame (now (asked .entry))) ⌝ }
 {
-    let mut at = written(levels, frame, asked, 0, b"level;wkt\r\n");
+    let mut sent = 0;
+    written(levels, frame, asked, &mut sent, b"level;wkt\r\n");
     let mut i = 0;
     while i < asked.len() {
-        at = one_level(levels, frame, asked, i, at);
+        one_level(levels, frame, asked, i, &mut sent);
         i += 1;
     }
-    at
+    sent
 }
 
 // The line of level number i.
-fn one_level(levels: &[u32], frame: Frame, asked: &[u32], i: usize, at: usize) -> usize
+fn one_level(levels: &[u32], frame: Frame, asked: &[u32], i: usize, sent: &mut usize)
     requires { ⌜ Drawable (now levels) frame (now asked) ⌝ }
     requires { ⌜ i < length (now asked) ⌝ }
-    requires { ⌜ Due (sheetOf (now levels) frame (now asked)) at
+    requires { ⌜ Due (sheetOf (now levels) frame (now asked)) (now sent)
         (levelLine (now levels) frame (getD (now asked) i 0)) ⌝ }
-    ensures { λ r. ⌜ r ≡ at + length (levelLine (now (levels .entry)) frame (getD (now (asked .entry)) i 0)) ⌝ }
+    ensures { λ _. ⌜ now (sent .exit) ≡ now (sent .entry)
+        + length (levelLine (now (levels .entry)) frame (getD (now (asked .entry)) i 0)) ⌝ }
 {
     let v = asked[i];
-    let from = start(levels, frame, asked, i, at);
-    let to = contours(levels, frame, asked, v, from);
-    written(levels, frame, asked, to, b"\r\n")
+    start(levels, frame, asked, i, sent);
+    contours(levels, frame, asked, v, sent);
+    written(levels, frame, asked, sent, b"\r\n");
 }
 
 // The level and its semicolon.
-fn start(levels: &[u32], frame: Frame, asked: &[u32], i: usize, at: usize) -> usize
+fn start(levels: &[u32], frame: Frame, asked: &[u32], i: usize, sent: &mut usize)
     requires { ⌜ Drawable (now levels) frame (now asked) ⌝ }
     requires { ⌜ i < length (now asked) ⌝ }
-    requires { ⌜ Due (sheetOf (now levels) frame (now asked)) at (lineStart (getD (now asked) i 0)) ⌝ }
-    ensures { λ r. ⌜ r ≡ at + length (lineStart (getD (now (asked .entry)) i 0)) ⌝ }
+    requires { ⌜ Due (sheetOf (now levels) frame (now asked)) (now sent) (lineStart (getD (now asked) i 0)) ⌝ }
+    ensures { λ _. ⌜ now (sent .exit) ≡ now (sent .entry) + length (lineStart (getD (now (asked .entry)) i 0)) ⌝ }
 {
     let mut room = [0u8; 16];
     let n = put_start(&mut room, asked[i]);
-    written(levels, frame, asked, at, &room[..n])
+    written(levels, frame, asked, sent, &room[..n]);
 }
 
 // The contours of a network at a level.
-fn contours(levels: &[u32], frame: Frame, asked: &[u32], v: u32, from: usize) -> usize
+fn contours(levels: &[u32], frame: Frame, asked: &[u32], v: u32, sent: &mut usize)
     requires { ⌜ Drawable (now levels) frame (now asked) ⌝ }
-    requires { ⌜ Due (sheetOf (now levels) frame (now asked)) from (networkText (now levels) frame v) ⌝ }
-    ensures { λ r. ⌜ r ≡ from + length (networkText (now (levels .entry)) frame v) ⌝ }
+    requires { ⌜ Due (sheetOf (now levels) frame (now asked)) (now sent) (networkText (now levels) frame v) ⌝ }
+    ensures { λ _. ⌜ now (sent .exit) ≡ now (sent .entry) + length (networkText (now (levels .entry)) frame v) ⌝ }
 {
     let mut edges = [0u32; MOST_EDGES];
     let mut counts = [0u32; MOST_EDGES];
@@ -95,7 +109,7 @@ fn contours(levels: &[u32], frame: Frame, asked: &[u32], v: u32, from: usize) ->
     let nx = frame.columns as usize;
     let ny = frame.rows as usize;
     let got = contour::core::list_contours(levels, nx, ny, v, &mut edges, &mut counts, &mut closed);
-    fronts(levels, frame, asked, v, &edges, &counts, &closed, got, from)
+    fronts(levels, frame, asked, v, &edges, &counts, &closed, got, sent);
 }
 
 // The contours at the fronts of longer buffers.
@@ -108,17 +122,17 @@ fn fronts(
     counts: &[u32],
     closed: &[u32],
     got: Progress,
-    from: usize,
-) -> usize
+    sent: &mut usize,
+)
     requires { ⌜ Drawable (now levels) frame (now asked) ⌝ }
     requires { ⌜ ((got .edges ≤ length (now edges))
         × ((got .contours ≤ length (now counts)) × (got .contours ≤ length (now closed))))
         × Printable (now levels) frame v (take (got .edges) (now edges))
         (take (got .contours) (now counts)) (take (got .contours) (now closed)) ⌝ }
-    requires { ⌜ Due (sheetOf (now levels) frame (now asked)) from (textOf (now levels) frame v
+    requires { ⌜ Due (sheetOf (now levels) frame (now asked)) (now sent) (textOf (now levels) frame v
         (linesFrom (take (got .edges) (now edges)) (take (got .contours) (now counts))
         (take (got .contours) (now closed)))) ⌝ }
-    ensures { λ r. ⌜ r ≡ from + length (textOf (now (levels .entry)) frame v
+    ensures { λ _. ⌜ now (sent .exit) ≡ now (sent .entry) + length (textOf (now (levels .entry)) frame v
         (linesFrom (take (got .edges) (now (edges .entry))) (take (got .contours) (now (counts .entry)))
         (take (got .contours) (now (closed .entry))))) ⌝ }
 {
@@ -132,8 +146,8 @@ fn fronts(
         &edges[..n],
         &counts[..m],
         &closed[..m],
-        from,
-    )
+        sent,
+    );
 }
 
 // The text, part by part.
@@ -145,61 +159,65 @@ fn parts(
     edges: &[u32],
     counts: &[u32],
     closed: &[u32],
-    from: usize,
-) -> usize
+    sent: &mut usize,
+)
     requires { ⌜ Drawable (now levels) frame (now asked) ⌝ }
     requires { ⌜ Printable (now levels) frame v (now edges) (now counts) (now closed) ⌝ }
-    requires { ⌜ Due (sheetOf (now levels) frame (now asked)) from
+    requires { ⌜ Due (sheetOf (now levels) frame (now asked)) (now sent)
         (textOf (now levels) frame v (linesFrom (now edges) (now counts) (now closed))) ⌝ }
-    ensures { λ r. ⌜ r ≡ from + length (textOf (now (levels .entry)) frame v
+    ensures { λ _. ⌜ now (sent .exit) ≡ now (sent .entry) + length (textOf (now (levels .entry)) frame v
         (linesFrom (now (edges .entry)) (now (counts .entry)) (now (closed .entry)))) ⌝ }
 {
     let mut room = io::buffer();
     let mut at = first();
-    let mut done = from;
     while at.line <= counts.len() {
         let part = print_part(levels, frame, v, edges, counts, closed, at, &mut room);
         let n = part.size;
-        done = written(levels, frame, asked, done, &room[..n]);
+        written(levels, frame, asked, sent, &room[..n]);
         at = part.next;
     }
-    done
 }
 
 // The one line of a refusal: of a text and words that are refused, of bytes that can't be read on, and of bytes that
 // fill the buffer.
-pub(crate) fn refusal(text: &[u8], room: &[u32], given: Given, number: u32, line: u64)
-    requires { ⌜ Refused (now text) given (now room) number line ⌝ }
+pub(crate) fn refusal(text: &[u8], read: Turn, asked: &[u32], given: Given, number: u32, line: u64)
+    requires { ⌜ ReadWhole read (now text) ⌝ }
+    requires { ⌜ Refused (now text) given (now asked) number line ⌝ }
 {
-    refused(number, line);
+    refused(text, read, asked, given, number, line);
 }
 
-pub(crate) fn failure(text: &[u8], line: u64)
+pub(crate) fn failure(text: &[u8], read: Turn, asked: &[u32], given: Given, line: u64)
+    requires { ⌜ ReadFailed read (now text) ⌝ }
+    requires { ⌜ Gathered given (now asked) ⌝ }
     requires { ⌜ line ≡ lineBegun (now text) ⌝ }
 {
-    refused(17, line);
+    refused(text, read, asked, given, 17, line);
 }
 
-pub(crate) fn overlong(text: &[u8], line: u64)
-    requires { ⌜ length (now text) ≡ mostText ⌝ }
+pub(crate) fn overlong(text: &[u8], read: Turn, asked: &[u32], given: Given, line: u64)
+    requires { ⌜ ReadFull read (now text) ⌝ }
+    requires { ⌜ Gathered given (now asked) ⌝ }
     requires { ⌜ line ≡ overlongLine (now text) ⌝ }
 {
     if line == 0 {
-        refused(12, 0);
+        refused(text, read, asked, given, 12, 0);
         return;
     }
-    refused(17, line);
+    refused(text, read, asked, given, 17, line);
 }
 
-fn refused(number: u32, line: u64) {
+fn refused(text: &[u8], read: Turn, asked: &[u32], given: Given, number: u32, line: u64)
+    requires { ⌜ Answered read (now text) given (now asked) (refusedLine number line) ⌝ }
+{
     let mut room = [0u8; 64];
     let n = put_refused(&mut room, number, line);
-    write_refused(number, line, &room[..n]);
+    write(text, read, asked, given, &room[..n]);
 }
 
-// The write of it.
-fn write_refused(number: u32, line: u64, text: &[u8])
-    requires { ⌜ now text ≡ refusedLine number line ⌝ }
+// The one write of a refusal: no other text than what the reading and the words come to may be handed to it.
+fn write(text: &[u8], read: Turn, asked: &[u32], given: Given, out: &[u8])
+    requires { ⌜ Answered read (now text) given (now asked) (now out) ⌝ }
 {
-    io::write_all(STDOUT_FILENO, text);
+    io::write_all(STDOUT_FILENO, out);
 }

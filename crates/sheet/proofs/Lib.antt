@@ -7,7 +7,9 @@ pub mod Levels
 pub mod Gathering
 pub mod Short
 pub mod Drawings
+pub mod Answers
 pub mod Order
 pub mod Telling
 pub mod Overlong
 pub mod Stays
+pub mod Within

@@ -118,6 +118,14 @@ fault-stays s u some ended =
     first-same 1 f (testsOf (linesOf s)) (testsOf (linesOf (s ++ u))) (omega arith) some refl
     (λ i h. test-same (linesOf s) (linesOf (s ++ u)) f (λ k l. line-stays k s u (omega arith)) i (omega arith))
 
+-- and back: the first at fault of the longer text is that of its front, where the front ends it
+pub fault-back : (s u : List ℕ) → 1 ≤ faultLine (linesOf (s ++ u)) → faultLine (linesOf (s ++ u)) < lineBegun s → faultLine (linesOf s) ≡ faultLine (linesOf (s ++ u))
+unfolding faultLine
+fault-back s u some ended =
+    let f = faultLine (linesOf (s ++ u)) in
+    first-same 1 f (testsOf (linesOf (s ++ u))) (testsOf (linesOf s)) (omega arith) some refl
+    (λ i h. test-same (linesOf (s ++ u)) (linesOf s) f (λ k l. let x = line-stays k s u (omega arith) in (sym (x .0), x .2, x .1)) i (omega arith))
+
 -- a line that is told, and that the text ends
 overlong-stays : (text u : List ℕ) → 1 ≤ overlongLine text → overlongLine text < lineBegun text → faultLine (linesOf (text ++ u)) ≡ overlongLine text
 unfolding overlongLine

@@ -54,6 +54,12 @@ turn-none (pos k) n room h ne =
     (λ no. absurd (ne (rw no refl)))
 turn-none (negsuc k) n room h ne = (refl, (λ w. absurd (omega arith)), (λ _. refl))
 
+turn-known : (z : ℤ) (n room : ℕ) → turnOf z n room .state ≤ 2
+unfolding turnOf
+turn-known (pos k) n room =
+    either (eqb (min k (room - n)) 0) (λ yes. rw yes (omega arith)) (λ no. rw no (omega arith))
+turn-known (negsuc k) n room = omega arith
+
 -- ---- all reads
 
 joined-snoc : (ps : List (List ℕ)) (p : List ℕ) → joinedOf (ps ++ (p ∷ [])) ≡ joinedOf ps ++ p
@@ -107,6 +113,7 @@ module _ {text text′ : List ℕ} {n : ℕ} {t : Turn} (k : Standing text n) (u
         ends = λ e. (c .1 (sym state-is ∙ e), omega (arith, u .long));
         fails = λ e. c .2 (sym state-is ∙ e);
         full = λ e. absurd (ne e);
+        known = omega (arith, state-is, turn-known (u .answer) n (length text));
       }
 
 pub standing-full : {text : List ℕ} {n : ℕ} → Standing text n → length text ≤ n → TextRead (record { size = n; state = reading }) text
@@ -119,4 +126,5 @@ standing-full {text} {n} k h =
       ends = λ e. absurd (omega arith);
       fails = λ e. absurd (omega arith);
       full = λ e. omega (arith, k .within);
+      known = omega arith;
     }

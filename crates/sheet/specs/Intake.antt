@@ -41,7 +41,7 @@ pub record Turned (text : List ℕ) (n : ℕ) (t : Turn) (text′ : List ℕ) : 
   pub long : length text′ ≡ length text
 
 -- All reads: the pieces that came, joined, stand at the front of the buffer. It is whole only where the last read
--- answered 0, though there was room, and failed only where it answered less; else the buffer is full
+-- answered 0, though there was room, and failed only where it answered less; else the buffer is full: no fourth state
 pub record TextRead (t : Turn) (text : List ℕ) : Type 0 where
   pub pieces : List (List ℕ)
   pub last : ℤ
@@ -50,3 +50,4 @@ pub record TextRead (t : Turn) (text : List ℕ) : Type 0 where
   pub ends : t .state ≡ whole → (last ≡ pos 0) × (t .size < length text)
   pub fails : t .state ≡ failed → ltZ last (pos 0) ≡ true
   pub full : t .state ≡ reading → t .size ≡ length text
+  pub known : t .state ≤ 2

@@ -3,4 +3,5 @@ pub mod Sheet
 pub mod Due
 pub mod Intake
 pub mod Drawing
+pub mod Answer
 pub mod Told

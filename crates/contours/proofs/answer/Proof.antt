@@ -2,6 +2,7 @@
 use mathlib.Core.Path.{sym}
 use native.Mathlib.Omega.{arith}
 use lib.Seq.{length-take-le}
+use Rattle.sheet.proofs.Answers.{came, came-full}
 use borrow.Author.Needs.{needs}
 use Rattle.contours.proofs.answer.Statement.{statement}
 use Rattle.contours.proofs.answer.Tie as tie
@@ -11,35 +12,33 @@ use Rattle.contours.proofs.failed.Reads as failed-reads
 use Rattle.contours.proofs.judged.Reads as judged-reads
 use Rattle.contours.proofs.overlong.Reads as overlong-reads
 
--- src/main.rt:45:16
 slice-aggregate-judged : tie.Need-slice-aggregate-judged
 slice-aggregate-judged c = sym (length-take-le _ _ (omega arith))
 
--- src/main.rt:45:9
 judged-requires : tie.Need-judged-requires
-judged-requires c κs = search needs
+judged-requires c κs =
+    let s = c .before .before .before .before in
+    (came (s .pre .0) (s .pre .1 .0) (c .before .if1 .taken), (s .pre .1 .1 .1, s .pre .1 .1 .0))
 
--- src/main.rt:46:9
 returns : tie.Need-returns
 returns c = search needs
 
--- src/main.rt:49:16
 slice-aggregate-failed : tie.Need-slice-aggregate-failed
 slice-aggregate-failed c = sym (length-take-le _ _ (omega arith))
 
--- src/main.rt:49:9
 failed-requires : tie.Need-failed-requires
-failed-requires c κs = search needs
+failed-requires c κs =
+    let s = c .before .before .before .before .before in
+    (s .pre .1 .1 .1, came (s .pre .0) (s .pre .1 .0) (c .before .if2 .taken))
 
--- src/main.rt:50:9
 returns-2 : tie.Need-returns-2
 returns-2 c = search needs
 
--- src/main.rt:52:5
 overlong-requires : tie.Need-overlong-requires
-overlong-requires c κs = search needs
+overlong-requires c κs =
+    let s = c .before .before .before .before in
+    (s .pre .1 .1 .1, came-full (s .pre .0) (s .pre .1 .0) (c .before .if1 .left) (c .if2 .left))
 
--- src/main.rt:36:1
 returns-3 : tie.Need-returns-3
 returns-3 c = search needs
 

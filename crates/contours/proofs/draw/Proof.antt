@@ -22,57 +22,45 @@ points : {text header levels : List ℕ} → Stored text header levels → textR
 points {text} {header} {levels} st z = rw (st .numbers) (sym (points-are text z))
 
 inside : (s : tie.Start) → getD (now (s .args .header)) 1 0 * getD (now (s .args .header)) 0 0 ≤ length (now (s .args .levels))
-inside s = omega (arith, points (s .pre .1 .1 .1 .0) (s .pre .1 .1 .0), s .pre .1 .1 .1 .0 .fits)
+inside s = omega (arith, points (s .pre .1 .1 .1 .1 .0) (s .pre .1 .1 .1 .0), s .pre .1 .1 .1 .1 .0 .fits)
 
--- src/main.rt:131:18
-shared-slice-read-t10 : tie.Need-shared-slice-read-t10
-shared-slice-read-t10 c = search needs
+shared-slice-read-t11 : tie.Need-shared-slice-read-t11
+shared-slice-read-t11 c = search needs
 
--- src/main.rt:132:15
-shared-slice-read-t12 : tie.Need-shared-slice-read-t12
-shared-slice-read-t12 c = search needs
+shared-slice-read-t13 : tie.Need-shared-slice-read-t13
+shared-slice-read-t13 c = search needs
 
--- src/main.rt:133:18
-shared-slice-read-t14 : tie.Need-shared-slice-read-t14
-shared-slice-read-t14 c = search needs
+shared-slice-read-t15 : tie.Need-shared-slice-read-t15
+shared-slice-read-t15 c = search needs
 
--- src/main.rt:134:15
-shared-slice-read-t16 : tie.Need-shared-slice-read-t16
-shared-slice-read-t16 c = search needs
+shared-slice-read-t17 : tie.Need-shared-slice-read-t17
+shared-slice-read-t17 c = search needs
 
--- src/main.rt:135:16
-shared-slice-read-t18 : tie.Need-shared-slice-read-t18
-shared-slice-read-t18 c = search needs
+shared-slice-read-t19 : tie.Need-shared-slice-read-t19
+shared-slice-read-t19 c = search needs
 
--- src/main.rt:137:18
 cast-points : tie.Need-cast-points
 cast-points c = search needs
 
--- src/main.rt:137:40
 cast-points-2 : tie.Need-cast-points-2
 cast-points-2 c = search needs
 
--- src/main.rt:137:18
 mul-points : tie.Need-mul-points
 mul-points c = omega (arith, inside (c .before .before .before .before .before .before .before .before .before .before .before))
 
--- src/main.rt:143:9
 slice-aggregate-sheet : tie.Need-slice-aggregate-sheet
 slice-aggregate-sheet c = sym (length-take-le _ _ (inside (c .before .before .before .before .before .before .before .before .before .before .before .before)))
 
--- src/main.rt:145:9
 slice-aggregate-sheet-2 : tie.Need-slice-aggregate-sheet-2
-slice-aggregate-sheet-2 c = let s = c .before .before .before .before .before .before .before .before .before .before .before .before .before in sym (length-take-le _ _ (omega (arith, given-fine (s .args .given) (s .pre .1 .1 .1 .1) .1, s .pre .1 .0)))
+slice-aggregate-sheet-2 c = let s = c .before .before .before .before .before .before .before .before .before .before .before .before .before in sym (length-take-le _ _ (omega (arith, given-fine (s .args .given) (s .pre .1 .1 .1 .1 .1) .1, s .pre .1 .1 .0)))
 
--- src/main.rt:139:5
 sheet-requires : tie.Need-sheet-requires
 sheet-requires c κs =
     let s = c .before .before .before .before .before .before .before .before .before .before .before .before .before in
-    let p = s .pre in
+    let p = s .pre .1 in
     let st = p .1 .1 .1 .0 in
-    accepted (p .0) (p .1 .1 .0) (p .1 .1 .1 .1) (rw (points st (p .1 .1 .0)) (st .front)) (frame-back (now (s .args .header)) (textFrame (now (s .args .text))) (st .numbers)) (words-front (p .0) (p .1 .1 .1 .1) (p .1 .0))
+    (s .pre .0, accepted (p .0) (p .1 .1 .0) (p .1 .1 .1 .1) (rw (points st (p .1 .1 .0)) (st .front)) (frame-back (now (s .args .header)) (textFrame (now (s .args .text))) (st .numbers)) (words-front (p .0) (p .1 .1 .1 .1) (p .1 .0)))
 
--- src/main.rt:123:1
 returns : tie.Need-returns
 returns c = search needs
 
@@ -80,11 +68,11 @@ pub draw-spec : {M : Type 1} → statement M
 draw-spec =
     tie.close
     (tie.spec
-    shared-slice-read-t10
-    shared-slice-read-t12
-    shared-slice-read-t14
-    shared-slice-read-t16
-    shared-slice-read-t18
+    shared-slice-read-t11
+    shared-slice-read-t13
+    shared-slice-read-t15
+    shared-slice-read-t17
+    shared-slice-read-t19
     cast-points
     cast-points-2
     mul-points

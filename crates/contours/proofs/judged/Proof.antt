@@ -15,35 +15,29 @@ use Rattle.contours.proofs.refuse_network.Reads as refuse-network-reads
 use Rattle.contours.proofs.with_words.Reads as with-words-reads
 use Rattle.grid.proofs.read.read_network.Reads as read-network-reads
 
--- src/main.rt:78:46
 slice-aggregate-read-network : tie.Need-slice-aggregate-read-network
 slice-aggregate-read-network c = search needs
 
--- src/main.rt:78:59
 slice-aggregate-read-network-2 : tie.Need-slice-aggregate-read-network-2
 slice-aggregate-read-network-2 c = search needs
 
--- src/main.rt:78:9
 read-network-requires : tie.Need-read-network-requires
 read-network-requires c κs = search needs
 
--- src/main.rt:80:9
 refuse-network-requires : tie.Need-refuse-network-requires
-refuse-network-requires c κs = search needs
+refuse-network-requires c κs =
+    let s = c .before .before .before .before .before .before .before .before in
+    (s .pre .0, (s .pre .1 .0, (c .before .before .before .read-network .ensures .0, c .if1 .taken)))
 
--- src/main.rt:81:9
 returns : tie.Need-returns
 returns c = search needs
 
--- src/main.rt:83:22
 slice-aggregate-with-words : tie.Need-slice-aggregate-with-words
 slice-aggregate-with-words c = search needs
 
--- src/main.rt:83:31
 slice-aggregate-with-words-2 : tie.Need-slice-aggregate-with-words-2
 slice-aggregate-with-words-2 c = search needs
 
--- src/main.rt:83:5
 with-words-requires : tie.Need-with-words-requires
 with-words-requires c κs =
     let s = c .before .before .before .before .before .before .before .before .before .before in
@@ -51,9 +45,8 @@ with-words-requires c κs =
     let e = r .ensures in
     let none : r .result ≡ 0 = omega arith in
     let z : textRefusal (now (s .args .text)) ≡ 0 = sym (e .0) ∙ none in
-    (s .pre .0, (s .pre .1, (z, stored (replicate 65536 0) z refl (length-replicate {A = ℕ} 65536 0) (e .1) (e .2))))
+    (s .pre .0, (s .pre .1 .0, (s .pre .1 .1, (z, stored (replicate 65536 0) z refl (length-replicate {A = ℕ} 65536 0) (e .1) (e .2)))))
 
--- src/main.rt:72:1
 returns-2 : tie.Need-returns-2
 returns-2 c = search needs
 

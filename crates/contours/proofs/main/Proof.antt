@@ -11,38 +11,30 @@ use Rattle.contours.proofs.answer.Reads as answer-reads
 use Rattle.contours.proofs.input.gather.Reads as gather-reads
 use Rattle.contours.proofs.input.read_text.Reads as read-text-reads
 
--- src/main.rt:30:33
 slice-aggregate-read-text : tie.Need-slice-aggregate-read-text
 slice-aggregate-read-text c = search needs
 
--- src/main.rt:30:9
 read-text-requires : tie.Need-read-text-requires
 read-text-requires c κs = search needs
 
--- src/main.rt:31:31
 slice-aggregate-gather : tie.Need-slice-aggregate-gather
 slice-aggregate-gather c = search needs
 
--- src/main.rt:31:9
 gather-requires : tie.Need-gather-requires
 gather-requires c κs = search needs
 
--- src/main.rt:32:12
 slice-aggregate-answer : tie.Need-slice-aggregate-answer
 slice-aggregate-answer c = search needs
 
--- src/main.rt:32:25
 slice-aggregate-answer-2 : tie.Need-slice-aggregate-answer-2
 slice-aggregate-answer-2 c = search needs
 
--- src/main.rt:32:5
 answer-requires : tie.Need-answer-requires
 answer-requires c κs =
     let t = c .before .before .before .before .before .before .read-text in
     let g = c .before .before .before .gather in
     (t .ensures, (t .kept .0 ∙ length-replicate {A = ℕ} 600000 0, (g .kept .0 ∙ length-replicate {A = ℕ} 15000 0, g .ensures)))
 
--- src/main.rt:27:1
 returns : tie.Need-returns
 returns c = search needs
 

@@ -11,27 +11,21 @@ use Rattle.contours.proofs.print.refusal.Reads as refusal-reads
 use Rattle.contours.proofs.say.of_levels.Reads as of-levels-reads
 use Rattle.sheet.proofs.words.words_refusal.Reads as words-refusal-reads
 
--- src/main.rt:113:9
 words-refusal-requires : tie.Need-words-refusal-requires
 words-refusal-requires c κs = search needs
 
--- src/main.rt:115:9
 refusal-requires : tie.Need-refusal-requires
-refusal-requires c κs = let s = c .before .before .before .before .before .before in refused-words (s .pre .0) (s .pre .1 .1 .0) (c .before .words-refusal .ensures) (c .if1 .taken)
+refusal-requires c κs = let s = c .before .before .before .before .before .before in (s .pre .0, refused-words (s .pre .1 .0) (s .pre .1 .1 .1 .0) (c .before .words-refusal .ensures) (c .if1 .taken))
 
--- src/main.rt:116:9
 of-levels-requires : tie.Need-of-levels-requires
 of-levels-requires c κs = search needs
 
--- src/main.rt:117:9
 returns : tie.Need-returns
 returns c = search needs
 
--- src/main.rt:119:5
 draw-requires : tie.Need-draw-requires
-draw-requires c κs = let s = c .before .before .before .before .before .before in (s .pre .0, (s .pre .1 .0, (s .pre .1 .1 .0, (s .pre .1 .1 .1, sym (c .before .words-refusal .ensures) ∙ c .if1 .left))))
+draw-requires c κs = let s = c .before .before .before .before .before .before in (s .pre .0, (s .pre .1 .0, (s .pre .1 .1 .0, (s .pre .1 .1 .1 .0, (s .pre .1 .1 .1 .1, sym (c .before .words-refusal .ensures) ∙ c .if1 .left)))))
 
--- src/main.rt:107:1
 returns-2 : tie.Need-returns-2
 returns-2 c = search needs
 

@@ -19,46 +19,36 @@ Inv-loop asked₀ count fit₀ i₀ asked fit i = (Gathering asked fit i) × (le
 abbrev μ-loop : tie.MeasureT-loop
 μ-loop asked₀ count fit₀ i₀ asked fit i = count - i
 
--- src/input.rt:57:9
 arg-count-requires : tie.Need-arg-count-requires Inv-loop μ-loop
 arg-count-requires c κs = search needs
 
--- src/input.rt:60:5
 loop-holds : tie.Need-loop-holds Inv-loop μ-loop
 loop-holds c = (gathering-none (c .before .before .args .asked .now), refl)
 
--- src/input.rt:61:13
 word-at-requires : tie.Need-word-at-requires Inv-loop μ-loop
 word-at-requires c κs = omega (arith, c .before .before .loop .inv .0 .count)
 
--- src/input.rt:62:9
 both-requires : tie.Need-both-requires Inv-loop μ-loop
 both-requires c κs = search needs
 
--- src/input.rt:63:9
 add-i : tie.Need-add-i Inv-loop μ-loop
 add-i c = search needs
 
--- src/input.rt:60:5
 loop-less : tie.Need-loop-less Inv-loop μ-loop
 loop-less c = omega arith
 
--- src/input.rt:60:5
 loop-again : tie.Need-loop-again Inv-loop μ-loop
 loop-again c =
     let w = c .before .before .before .word-at .ensures in
     let l = c .before .before .before .before .before .before .loop in
     (gathering-next (l .inv .0) (w .taken) (c .both .ensures), w .taken .long ∙ l .inv .1)
 
--- src/input.rt:65:20
 sub-t9 : tie.Need-sub-t9 Inv-loop μ-loop
 sub-t9 c = omega (arith, c .before .loop .inv .0 .count)
 
--- src/input.rt:54:1
 same-length : tie.Need-same-length Inv-loop μ-loop
 same-length c = c .before .loop .inv .1
 
--- src/input.rt:54:1
 returns : tie.Need-returns Inv-loop μ-loop
 returns c = gathered (c .before .loop .i - 1) (c .before .loop .inv .0) (omega (arith, c .before .loop .inv .0 .count))
 

@@ -12,31 +12,24 @@ use Rattle.contours.proofs.input.read_on.Lts as lts
 use Rattle.libc.proofs.read.Reads as read-reads
 use Rattle.sheet.proofs.intake.next_turn.Reads as next-turn-reads
 
--- src/input.rt:20:40
 sub-read : tie.Need-sub-read
 sub-read c = search needs
 
--- src/input.rt:20:40
 part-read-start : tie.Need-part-read-start
 part-read-start c = search needs
 
--- src/input.rt:20:40
 part-read-end : tie.Need-part-read-end
 part-read-end c = search needs
 
--- src/input.rt:20:9
 read-requires : tie.Need-read-requires
 read-requires c κs = search needs
 
--- src/input.rt:21:5
 next-turn-requires : tie.Need-next-turn-requires
 next-turn-requires c κs = search needs
 
--- src/input.rt:16:1
 same-length : tie.Need-same-length
 same-length c = search needs
 
--- src/input.rt:16:1
 returns : tie.Need-returns
 returns c =
     let s = c .before .before .before .before .before .before .before in

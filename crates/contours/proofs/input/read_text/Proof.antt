@@ -17,41 +17,33 @@ Inv-loop text₀ n₀ text n = (Standing text n) × (length text ≡ length text
 abbrev μ-loop : tie.MeasureT-loop
 μ-loop text₀ n₀ text n = length text - n
 
--- src/input.rt:29:5
 loop-holds : tie.Need-loop-holds Inv-loop μ-loop
 loop-holds c = (standing-none (c .before .args .text .now), refl)
 
--- src/input.rt:30:13
 read-on-requires : tie.Need-read-on-requires Inv-loop μ-loop
 read-on-requires c κs = omega arith
 
--- src/input.rt:33:13
 same-length : tie.Need-same-length Inv-loop μ-loop
 same-length c = c .before .before .before .read-on .ensures .long ∙ c .before .before .before .before .before .before .loop .inv .1
 
--- src/input.rt:33:13
 returns : tie.Need-returns Inv-loop μ-loop
 returns c = standing-stops (c .before .before .before .before .before .before .loop .inv .0) (c .before .before .before .read-on .ensures) (omega arith) (c .if1 .taken)
 
--- src/input.rt:29:5
 loop-less : tie.Need-loop-less Inv-loop μ-loop
 loop-less c =
     let e = c .before .before .before .read-on .ensures in
     let m = standing-more (c .before .before .before .before .before .before .loop .inv .0) e (c .if1 .left) in
     omega (arith, m .0, m .1, e .long)
 
--- src/input.rt:29:5
 loop-again : tie.Need-loop-again Inv-loop μ-loop
 loop-again c =
     let e = c .before .before .before .read-on .ensures in
     let l = c .before .before .before .before .before .before .loop in
     (standing-next (l .inv .0) e (c .if1 .left), e .long ∙ l .inv .1)
 
--- src/input.rt:25:1
 same-length-2 : tie.Need-same-length-2 Inv-loop μ-loop
 same-length-2 c = c .before .loop .inv .1
 
--- src/input.rt:25:1
 returns-2 : tie.Need-returns-2 Inv-loop μ-loop
 returns-2 c = standing-full (c .before .loop .inv .0) (omega arith)
 

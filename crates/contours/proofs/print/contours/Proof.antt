@@ -21,27 +21,21 @@ use Rattle.contours.proofs.print.fronts.Reads as fronts-reads
 long : (nx ny : ℕ) → nx ≤ 256 → ny ≤ 256 → edges nx ny ≤ length {A = ℕ} (replicate 130560 0)
 long nx ny h k = rw (length-replicate {A = ℕ} 130560 0) (edges-le nx ny h k)
 
--- src/print.rt:94:14
 cast-nx : tie.Need-cast-nx
 cast-nx c = search needs
 
--- src/print.rt:95:14
 cast-ny : tie.Need-cast-ny
 cast-ny c = search needs
 
--- src/print.rt:96:63
 slice-aggregate-list-contours : tie.Need-slice-aggregate-list-contours
 slice-aggregate-list-contours c = search needs
 
--- src/print.rt:96:75
 slice-aggregate-list-contours-2 : tie.Need-slice-aggregate-list-contours-2
 slice-aggregate-list-contours-2 c = search needs
 
--- src/print.rt:96:88
 slice-aggregate-list-contours-3 : tie.Need-slice-aggregate-list-contours-3
 slice-aggregate-list-contours-3 c = search needs
 
--- src/print.rt:96:9
 list-contours-requires : tie.Need-list-contours-requires
 list-contours-requires c κs =
     let s = c .before .before .before .before .before .before .before in
@@ -49,23 +43,19 @@ list-contours-requires c κs =
     let l = long (s .args .frame .columns) (s .args .frame .rows) (k .sides .narrow) (k .sides .low) in
     (k, (l, (l, l)))
 
--- src/print.rt:97:37
 slice-aggregate-fronts : tie.Need-slice-aggregate-fronts
 slice-aggregate-fronts c = search needs
 
--- src/print.rt:97:45
 slice-aggregate-fronts-2 : tie.Need-slice-aggregate-fronts-2
 slice-aggregate-fronts-2 c = search needs
 
--- src/print.rt:97:54
 slice-aggregate-fronts-3 : tie.Need-slice-aggregate-fronts-3
 slice-aggregate-fronts-3 c = search needs
 
--- src/print.rt:97:5
 fronts-requires : tie.Need-fronts-requires
 fronts-requires c κs =
-    let s = c .before .before .before .before .before .before .before .before .before .before .before .before .before .before in
-    let t = c .before .before .before .before .before .before .list-contours in
+    let s = c .before .before .before .before .before .before .before .before .before .before .before .before .before .before .before in
+    let t = c .before .before .before .before .before .before .before .list-contours in
     let l = t .ensures in (
       s .pre .0,
       (
@@ -74,11 +64,10 @@ fronts-requires c κs =
       ),
     )
 
--- src/print.rt:86:1
 returns : tie.Need-returns
 returns c =
-    let a = c .before .before .before .before .before .before .before .before .before .before .before .before .before .before .before .args in
-    c .fronts .ensures ∙ ap (λ (t : List ℕ). a .from + length t) (text-front (c .before .before .before .before .before .before .before .list-contours .ensures) (now (a .levels)) (a .frame) (a .v))
+    let a = c .before .before .before .before .before .before .before .before .before .before .before .before .before .before .before .before .args in
+    c .fronts .ensures ∙ ap (λ (t : List ℕ). a .sent .now + length t) (text-front (c .before .before .before .before .before .before .before .before .list-contours .ensures) (now (a .levels)) (a .frame) (a .v))
 
 pub contours-spec : {M : Type 1} → statement M
 contours-spec =

@@ -8,23 +8,18 @@ use Rattle.contours.proofs.print.fronts.Reads as reads
 use Rattle.contours.proofs.print.fronts.Lts as lts
 use Rattle.contours.proofs.print.parts.Reads as parts-reads
 
--- src/print.rt:127:9
 slice-aggregate-parts : tie.Need-slice-aggregate-parts
 slice-aggregate-parts c = sym (length-take-le _ _ (c .before .before .before .before .before .before .pre .1 .0 .0 .0))
 
--- src/print.rt:128:9
 slice-aggregate-parts-2 : tie.Need-slice-aggregate-parts-2
 slice-aggregate-parts-2 c = sym (length-take-le _ _ (c .before .before .before .before .before .before .before .pre .1 .0 .0 .1 .0))
 
--- src/print.rt:129:9
 slice-aggregate-parts-3 : tie.Need-slice-aggregate-parts-3
 slice-aggregate-parts-3 c = sym (length-take-le _ _ (c .before .before .before .before .before .before .before .before .pre .1 .0 .0 .1 .1))
 
--- src/print.rt:122:5
 parts-requires : tie.Need-parts-requires
 parts-requires c κs = search needs
 
--- src/print.rt:101:1
 returns : tie.Need-returns
 returns c = search needs
 

@@ -17,51 +17,44 @@ use Rattle.contours.proofs.print.one_level.Reads as one-level-reads
 use Rattle.contours.proofs.print.written.Reads as written-reads
 
 abbrev Inv-loop : tie.InvT-loop
-Inv-loop levels frame asked at₀ i₀ at i =
-    (i ≤ length asked) × (Due (sheetOf levels frame asked) at (levelLines levels frame (drop i asked)))
-    × (at + length (levelLines levels frame (drop i asked)) ≡ length (sheetOf levels frame asked))
+Inv-loop levels frame asked sent₀ i₀ sent i =
+    (i ≤ length asked) × (Due (sheetOf levels frame asked) sent (levelLines levels frame (drop i asked)))
+    × (sent + length (levelLines levels frame (drop i asked)) ≡ length (sheetOf levels frame asked))
 
 abbrev μ-loop : tie.MeasureT-loop
-μ-loop levels frame asked at₀ i₀ at i = length asked - i
+μ-loop levels frame asked sent₀ i₀ sent i = length asked - i
 
--- src/print.rt:51:51
 slice-aggregate-written : tie.Need-slice-aggregate-written Inv-loop μ-loop
 slice-aggregate-written c = search needs
 
--- src/print.rt:51:9
 written-requires : tie.Need-written-requires Inv-loop μ-loop
-written-requires c κs = let s = c .before .before .before in (s .pre, heading-due (now (s .args .levels)) (s .args .frame) (now (s .args .asked)))
+written-requires c κs = let s = c .before .before .before .before in (s .pre, heading-due (now (s .args .levels)) (s .args .frame) (now (s .args .asked)))
 
--- src/print.rt:53:5
 loop-holds : tie.Need-loop-holds Inv-loop μ-loop
 loop-holds c =
-    let a = c .before .before .before .before .args in (
+    let a = c .before .before .before .before .before .args in (
       omega arith,
-      lines-due (now (a .levels)) (a .frame) (now (a .asked)) (c .written .result) (c .written .ensures),
-      lines-long (now (a .levels)) (a .frame) (now (a .asked)) (c .written .result) (c .written .ensures),
+      lines-due (now (a .levels)) (a .frame) (now (a .asked)) _ (c .written .ensures),
+      lines-long (now (a .levels)) (a .frame) (now (a .asked)) _ (c .written .ensures),
     )
 
--- src/print.rt:54:9
 one-level-requires : tie.Need-one-level-requires Inv-loop μ-loop
 one-level-requires c κs =
-    let s = c .before .before .before .before .before .before in
+    let s = c .before .before .before .before .before .before .before .before in
     let a = s .args in
-    let l = c .before .loop in
+    let l = c .before .before .loop in
     (s .pre, (omega arith, due-front (levelLine (now (a .levels)) (a .frame) (getD (now (a .asked)) (l .i) 0)) (levelLines (now (a .levels)) (a .frame) (drop (l .i + 1) (now (a .asked)))) (rw (lines-more (now (a .levels)) (a .frame) (now (a .asked)) (l .i) (omega arith)) at (l .inv .1))))
 
--- src/print.rt:55:9
 add-i : tie.Need-add-i Inv-loop μ-loop
 add-i c = search needs
 
--- src/print.rt:53:5
 loop-less : tie.Need-loop-less Inv-loop μ-loop
 loop-less c = omega arith
 
--- src/print.rt:53:5
 loop-again : tie.Need-loop-again Inv-loop μ-loop
 loop-again c =
-    let a = c .before .before .before .before .before .before .before .args in
-    let l = c .before .before .loop in
+    let a = c .before .before .before .before .before .before .before .before .before .args in
+    let l = c .before .before .before .loop in
     let one = levelLine (now (a .levels)) (a .frame) (getD (now (a .asked)) (l .i) 0) in
     let rest = levelLines (now (a .levels)) (a .frame) (drop (l .i + 1) (now (a .asked))) in
     let e = lines-more (now (a .levels)) (a .frame) (now (a .asked)) (l .i) (omega arith) in (
@@ -70,10 +63,9 @@ loop-again c =
       omega (arith, c .one-level .ensures, ap length e, length-append one rest, l .inv .2),
     )
 
--- src/print.rt:47:1
 returns : tie.Need-returns Inv-loop μ-loop
 returns c =
-    let a = c .before .before .before .before .before .before .args in
+    let a = c .before .before .before .before .before .before .before .args in
     omega (arith, c .before .loop .inv .2, ap length (lines-none (now (a .levels)) (a .frame) (now (a .asked)) (c .before .loop .i) (omega arith)))
 
 pub lines-spec : {M : Type 1} → statement M

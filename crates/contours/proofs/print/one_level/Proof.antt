@@ -25,41 +25,34 @@ v s = getD (now (s .args .asked)) (s .args .i) 0
 abbrev text : tie.Start → List ℕ
 text s = networkText (now (s .args .levels)) (s .args .frame) (v s)
 
--- src/print.rt:67:13
 mul-v : tie.Need-mul-v
 mul-v c = search needs
 
--- src/print.rt:67:13
 shared-slice-read-v : tie.Need-shared-slice-read-v
 shared-slice-read-v c = search needs
 
--- src/print.rt:68:9
 start-requires : tie.Need-start-requires
 start-requires c κs =
-    let s = c .before .before .before in
+    let s = c .before .before .before .before in
     (s .pre .0, (s .pre .1 .0, due-front (lineStart (v s)) (text s ++ lineEnd) (s .pre .1 .1)))
 
--- src/print.rt:69:9
 contours-requires : tie.Need-contours-requires
 contours-requires c κs =
-    let s = c .before .before .before .before in
-    (s .pre .0, rw (c .start .ensures) (due-front (text s) lineEnd (due-rest (lineStart (v s)) (text s ++ lineEnd) (s .pre .1 .1))))
+    let s = c .before .before .before .before .before .before in
+    (s .pre .0, rw (c .before .start .ensures) (due-front (text s) lineEnd (due-rest (lineStart (v s)) (text s ++ lineEnd) (s .pre .1 .1))))
 
--- src/print.rt:70:39
 slice-aggregate-written : tie.Need-slice-aggregate-written
 slice-aggregate-written c = search needs
 
--- src/print.rt:70:5
 written-requires : tie.Need-written-requires
 written-requires c κs =
-    let s = c .before .before .before .before .before .before in
-    (s .pre .0, rw (c .before .contours .ensures, c .before .before .start .ensures) (due-rest (text s) lineEnd (due-rest (lineStart (v s)) (text s ++ lineEnd) (s .pre .1 .1))))
+    let s = c .before .before .before .before .before .before .before .before .before in
+    (s .pre .0, rw (c .before .before .contours .ensures, c .before .before .before .before .start .ensures) (due-rest (text s) lineEnd (due-rest (lineStart (v s)) (text s ++ lineEnd) (s .pre .1 .1))))
 
--- src/print.rt:61:1
 returns : tie.Need-returns
 returns c =
-    let s = c .before .before .before .before .before .before .before in
-    omega (arith, c .written .ensures, c .before .before .contours .ensures, c .before .before .before .start .ensures, line-length (now (s .args .levels)) (s .args .frame) (v s))
+    let s = c .before .before .before .before .before .before .before .before .before .before in
+    omega (arith, c .written .ensures, c .before .before .before .contours .ensures, c .before .before .before .before .before .start .ensures, line-length (now (s .args .levels)) (s .args .frame) (v s))
 
 pub one-level-spec : {M : Type 1} → statement M
 one-level-spec =

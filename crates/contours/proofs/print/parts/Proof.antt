@@ -24,23 +24,20 @@ use Rattle.wkt.proofs.core.first.Reads as first-reads
 use Rattle.wkt.proofs.core.print_part.Reads as print-part-reads
 
 abbrev Inv-loop : tie.InvT-loop
-Inv-loop levels frame asked v edges counts closed from room₀ at₀ done₀ room at done =
-    (Reached edges counts closed at) × (length room ≡ 4096) × (Due (sheetOf levels frame asked) done (leftOf levels frame v edges counts closed at))
-    × (done + length (leftOf levels frame v edges counts closed at) ≡ from + length (textOf levels frame v (linesFrom edges counts closed)))
+Inv-loop levels frame asked v edges counts closed sent₀ room₀ at₀ sent room at =
+    (Reached edges counts closed at) × (length room ≡ 4096) × (Due (sheetOf levels frame asked) sent (leftOf levels frame v edges counts closed at))
+    × (sent + length (leftOf levels frame v edges counts closed at) ≡ sent₀ + length (textOf levels frame v (linesFrom edges counts closed)))
 
 abbrev μ-loop : tie.MeasureT-loop
-μ-loop levels frame asked v edges counts closed from room₀ at₀ done₀ room at done =
+μ-loop levels frame asked v edges counts closed sent₀ room₀ at₀ sent room at =
     length (leftOf levels frame v edges counts closed at) + min 1 (length counts + 1 - at .line)
 
--- src/print.rt:150:20
 buffer-requires : tie.Need-buffer-requires Inv-loop μ-loop
 buffer-requires c κs = search needs
 
--- src/print.rt:151:9
 first-requires : tie.Need-first-requires Inv-loop μ-loop
 first-requires c κs = search needs
 
--- src/print.rt:153:5
 loop-holds : tie.Need-loop-holds Inv-loop μ-loop
 loop-holds c =
     let s = c .before .before .before .before .before .before .before in
@@ -52,38 +49,32 @@ loop-holds c =
       rw e refl,
     )
 
--- src/print.rt:154:76
 slice-aggregate-print-part : tie.Need-slice-aggregate-print-part Inv-loop μ-loop
 slice-aggregate-print-part c = search needs
 
--- src/print.rt:154:13
 print-part-requires : tie.Need-print-part-requires Inv-loop μ-loop
 print-part-requires c κs = (c .before .before .before .before .before .before .before .before .before .before .before .pre .1 .0, c .before .before .before .loop .inv .0)
 
--- src/print.rt:156:52
 array-share-prefix-room : tie.Need-array-share-prefix-room Inv-loop μ-loop
-array-share-prefix-room c = let e = c .before .print-part .ensures in omega (arith, e .fits, e .long)
+array-share-prefix-room c = let e = c .before .before .print-part .ensures in omega (arith, e .fits, e .long)
 
--- src/print.rt:156:52
 slice-aggregate-written : tie.Need-slice-aggregate-written Inv-loop μ-loop
-slice-aggregate-written c = let e = c .before .before .print-part .ensures in sym (length-take-le _ _ (omega (arith, e .fits, e .long)))
+slice-aggregate-written c = let e = c .before .before .before .print-part .ensures in sym (length-take-le _ _ (omega (arith, e .fits, e .long)))
 
--- src/print.rt:156:9
 written-requires : tie.Need-written-requires Inv-loop μ-loop
 written-requires c κs =
-    let s = c .before .before .before .before .before .before .before .before .before .before .before .before .before .before in
+    let s = c .before .before .before .before .before .before .before .before .before .before .before .before .before .before .before in
     let a = s .args in
-    let p = c .before .before .print-part in
+    let p = c .before .before .before .print-part in
     let e = p .ensures in
-    (s .pre .0, due-front (take (p .result .size) (p .last .1 .1 .1 .1 .1 .1 .1 .0)) (leftOf (now (a .levels)) (a .frame) (a .v) (now (a .edges)) (now (a .counts)) (now (a .closed)) (p .result .next)) (rw (e .joined) at (c .before .before .before .before .before .before .loop .inv .2)))
+    (s .pre .0, due-front (take (p .result .size) (p .last .1 .1 .1 .1 .1 .1 .1 .0)) (leftOf (now (a .levels)) (a .frame) (a .v) (now (a .edges)) (now (a .counts)) (now (a .closed)) (p .result .next)) (rw (e .joined) at (c .before .before .before .before .before .before .before .loop .inv .2)))
 
--- src/print.rt:153:5
 loop-less : tie.Need-loop-less Inv-loop μ-loop
 loop-less c =
-    let a = c .before .before .before .before .before .before .before .before .before .before .before .before .before .before .before .before .args in
-    let p = c .before .before .before .before .print-part in
+    let a = c .before .before .before .before .before .before .before .before .before .before .before .before .before .before .before .before .before .args in
+    let p = c .before .before .before .before .before .print-part in
     let e = p .ensures in
-    let l = c .before .before .before .before .before .before .before .before .loop in
+    let l = c .before .before .before .before .before .before .before .before .before .loop in
     let bytes = take (p .result .size) (p .last .1 .1 .1 .1 .1 .1 .1 .0) in
     let left = leftOf (now (a .levels)) (a .frame) (a .v) (now (a .edges)) (now (a .counts)) (now (a .closed)) (p .result .next) in
     let n : length bytes ≡ p .result .size = length-take-le (p .result .size) (p .last .1 .1 .1 .1 .1 .1 .1 .0) (omega (arith, e .fits, e .long)) in
@@ -99,13 +90,12 @@ loop-less c =
     ))
     (e .stopped)
 
--- src/print.rt:153:5
 loop-again : tie.Need-loop-again Inv-loop μ-loop
 loop-again c =
-    let a = c .before .before .before .before .before .before .before .before .before .before .before .before .before .before .before .before .args in
-    let p = c .before .before .before .before .print-part in
+    let a = c .before .before .before .before .before .before .before .before .before .before .before .before .before .before .before .before .before .args in
+    let p = c .before .before .before .before .before .print-part in
     let e = p .ensures in
-    let l = c .before .before .before .before .before .before .before .before .loop in
+    let l = c .before .before .before .before .before .before .before .before .before .loop in
     let bytes = take (p .result .size) (p .last .1 .1 .1 .1 .1 .1 .1 .0) in
     let left = leftOf (now (a .levels)) (a .frame) (a .v) (now (a .edges)) (now (a .counts)) (now (a .closed)) (p .result .next) in (
       e .reached,
@@ -114,7 +104,6 @@ loop-again c =
       omega (arith, c .before .written .ensures, ap length (e .joined), length-append bytes left, l .inv .3),
     )
 
--- src/print.rt:135:1
 returns : tie.Need-returns Inv-loop μ-loop
 returns c =
     let a = c .before .before .before .before .before .before .before .before .before .before .args in

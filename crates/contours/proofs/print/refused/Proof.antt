@@ -8,30 +8,24 @@ use Rattle.contours.proofs.print.refused.Statement.{statement}
 use Rattle.contours.proofs.print.refused.Tie as tie
 use Rattle.contours.proofs.print.refused.Reads as reads
 use Rattle.contours.proofs.print.refused.Lts as lts
-use Rattle.contours.proofs.print.write_refused.Reads as write-refused-reads
+use Rattle.contours.proofs.print.write.Reads as write-reads
 use Rattle.sheet.proofs.put.put_refused.Reads as put-refused-reads
 
--- src/print.rt:188:25
 slice-aggregate-put-refused : tie.Need-slice-aggregate-put-refused
 slice-aggregate-put-refused c = search needs
 
--- src/print.rt:188:9
 put-refused-requires : tie.Need-put-refused-requires
 put-refused-requires c κs = search needs
 
--- src/print.rt:189:33
 array-share-prefix-room : tie.Need-array-share-prefix-room
 array-share-prefix-room c = wrote-fits (c .before .put-refused .ensures)
 
--- src/print.rt:189:33
-slice-aggregate-write-refused : tie.Need-slice-aggregate-write-refused
-slice-aggregate-write-refused c = sym (length-take-le _ _ (wrote-fits (c .before .before .put-refused .ensures)))
+slice-aggregate-write : tie.Need-slice-aggregate-write
+slice-aggregate-write c = sym (length-take-le _ _ (wrote-fits (c .before .before .put-refused .ensures)))
 
--- src/print.rt:189:5
-write-refused-requires : tie.Need-write-refused-requires
-write-refused-requires c κs = wrote-front (c .before .before .put-refused .ensures)
+write-requires : tie.Need-write-requires
+write-requires c κs = rw (wrote-front (c .before .before .put-refused .ensures)) (c .before .before .before .before .before .before .pre)
 
--- src/print.rt:186:1
 returns : tie.Need-returns
 returns c = search needs
 
@@ -42,6 +36,6 @@ refused-spec =
     slice-aggregate-put-refused
     put-refused-requires
     array-share-prefix-room
-    slice-aggregate-write-refused
-    write-refused-requires
+    slice-aggregate-write
+    write-requires
     returns)

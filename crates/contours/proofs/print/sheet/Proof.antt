@@ -5,15 +5,17 @@ use Rattle.contours.proofs.print.sheet.Statement.{statement}
 use Rattle.contours.proofs.print.sheet.Tie as tie
 use Rattle.contours.proofs.print.sheet.Reads as reads
 use Rattle.contours.proofs.print.sheet.Lts as lts
+use Rattle.contours.proofs.print.ended.Reads as ended-reads
 use Rattle.contours.proofs.print.lines.Reads as lines-reads
 
--- src/print.rt:43:5
 lines-requires : tie.Need-lines-requires
-lines-requires c κs = drawable (c .before .before .before .before .pre)
+lines-requires c κs = drawable (c .before .before .before .before .pre .1)
 
--- src/print.rt:33:1
+ended-requires : tie.Need-ended-requires
+ended-requires c κs = search needs
+
 returns : tie.Need-returns
 returns c = search needs
 
 pub sheet-spec : {M : Type 1} → statement M
-sheet-spec = tie.close (tie.spec lines-requires returns)
+sheet-spec = tie.close (tie.spec lines-requires ended-requires returns)

@@ -14,37 +14,29 @@ use Rattle.contours.proofs.print.start.Lts as lts
 use Rattle.contours.proofs.print.written.Reads as written-reads
 use Rattle.sheet.proofs.put.put_start.Reads as put-start-reads
 
--- src/print.rt:81:23
 slice-aggregate-put-start : tie.Need-slice-aggregate-put-start
 slice-aggregate-put-start c = search needs
 
--- src/print.rt:81:34
 mul-put-start : tie.Need-mul-put-start
 mul-put-start c = search needs
 
--- src/print.rt:81:34
 shared-slice-read-put-start : tie.Need-shared-slice-read-put-start
 shared-slice-read-put-start c = search needs
 
--- src/print.rt:81:9
 put-start-requires : tie.Need-put-start-requires
 put-start-requires c κs = let s = c .before .before .before .before in (omega (arith, s .pre .0 .most (s .args .i) (s .pre .1 .0)), omega arith)
 
--- src/print.rt:82:39
 array-share-prefix-room : tie.Need-array-share-prefix-room
-array-share-prefix-room c = wrote-fits (c .before .put-start .ensures)
+array-share-prefix-room c = wrote-fits (c .before .before .put-start .ensures)
 
--- src/print.rt:82:39
 slice-aggregate-written : tie.Need-slice-aggregate-written
-slice-aggregate-written c = sym (length-take-le _ _ (wrote-fits (c .before .before .put-start .ensures)))
+slice-aggregate-written c = sym (length-take-le _ _ (wrote-fits (c .before .before .before .put-start .ensures)))
 
--- src/print.rt:82:5
 written-requires : tie.Need-written-requires
-written-requires c κs = let s = c .before .before .before .before .before .before .before in (s .pre .0, rw (wrote-front (c .before .before .put-start .ensures)) (s .pre .1 .1))
+written-requires c κs = let s = c .before .before .before .before .before .before .before .before in (s .pre .0, rw (wrote-front (c .before .before .before .put-start .ensures)) (s .pre .1 .1))
 
--- src/print.rt:74:1
 returns : tie.Need-returns
-returns c = let s = c .before .before .before .before .before .before .before .before in c .written .ensures ∙ ap (λ (t : List ℕ). s .args .at + length t) (wrote-front (c .before .before .before .put-start .ensures))
+returns c = let s = c .before .before .before .before .before .before .before .before .before in c .written .ensures ∙ ap (λ (t : List ℕ). s .args .sent .now + length t) (wrote-front (c .before .before .before .before .put-start .ensures))
 
 pub start-spec : {M : Type 1} → statement M
 start-spec =

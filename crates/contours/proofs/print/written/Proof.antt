@@ -9,17 +9,14 @@ use Rattle.contours.proofs.print.written.Reads as reads
 use Rattle.contours.proofs.print.written.Lts as lts
 use Rattle.io.proofs.write_all.Reads as write-all-reads
 
--- src/print.rt:28:5
 write-all-requires : tie.Need-write-all-requires
 write-all-requires c κs = search needs
 
--- src/print.rt:29:5
-add-result : tie.Need-add-result
-add-result c = let s = c .before .before .before .before in omega (arith, due-within (s .pre .1), sheet-short (s .pre .0))
+add-sent : tie.Need-add-sent
+add-sent c = let s = c .before .before .before .before .before in omega (arith, due-within (s .pre .1), sheet-short (s .pre .0))
 
--- src/print.rt:23:1
 returns : tie.Need-returns
 returns c = search needs
 
 pub written-spec : {M : Type 1} → statement M
-written-spec = tie.close (tie.spec write-all-requires add-result returns)
+written-spec = tie.close (tie.spec write-all-requires add-sent returns)

@@ -1,0 +1,17 @@
+-- `contours::print::failure`: a read failed. Assumes nothing.
+use Rattle.sheet.proofs.Answers.{answered-failed}
+use borrow.Author.Needs.{needs}
+use Rattle.contours.proofs.print.failure.Statement.{statement}
+use Rattle.contours.proofs.print.failure.Tie as tie
+use Rattle.contours.proofs.print.failure.Reads as reads
+use Rattle.contours.proofs.print.failure.Lts as lts
+use Rattle.contours.proofs.print.refused.Reads as refused-reads
+
+refused-requires : tie.Need-refused-requires
+refused-requires c κs = let s = c .before .before in answered-failed (s .pre .0) (s .pre .1 .0) (s .pre .1 .1)
+
+returns : tie.Need-returns
+returns c = search needs
+
+pub failure-spec : {M : Type 1} → statement M
+failure-spec = tie.close (tie.spec refused-requires returns)

@@ -1,0 +1,17 @@
+-- `contours::print::refusal`: a network that was read to its end is refused, or its words are. Assumes nothing.
+use Rattle.sheet.proofs.Answers.{answered-refusal}
+use borrow.Author.Needs.{needs}
+use Rattle.contours.proofs.print.refusal.Statement.{statement}
+use Rattle.contours.proofs.print.refusal.Tie as tie
+use Rattle.contours.proofs.print.refusal.Reads as reads
+use Rattle.contours.proofs.print.refusal.Lts as lts
+use Rattle.contours.proofs.print.refused.Reads as refused-reads
+
+refused-requires : tie.Need-refused-requires
+refused-requires c κs = let s = c .before .before in answered-refusal (s .pre .0) (s .pre .1)
+
+returns : tie.Need-returns
+returns c = search needs
+
+pub refusal-spec : {M : Type 1} → statement M
+refusal-spec = tie.close (tie.spec refused-requires returns)
