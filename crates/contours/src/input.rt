@@ -1,8 +1,8 @@
 // What the program is given: the network's bytes and the contour levels among its arguments.
 use libc::STDIN_FILENO;
-use sheet::intake::READING;
-use sheet::intake::Turn;
-use sheet::intake::next_turn;
+use sheet::core::intake::READING;
+use sheet::core::intake::Turn;
+use sheet::core::intake::next_turn;
 use sheet::words::Given;
 use sheet::words::take_word;
 ghost use mathlib.Core.Path.{_≡_};

@@ -7,11 +7,11 @@ mod print;
 mod say;
 
 use network::Frame;
-use sheet::intake::FAILED;
-use sheet::intake::Turn;
-use sheet::intake::WHOLE;
-use sheet::intake::line_begun;
-use sheet::intake::overlong_line;
+use sheet::core::intake::FAILED;
+use sheet::core::intake::Turn;
+use sheet::core::intake::WHOLE;
+use sheet::core::intake::line_begun;
+use sheet::core::intake::overlong_line;
 use sheet::words::Given;
 use sheet::words::MOST_LEVELS;
 use sheet::words::words_refusal;

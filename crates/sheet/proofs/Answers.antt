@@ -6,7 +6,7 @@ use native.Mathlib.Omega.{arith}
 use borrow.Author.Tests.{eq-eqb, ne-eqb}
 use lib.ListN.{length, take}
 use lib.Seq.{take-length}
-use Rattle.sheet.specs.declared.intake.Turn.{Turn}
+use Rattle.sheet.specs.declared.core.intake.Turn.{Turn}
 use Rattle.sheet.specs.declared.words.Given.{Given}
 use Rattle.sheet.specs.Intake.{reading, whole, failed, TextRead}
 use Rattle.sheet.specs.Words.{Gathered}

@@ -12,7 +12,7 @@ use lib.ListN.{length, take, drop}
 use lib.Seq.{take-add}
 use Rattle.io.specs.Counts.{clamped}
 use Rattle.text.proofs.Digits.{either}
-use Rattle.sheet.specs.declared.intake.Turn.{Turn}
+use Rattle.sheet.specs.declared.core.intake.Turn.{Turn}
 use Rattle.sheet.specs.Intake.{reading, whole, failed, turnOf, joinedOf, Turned, TextRead}
 
 pub turn-failed : (z : ℤ) (n room : ℕ) → ltZ z (pos 0) ≡ true → _≡_ {A = Turn} (record { size = n; state = failed }) (turnOf z n room)

@@ -4,7 +4,7 @@ use Prim.Native.Nat.{ℕ, _≤_}
 use mathlib.Core.Path.{_≡_}
 use mathlib.Core.List.{List}
 use lib.ListN.{length, take}
-use Rattle.sheet.specs.declared.intake.Turn.{Turn}
+use Rattle.sheet.specs.declared.core.intake.Turn.{Turn}
 use Rattle.sheet.specs.declared.words.Given.{Given}
 use Rattle.sheet.specs.Intake.{reading, whole, failed, TextRead}
 use Rattle.sheet.specs.Words.{Gathered}

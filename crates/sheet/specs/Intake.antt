@@ -8,7 +8,7 @@ use lib.Dec.{eqb}
 use lib.IntN.{ℤ, pos, negsuc}
 use lib.ListN.{length, take}
 use lib.Signed.{ltZ}
-use Rattle.sheet.specs.declared.intake.Turn.{Turn}
+use Rattle.sheet.specs.declared.core.intake.Turn.{Turn}
 
 -- the states of a reading: to be read on, read to its end, and failed
 abbrev pub reading : ℕ

@@ -1,4 +1,3 @@
 // What the program contours writes: its steps over lent buffers. The program itself only moves bytes.
-pub mod intake;
-pub mod put;
+pub mod core;
 pub mod words;

@@ -1,13 +1,13 @@
--- `sheet::intake::line_begun` meets its contract: the line ends before `at` are counted. Assumes nothing.
+-- `sheet::core::intake::line_begun` meets its contract: the line ends before `at` are counted. Assumes nothing.
 use Prim.Native.Nat.{_-_}
 use native.Mathlib.Omega.{arith}
 use lib.ListN.{length}
 use borrow.Author.Needs.{needs}
 use Rattle.sheet.proofs.Begun.{Counting, counting-none, counting-room, counting-next, counting-end}
-use Rattle.sheet.proofs.intake.line_begun.Statement.{statement}
-use Rattle.sheet.proofs.intake.line_begun.Tie as tie
-use Rattle.sheet.proofs.intake.line_begun.Reads as reads
-use Rattle.sheet.proofs.intake.line_begun.Lts as lts
+use Rattle.sheet.proofs.core.intake.line_begun.Statement.{statement}
+use Rattle.sheet.proofs.core.intake.line_begun.Tie as tie
+use Rattle.sheet.proofs.core.intake.line_begun.Reads as reads
+use Rattle.sheet.proofs.core.intake.line_begun.Lts as lts
 use Rattle.text.proofs.core.line_end.Reads as line-end-reads
 
 abbrev Inv-loop : tie.InvT-loop

@@ -1,4 +1,4 @@
--- `sheet::intake::next_turn` meets its contract: the sign of the answer, and the bytes that it counts. Assumes nothing.
+-- `sheet::core::intake::next_turn` meets its contract: the sign of the answer, and the bytes that it counts. Assumes nothing.
 use mathlib.Core.Path.{_≡_, subst}
 use mathlib.Core.Bool.{true, false}
 use Prim.Native.Nat.{ℕ, _-_}
@@ -12,10 +12,10 @@ use mir.ValLaws.{toZ-ofZ}
 use Rattle.io.specs.Counts.{clamped}
 use Rattle.sheet.proofs.Turns.{turn-failed, turn-whole, turn-more}
 use borrow.Author.Needs.{needs}
-use Rattle.sheet.proofs.intake.next_turn.Statement.{statement}
-use Rattle.sheet.proofs.intake.next_turn.Tie as tie
-use Rattle.sheet.proofs.intake.next_turn.Reads as reads
-use Rattle.sheet.proofs.intake.next_turn.Lts as lts
+use Rattle.sheet.proofs.core.intake.next_turn.Statement.{statement}
+use Rattle.sheet.proofs.core.intake.next_turn.Tie as tie
+use Rattle.sheet.proofs.core.intake.next_turn.Reads as reads
+use Rattle.sheet.proofs.core.intake.next_turn.Lts as lts
 use Rattle.io.proofs.count.Reads as count-reads
 
 -- the sign of the answer

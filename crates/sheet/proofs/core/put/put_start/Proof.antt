@@ -1,4 +1,4 @@
--- `sheet::put::put_start` meets its contract: the level, and the semicolon past it. Assumes nothing.
+-- `sheet::core::put::put_start` meets its contract: the level, and the semicolon past it. Assumes nothing.
 use native.Mathlib.Omega.{arith}
 use mathlib.Core.List.{[], _∷_}
 use lib.ListN.{length-append}
@@ -6,10 +6,10 @@ use Rattle.text.specs.Number.{showLevel}
 use Rattle.text.proofs.Puts.{wrote-then}
 use Rattle.text.proofs.Shown.{level-most}
 use borrow.Author.Needs.{needs}
-use Rattle.sheet.proofs.put.put_start.Statement.{statement}
-use Rattle.sheet.proofs.put.put_start.Tie as tie
-use Rattle.sheet.proofs.put.put_start.Reads as reads
-use Rattle.sheet.proofs.put.put_start.Lts as lts
+use Rattle.sheet.proofs.core.put.put_start.Statement.{statement}
+use Rattle.sheet.proofs.core.put.put_start.Tie as tie
+use Rattle.sheet.proofs.core.put.put_start.Reads as reads
+use Rattle.sheet.proofs.core.put.put_start.Lts as lts
 use Rattle.text.proofs.core.put_byte.Reads as put-byte-reads
 use Rattle.text.proofs.core.put_level.Reads as put-level-reads
 

@@ -1,13 +1,13 @@
--- `sheet::intake::overlong_line` meets its contract: a line of the header, one that ends, or none. Assumes nothing.
+-- `sheet::core::intake::overlong_line` meets its contract: a line of the header, one that ends, or none. Assumes nothing.
 use native.Mathlib.Omega.{arith}
 use Rattle.sheet.proofs.Begun.{overlong-head, overlong-ended, overlong-none}
 use borrow.Author.Needs.{needs}
-use Rattle.sheet.proofs.intake.overlong_line.Statement.{statement}
-use Rattle.sheet.proofs.intake.overlong_line.Tie as tie
-use Rattle.sheet.proofs.intake.overlong_line.Reads as reads
-use Rattle.sheet.proofs.intake.overlong_line.Lts as lts
+use Rattle.sheet.proofs.core.intake.overlong_line.Statement.{statement}
+use Rattle.sheet.proofs.core.intake.overlong_line.Tie as tie
+use Rattle.sheet.proofs.core.intake.overlong_line.Reads as reads
+use Rattle.sheet.proofs.core.intake.overlong_line.Lts as lts
 use Rattle.grid.proofs.read.fault_line.Reads as fault-line-reads
-use Rattle.sheet.proofs.intake.line_begun.Reads as line-begun-reads
+use Rattle.sheet.proofs.core.intake.line_begun.Reads as line-begun-reads
 
 -- src/intake.rt:64:9
 fault-line-requires : tie.Need-fault-line-requires

@@ -1,14 +1,14 @@
--- `sheet::put::put_count` meets its contract: the digits of the count, put as they stand. Assumes nothing.
+-- `sheet::core::put::put_count` meets its contract: the digits of the count, put as they stand. Assumes nothing.
 use mathlib.Core.Path.{_≡_, _∙_, ap}
 use native.Mathlib.Omega.{arith}
 use lib.ListN.{length, take}
 use Rattle.sheet.specs.Sheet.{showCount}
 use Rattle.sheet.proofs.Counts.{count-shown, count-short}
 use borrow.Author.Needs.{needs}
-use Rattle.sheet.proofs.put.put_count.Statement.{statement}
-use Rattle.sheet.proofs.put.put_count.Tie as tie
-use Rattle.sheet.proofs.put.put_count.Reads as reads
-use Rattle.sheet.proofs.put.put_count.Lts as lts
+use Rattle.sheet.proofs.core.put.put_count.Statement.{statement}
+use Rattle.sheet.proofs.core.put.put_count.Tie as tie
+use Rattle.sheet.proofs.core.put.put_count.Reads as reads
+use Rattle.sheet.proofs.core.put.put_count.Lts as lts
 use Rattle.io.proofs.decimal.Reads as decimal-reads
 use Rattle.text.proofs.core.put_text.Reads as put-text-reads
 

@@ -1,14 +1,14 @@
--- `sheet::put::put_refused` meets its contract: five texts, one past the other. Assumes nothing.
+-- `sheet::core::put::put_refused` meets its contract: five texts, one past the other. Assumes nothing.
 use native.Mathlib.Omega.{arith}
 use Rattle.sheet.specs.Sheet.{refusedLine}
 use Rattle.sheet.proofs.Counts.{count-short}
 use Rattle.sheet.proofs.Writes.{wrote-five}
 use borrow.Author.Needs.{needs}
-use Rattle.sheet.proofs.put.put_refused.Statement.{statement}
-use Rattle.sheet.proofs.put.put_refused.Tie as tie
-use Rattle.sheet.proofs.put.put_refused.Reads as reads
-use Rattle.sheet.proofs.put.put_refused.Lts as lts
-use Rattle.sheet.proofs.put.put_count.Reads as put-count-reads
+use Rattle.sheet.proofs.core.put.put_refused.Statement.{statement}
+use Rattle.sheet.proofs.core.put.put_refused.Tie as tie
+use Rattle.sheet.proofs.core.put.put_refused.Reads as reads
+use Rattle.sheet.proofs.core.put.put_refused.Lts as lts
+use Rattle.sheet.proofs.core.put.put_count.Reads as put-count-reads
 use Rattle.text.proofs.core.put_byte.Reads as put-byte-reads
 use Rattle.text.proofs.core.put_text.Reads as put-text-reads
 
