@@ -1,7 +1,7 @@
 /* Okubinrafo for C, Rust, Python and others: the functions that the static library exports.
  *
  * Every call takes any arguments and any lent memory, ends, and answers with 0 (accepted) or the refusal number of
- * document 01. A refused call changes no byte that it was lent; room past an answer keeps its bytes. No function keeps
+ * the rules. A refused call changes no byte that it was lent; room past an answer keeps its bytes. No function keeps
  * a pointer, allocates or has state.
  *
  * A slice is a pointer and the number of its elements (not of bytes). The pointer is not null, not even for a slice of

@@ -1,7 +1,7 @@
 """Okubinrafo from Python: the yearly noise load of regional airfields, by the proved library.
 
 Everything here is the shared library's answer; this module only lends it memory. Levels are whole hundredths of a dB,
-times are seconds of the local day, points are counted from 0. A refusal is the exception Refused with document 01's
+times are seconds of the local day, points are counted from 0. A refusal is the exception Refused with the rules'
 number. The library is the file that OKUBINRAFO_LIB names, or libokubinrafo.so beside this file.
 """
 
@@ -37,7 +37,7 @@ _SENTENCES = {
 
 
 class Refused(Exception):
-    """A refused call. number is document 01's; line is the line of a file at fault, where there is one."""
+    """A refused call. number is the rules'; line is the line of a file at fault, where there is one."""
 
     def __init__(self, number, line=None):
         self.number = number

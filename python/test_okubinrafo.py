@@ -1,4 +1,4 @@
-"""Tests of the Python module over the library that OKUBINRAFO_LIB names: document 01's numbers, and each refusal."""
+"""Tests of the Python module over the library that OKUBINRAFO_LIB names: the rules' numbers, and each refusal."""
 
 import os
 import tempfile

@@ -1,4 +1,4 @@
-//! The book (document 01, Movements and the book): lent columns, soundness and the four calls.
+//! The book (RULES, Movements and the book): lent columns, soundness and the four calls.
 //! Here the book is a map from identity to movement; its rows are only made when the columns are written.
 
 use crate::movement::{check_identity, Movement, GROUPS, MAX_IDENTITY, MAX_LEVEL};

@@ -1,4 +1,4 @@
-//! The contours of a network (document 01, Network and contours).
+//! The contours of a network (RULES, Network and contours).
 //!
 //! A square's sides are numbered south, east, north, west and its corners from the south-west anticlockwise, so that
 //! side s runs from corner s to corner s+1. With the in end on its left, a line enters a square by a side whose corner

@@ -1,4 +1,4 @@
-//! Network files, Esri ASCII grid (document 01, Files and the report program).
+//! Network files, Esri ASCII grid (RULES, Files and the report program).
 
 use crate::network::{Frame, Network, MAX_NETWORK_LEVEL};
 use crate::text::{level, lines, spell_level, whole};

@@ -1,4 +1,4 @@
-//! Energies and levels (document 01, Energy and load): the tables A and B, energy, M, level.
+//! Energies and levels (RULES, Energy and load): the tables A and B, energy, M, level.
 
 use crate::big::{root, Big};
 use std::sync::OnceLock;

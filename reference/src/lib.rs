@@ -1,5 +1,5 @@
-//! Document 01 in plain Rust, written from the document and from nothing else, to test the proved library against.
-//! Each module is one noun of the document; `calls` has the functions of include/okubinrafo.h over slices.
+//! The rules in plain Rust, written from docs/RULES.md and from nothing else, to test the proved library against.
+//! Each module is one noun of the rules; `calls` has the functions of include/okubinrafo.h over slices.
 
 pub mod big;
 pub mod book;
@@ -17,7 +17,7 @@ pub mod report;
 pub mod text;
 pub mod wkt;
 
-/// The refusals with their numbers (document 01, Refusal numbers).
+/// The refusals with their numbers (RULES, Refusal numbers).
 #[derive(Clone, Copy, Debug, PartialEq, Eq)]
 #[repr(u32)]
 pub enum Refusal {

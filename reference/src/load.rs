@@ -1,4 +1,4 @@
-//! The load and the verdict at a point (document 01, Energy and load).
+//! The load and the verdict at a point (RULES, Energy and load).
 
 use crate::book::Book;
 use crate::level::{energy, level, mean};

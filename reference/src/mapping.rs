@@ -1,4 +1,4 @@
-//! Crossings and map points in binary64 (document 01, Network and contours).
+//! Crossings and map points in binary64 (RULES, Network and contours).
 
 use crate::network::{Along, Network};
 

@@ -1,4 +1,4 @@
-//! One movement: type, kind, time, mass, period and group (document 01, Movements and the book).
+//! One movement: type, kind, time, mass, period and group (RULES, Movements and the book).
 
 use crate::{ensure, Answer, Refusal};
 

@@ -1,4 +1,4 @@
-//! A network of computed levels, its points and its edges (document 01, Network and contours).
+//! A network of computed levels, its points and its edges (RULES, Network and contours).
 
 use crate::{ensure, Answer, Refusal};
 

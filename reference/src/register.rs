@@ -1,4 +1,4 @@
-//! Register rows, headers and limits.csv (document 01, Files and the report program).
+//! Register rows, headers and limits.csv (RULES, Files and the report program).
 
 use crate::book::MAX_POINTS;
 use crate::movement::{check_identity, Movement, MAX_LEVEL};

@@ -1,4 +1,4 @@
-//! The report program (document 01, Files and the report program): from its two texts to its standard output.
+//! The report program (RULES, Files and the report program): from its two texts to its standard output.
 
 use crate::book::{Book, Columns};
 use crate::load::{check_days, check_limit, load};

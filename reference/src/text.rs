@@ -1,4 +1,4 @@
-//! Lines, fields and numbers as texts spell them (document 01, Files and the report program).
+//! Lines, fields and numbers as texts spell them (RULES, Files and the report program).
 
 const CRLF: &[u8] = b"\r\n";
 

@@ -1,4 +1,4 @@
-//! Contours as well-known text (document 01, Files and the report program, and "Printed place").
+//! Contours as well-known text (RULES, Files and the report program, and "Printed place").
 
 use crate::contour::contours;
 use crate::network::{Along, Network};

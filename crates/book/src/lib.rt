@@ -1,3 +1,93 @@
-// The book of movements: document 01, "Movements and the book". specs/ says what its columns are, when they are sound, what each call answers and changes,
-// and what a history of calls means; proofs/History.antt has the theorem. The check of soundness is here, the calls are in the crate `calls`.
-pub mod soundness;
+// The calls on a book: RULES, "Movements and the book". Each checks that the book is sound and leaves the rest to its core.
+pub mod core;
+mod place;
+mod refusals;
+mod rows;
+
+use soundness::is_sound;
+ghost use Rattle.book_rules.specs.Columns.{bookOf};
+ghost use Rattle.book_rules.specs.Calls.{Call, Called};
+
+// Enters a movement: its row goes in at its place, not computed.
+pub fn enter(
+    ids: &mut [u32],
+    groups: &mut [u32],
+    marks: &mut [u32],
+    levels: &mut [u32],
+    points: usize,
+    identity: u32,
+    ty: u32,
+    kind: u32,
+    time: u32,
+    mass: u32,
+) -> u32
+    ensures { λ r. ⌜ Called points (bookOf (now (ids .entry)) (now (groups .entry)) (now (marks .entry)) (now (levels .entry))) (Call.enter identity ty kind time mass) r (bookOf (now (ids .exit)) (now (groups .exit)) (now (marks .exit)) (now (levels .exit))) ⌝ }
+{
+    if !is_sound(ids, groups, marks, levels, points) {
+        return 9;
+    }
+    core::enter(
+        ids,
+        groups,
+        marks,
+        levels,
+        points,
+        identity,
+        ty,
+        kind,
+        time,
+        mass,
+    )
+}
+
+// Supplies all levels of a standing movement, replacing earlier ones.
+pub fn supply(
+    ids: &[u32],
+    groups: &[u32],
+    marks: &mut [u32],
+    levels: &mut [u32],
+    points: usize,
+    identity: u32,
+    given: &[u32],
+) -> u32
+    ensures { λ r. ⌜ Called points (bookOf (now (ids .entry)) (now (groups .entry)) (now (marks .entry)) (now (levels .entry))) (Call.supply identity (now (given .entry))) r (bookOf (now (ids .entry)) (now (groups .entry)) (now (marks .exit)) (now (levels .exit))) ⌝ }
+{
+    if !is_sound(ids, groups, marks, levels, points) {
+        return 9;
+    }
+    core::supply(ids, groups, marks, levels, points, identity, given)
+}
+
+// Takes the levels of a movement back: it is no longer computed.
+pub fn take_back(
+    ids: &[u32],
+    groups: &[u32],
+    marks: &mut [u32],
+    levels: &mut [u32],
+    points: usize,
+    identity: u32,
+) -> u32
+    ensures { λ r. ⌜ Called points (bookOf (now (ids .entry)) (now (groups .entry)) (now (marks .entry)) (now (levels .entry))) (Call.takeBack identity) r (bookOf (now (ids .entry)) (now (groups .entry)) (now (marks .exit)) (now (levels .exit))) ⌝ }
+{
+    if !is_sound(ids, groups, marks, levels, points) {
+        return 9;
+    }
+    core::take_back(ids, groups, marks, levels, points, identity)
+}
+
+// Withdraws a movement: later rows move down.
+pub fn withdraw(
+    ids: &mut [u32],
+    groups: &mut [u32],
+    marks: &mut [u32],
+    levels: &mut [u32],
+    points: usize,
+    identity: u32,
+) -> u32
+    ensures { λ r. ⌜ Called points (bookOf (now (ids .entry)) (now (groups .entry)) (now (marks .entry)) (now (levels .entry))) (Call.withdraw identity) r (bookOf (now (ids .exit)) (now (groups .exit)) (now (marks .exit)) (now (levels .exit))) ⌝ }
+{
+    if !is_sound(ids, groups, marks, levels, points) {
+        return 9;
+    }
+    core::withdraw(ids, groups, marks, levels, points, identity)
+}

@@ -3,30 +3,30 @@
 use crate::printing::case;
 
 fn enter(ids: &mut [u32], groups: &mut [u32], marks: &mut [u32], levels: &mut [u32]) {
-    let other = calls::enter(ids, groups, marks, levels, 2, 0, 3, 0, 0, 0);
+    let other = book::enter(ids, groups, marks, levels, 2, 0, 3, 0, 0, 0);
     case(b"enter for 2 points, type 3", other, 9);
-    let entered = calls::enter(ids, groups, marks, levels, 1, 4, 0, 0, 0, 151);
+    let entered = book::enter(ids, groups, marks, levels, 1, 4, 0, 0, 0, 151);
     case(b"enter 4", entered, 0);
 }
 
 fn supply(ids: &[u32], groups: &[u32], marks: &mut [u32], levels: &mut [u32], given: &[u32]) {
-    let other = calls::supply(ids, groups, marks, levels, 2, 0, given);
+    let other = book::supply(ids, groups, marks, levels, 2, 0, given);
     case(b"supply for 2 points, identity 0", other, 9);
-    let supplied = calls::supply(ids, groups, marks, levels, 1, 4, given);
+    let supplied = book::supply(ids, groups, marks, levels, 1, 4, given);
     case(b"supply 4", supplied, 0);
 }
 
 fn take_back(ids: &[u32], groups: &[u32], marks: &mut [u32], levels: &mut [u32]) {
-    let other = calls::take_back(ids, groups, marks, levels, 9, 0);
+    let other = book::take_back(ids, groups, marks, levels, 9, 0);
     case(b"take back for 9 points, identity 0", other, 9);
-    let taken = calls::take_back(ids, groups, marks, levels, 1, 4);
+    let taken = book::take_back(ids, groups, marks, levels, 1, 4);
     case(b"take back 4", taken, 0);
 }
 
 fn withdraw(ids: &mut [u32], groups: &mut [u32], marks: &mut [u32], levels: &mut [u32]) {
-    let other = calls::withdraw(ids, groups, marks, levels, 0, 0);
+    let other = book::withdraw(ids, groups, marks, levels, 0, 0);
     case(b"withdraw for 0 points, identity 0", other, 9);
-    let withdrawn = calls::withdraw(ids, groups, marks, levels, 1, 4);
+    let withdrawn = book::withdraw(ids, groups, marks, levels, 1, 4);
     case(b"withdraw 4", withdrawn, 0);
 }
 
@@ -47,7 +47,7 @@ fn enter_for(levels: &mut [u32], points: usize, name: &[u8], want: u32) {
     let mut ids = [0u32; 1];
     let mut groups = [0u32; 1];
     let mut marks = [0u32; 1];
-    let entered = calls::enter(
+    let entered = book::enter(
         &mut ids,
         &mut groups,
         &mut marks,

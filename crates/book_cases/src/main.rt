@@ -1,4 +1,4 @@
-// The document's cases for the calls on a book: each answer is printed beside what it should be. The calls stand in a journal, in order, and are
+// The cases of RULES for the calls on a book: each answer is printed beside what it should be. The calls stand in a journal, in order, and are
 // made by a replay; refusals of the whole, and each call made by itself for another number of points, follow.
 mod direct;
 mod printing;

@@ -7,8 +7,8 @@ use native.Mathlib.Omega.{arith}
 use lib.ListN.{length, take, drop, replicate, length-drop, length-append, length-replicate, take-append-drop, replicate-append-replicate}
 use lib.Seq.{take-at, drop-at, take-append-add, take-all, drop-length, drop-drop, length-take-le}
 use borrow.Rule.Slice.PartMut.{midOf, postOf, putMid, post-is, mid-len}
-use Rattle.book.specs.Columns.{opened, closed, replaced}
-use Rattle.book.specs.Rows.{ZeroFrom}
+use Rattle.book_rules.specs.Columns.{opened, closed, replaced}
+use Rattle.book_rules.specs.Rows.{ZeroFrom}
 
 -- the part from a on
 tail-mid : (a : ℕ) (xs : List ℕ) → midOf a (length xs - a) xs ≡ drop a xs

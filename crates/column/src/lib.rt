@@ -1,2 +1,2 @@
-// One column of the book, of any width: document 01, "Movements and the book".
+// One column of the book, of any width: RULES, "Movements and the book".
 pub mod core;

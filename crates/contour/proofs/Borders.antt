@@ -11,10 +11,10 @@ use Rattle.network.specs.declared.Edge.{Edge}
 use Rattle.network.specs.declared.Edge.the-variants.{Horizontal, Vertical}
 use Rattle.network.specs.Edges.{horizontals, edges, numberOf, edgeAt}
 use Rattle.network.proofs.Numbers.{at-number, number-lt}
-use Rattle.lines.specs.Picture.{Picture}
-use Rattle.lines.specs.Crossings.{onBorder, edgesIn, edgeOf, entersAt}
-use Rattle.lines.specs.Contours.{waiting, swept, noneListed, allListed, crossedTo}
-use Rattle.lines.proofs.Steps.{enters-border}
+use Rattle.contour_rules.specs.Picture.{Picture}
+use Rattle.contour_rules.specs.Crossings.{onBorder, edgesIn, edgeOf, entersAt}
+use Rattle.contour_rules.specs.Contours.{waiting, swept, noneListed, allListed, crossedTo}
+use Rattle.contour_rules.proofs.Steps.{enters-border}
 use Rattle.contour.specs.Desk.{Desk, desk, Holds, Room, Grows, Sweeps, tried}
 use Rattle.contour.proofs.Listings.{sweep-begins, sweep-goes-on, sweep-joins, sweep-skips, none-held}
 

@@ -10,10 +10,10 @@ use lib.Dec.{leb}
 use lib.ListN.{length, getD, take, drop, set}
 use lib.Seq.{drop-cons, take-suc, set-at, length-take-le}
 use Rattle.network.proofs.Refusals.{both}
-use Rattle.lines.specs.Picture.{Picture}
-use Rattle.lines.specs.Crossings.{crossedAt}
-use Rattle.lines.specs.Contours.{bit, crossedTo}
-use Rattle.lines.proofs.Waiting.{length-crossed}
+use Rattle.contour_rules.specs.Picture.{Picture}
+use Rattle.contour_rules.specs.Crossings.{crossedAt}
+use Rattle.contour_rules.specs.Contours.{bit, crossedTo}
+use Rattle.contour_rules.proofs.Waiting.{length-crossed}
 use Rattle.contour.specs.Answers.{front}
 
 pub copy-more : (s d : List ℕ) (i : ℕ) → i < length s → i < length d → set (take i s ++ drop i d) i (getD s i 0) ≡ take (i + 1) s ++ drop (i + 1) d

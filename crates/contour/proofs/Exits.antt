@@ -1,8 +1,8 @@
 -- The side by which a line leaves a square, from what the code finds of its two far corners. Assumes nothing.
 use mathlib.Core.Path.{_≡_, sym, ap, _∙_}
 use mathlib.Core.Bool.{Bool, true, false}
-use Rattle.lines.specs.declared.Side.{Side}
-use Rattle.lines.specs.Squares.{turn, exitSide}
+use Rattle.contour_rules.specs.declared.Side.{Side}
+use Rattle.contour_rules.specs.Squares.{turn, exitSide}
 
 -- corners `k`, the side entered, the other three in turn, and whether the far corners are in
 module _ (k : Side → Bool) (cut : Bool) (s on-right across on-left : Side) (right left : Bool) (p : on-right ≡ turn s) (q : across ≡ turn on-right)

@@ -7,8 +7,8 @@ use native.Mathlib.Omega.{arith}
 use borrow.Author.Tests.{le-leb}
 use lib.ListN.{length, take}
 use lib.Seq.{take-at}
-use Rattle.lines.specs.Contours.{Contour, edgesOf, countsOf, closedOf}
-use Rattle.lines.proofs.Sums.{length-counts, length-closed}
+use Rattle.contour_rules.specs.Contours.{Contour, edgesOf, countsOf, closedOf}
+use Rattle.contour_rules.proofs.Sums.{length-counts, length-closed}
 use Rattle.contour.specs.Answers.{Outcome, front, fits, handedOut, contoursOut, Leaves}
 use Rattle.contour.specs.Desk.{Listed}
 

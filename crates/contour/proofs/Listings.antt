@@ -10,11 +10,11 @@ use lib.ListN.{length, take, drop, set, length-set, length-append, length-drop}
 use lib.Seq.{drop-cons, set-at, take-at, drop-append-add, drop-drop, length-take-le}
 use lib.Dec.{ltb}
 use Rattle.network.proofs.Refusals.{both}
-use Rattle.lines.specs.Picture.{Picture}
-use Rattle.lines.specs.Crossings.{crossedAt, entersAt, nextAt, edgesIn}
-use Rattle.lines.specs.Contours.{Contour, bit, waits, waiting, follow, contourFrom, without, Listing, add, try, swept, noneListed, openListed, allListed, contoursOf, crossedTo, edgesOf, countsOf, closedOf}
-use Rattle.lines.proofs.Waiting.{clash, stays-out, length-without, waiting-without, waiting-le, follow-on, length-crossed, crossed-waits-all}
-use Rattle.lines.proofs.Sums.{edges-append, counts-append, closed-append, length-counts, length-closed}
+use Rattle.contour_rules.specs.Picture.{Picture}
+use Rattle.contour_rules.specs.Crossings.{crossedAt, entersAt, nextAt, edgesIn}
+use Rattle.contour_rules.specs.Contours.{Contour, bit, waits, waiting, follow, contourFrom, without, Listing, add, try, swept, noneListed, openListed, allListed, contoursOf, crossedTo, edgesOf, countsOf, closedOf}
+use Rattle.contour_rules.proofs.Waiting.{clash, stays-out, length-without, waiting-without, waiting-le, follow-on, length-crossed, crossed-waits-all}
+use Rattle.contour_rules.proofs.Sums.{edges-append, counts-append, closed-append, length-counts, length-closed}
 use Rattle.contour.specs.Answers.{front}
 use Rattle.contour.specs.Walk.{OnlyCrossed, written, Traced}
 use Rattle.contour.specs.Desk.{Desk, desk, Holds, Room, Grows, Sweeps, Listed, added, tried}

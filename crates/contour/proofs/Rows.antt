@@ -9,10 +9,10 @@ use lib.ListN.{length, drop, set, length-append, length-drop}
 use lib.Seq.{drop-length}
 use Rattle.network.specs.Edges.{edges, numberOf, edgeAt, WithinEdge}
 use Rattle.network.proofs.Numbers.{at-number, number-lt}
-use Rattle.lines.specs.Picture.{Picture}
-use Rattle.lines.specs.Crossings.{crossed, edgesIn, edgeOf, crossedAt}
-use Rattle.lines.specs.Contours.{bit, crossedTo}
-use Rattle.lines.proofs.Waiting.{length-crossed}
+use Rattle.contour_rules.specs.Picture.{Picture}
+use Rattle.contour_rules.specs.Crossings.{crossed, edgesIn, edgeOf, crossedAt}
+use Rattle.contour_rules.specs.Contours.{bit, crossedTo}
+use Rattle.contour_rules.proofs.Waiting.{length-crossed}
 use Rattle.contour.specs.Fill.{edgeIn, rowWidth, rowCount, Fills}
 use Rattle.contour.proofs.Buffers.{crossed-none, crossed-more}
 

@@ -15,8 +15,8 @@ use Rattle.network.specs.Refusals.{contourChecked, contourRefusal}
 use Rattle.network.specs.Ranges.{RoomRefused}
 use Rattle.network.proofs.Refusals.{both, contour-on, contour-off}
 use Rattle.network.proofs.Ranges.{room-refused}
-use Rattle.lines.specs.Contours.{Contour, bit, edgesOf, countsOf, closedOf}
-use Rattle.lines.proofs.Sums.{length-counts, length-closed}
+use Rattle.contour_rules.specs.Contours.{Contour, bit, edgesOf, countsOf, closedOf}
+use Rattle.contour_rules.proofs.Sums.{length-counts, length-closed}
 use Rattle.contour.specs.Answers.{Outcome, refused, front, fits, contoursOut, outcome}
 use Rattle.contour.specs.Told.{contoursTold, found, Enough, Told}
 

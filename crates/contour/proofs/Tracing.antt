@@ -9,16 +9,16 @@ use lib.ListN.{length, take, drop, set, length-set, length-append, take-append-d
 use lib.Seq.{take-suc-set, drop-set-lt, drop-drop, length-take-le, append-snoc}
 use Rattle.network.specs.Edges.{WithinEdge}
 use Rattle.network.proofs.Numbers.{edge-within, at-number}
-use Rattle.lines.specs.declared.Ahead.{Ahead}
-use Rattle.lines.specs.declared.Ahead.the-variants.{Square, Outside}
-use Rattle.lines.specs.declared.Side.{Side}
-use Rattle.lines.specs.Picture.{Picture}
-use Rattle.lines.specs.Squares.{sideEdge, exitOf}
-use Rattle.lines.specs.Crossings.{crossed, aheadOf, through, Next, To, Out, nextOf, nextNumber, edgesIn, edgeOf, crossedAt, nextAt}
-use Rattle.lines.specs.Contours.{waits, waiting, contourFrom, without}
-use Rattle.lines.proofs.Heading.{Entered, entered, next-within}
-use Rattle.lines.proofs.Back.{goes-beyond}
-use Rattle.lines.proofs.Waiting.{waits-lt, waiting-set, waited, follow-on, follow-stop}
+use Rattle.contour_rules.specs.declared.Ahead.{Ahead}
+use Rattle.contour_rules.specs.declared.Ahead.the-variants.{Square, Outside}
+use Rattle.contour_rules.specs.declared.Side.{Side}
+use Rattle.contour_rules.specs.Picture.{Picture}
+use Rattle.contour_rules.specs.Squares.{sideEdge, exitOf}
+use Rattle.contour_rules.specs.Crossings.{crossed, aheadOf, through, Next, To, Out, nextOf, nextNumber, edgesIn, edgeOf, crossedAt, nextAt}
+use Rattle.contour_rules.specs.Contours.{waits, waiting, contourFrom, without}
+use Rattle.contour_rules.proofs.Heading.{Entered, entered, next-within}
+use Rattle.contour_rules.proofs.Back.{goes-beyond}
+use Rattle.contour_rules.proofs.Waiting.{waits-lt, waiting-set, waited, follow-on, follow-stop}
 use Rattle.contour.specs.Walk.{WithinAhead, stepEdge, stepAhead, OnlyCrossed, Traceable, written, Traced}
 
 -- what lies ahead of a crossed edge is in the network

@@ -1,4 +1,4 @@
--- What the call for contours answers, and what it leaves in the four buffers lent to it: document 01, "Network and contours" and "Refusal numbers".
+-- What the call for contours answers, and what it leaves in the four buffers lent to it: RULES, "Network and contours" and "Refusal numbers".
 -- Assumes nothing.
 use mathlib.Core.Path.{_≡_}
 use mathlib.Core.Bool.{Bool, _&&_, cond}
@@ -8,8 +8,8 @@ use lib.Dec.{leb, eqb}
 use lib.ListN.{length, drop}
 use Rattle.network.specs.declared.Frame.{Frame}
 use Rattle.network.specs.Refusals.{contourRefusal}
-use Rattle.lines.specs.Picture.{picture}
-use Rattle.lines.specs.Contours.{Contour, contoursOf, edgesOf, countsOf, closedOf}
+use Rattle.contour_rules.specs.Picture.{picture}
+use Rattle.contour_rules.specs.Contours.{Contour, contoursOf, edgesOf, countsOf, closedOf}
 
 -- 0 or the refusal's number, with the final contents of the buffers
 pub record Outcome : Type 0 where

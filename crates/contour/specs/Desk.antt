@@ -4,9 +4,9 @@ use mathlib.Core.Bool.{Bool, false}
 use mathlib.Core.List.{List}
 use Prim.Native.Nat.{ℕ, _+_, _≤_, _<_}
 use lib.ListN.{length}
-use Rattle.lines.specs.Picture.{Picture}
-use Rattle.lines.specs.Crossings.{edgesIn}
-use Rattle.lines.specs.Contours.{Contour, Listing, waits, waiting, contourFrom, add, try, swept, edgesOf, countsOf, closedOf}
+use Rattle.contour_rules.specs.Picture.{Picture}
+use Rattle.contour_rules.specs.Crossings.{edgesIn}
+use Rattle.contour_rules.specs.Contours.{Contour, Listing, waits, waiting, contourFrom, add, try, swept, edgesOf, countsOf, closedOf}
 use Rattle.contour.specs.Answers.{front}
 use Rattle.contour.specs.Walk.{OnlyCrossed}
 

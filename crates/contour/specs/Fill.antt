@@ -6,8 +6,8 @@ use Prim.Native.Nat.{ℕ, _-_}
 use lib.ListN.{drop}
 use Rattle.network.specs.declared.Edge.{Edge}
 use Rattle.network.specs.declared.Edge.the-variants.{Horizontal, Vertical}
-use Rattle.lines.specs.Picture.{Picture}
-use Rattle.lines.specs.Contours.{crossedTo}
+use Rattle.contour_rules.specs.Picture.{Picture}
+use Rattle.contour_rules.specs.Contours.{crossedTo}
 
 -- the edges of a row, up to the next row or along the row; how many there are, and how many such rows
 abbrev pub edgeIn : Bool → ℕ → ℕ → Edge

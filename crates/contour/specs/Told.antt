@@ -1,5 +1,5 @@
--- What the call for contours leaves in the room lent to it, read back: document 01, "An answer lists edge numbers, and
--- for each contour its count and whether it closes; room past the answer keeps its bytes". Assumes nothing.
+-- What the call for contours leaves in the room lent to it, read back: RULES, "Network and contours": an answer lists edge
+-- numbers, and for each contour its count and whether it closes; room past the answer keeps its bytes. Assumes nothing.
 use mathlib.Core.Path.{_≡_}
 use mathlib.Core.List.{List, [], _∷_}
 use Prim.Native.Nat.{ℕ, _≤_}
@@ -7,8 +7,8 @@ use lib.Dec.{eqb}
 use lib.ListN.{length, getD, take, drop}
 use Rattle.network.specs.declared.Frame.{Frame}
 use Rattle.network.specs.Ranges.{RoomRefused}
-use Rattle.lines.specs.Picture.{picture}
-use Rattle.lines.specs.Contours.{Contour, contoursOf, edgesOf}
+use Rattle.contour_rules.specs.Picture.{picture}
+use Rattle.contour_rules.specs.Contours.{Contour, contoursOf, edgesOf}
 use Rattle.contour.specs.Answers.{Outcome}
 
 -- the contours that numbers tell: edges, one contour after the other; how many each has; and 1 where it closes

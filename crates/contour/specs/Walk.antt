@@ -4,12 +4,12 @@ use mathlib.Core.Bool.{true}
 use mathlib.Core.List.{List, _++_}
 use Prim.Native.Nat.{ℕ, _+_, _≤_, _<_}
 use lib.ListN.{length, take, drop}
-use Rattle.lines.specs.declared.Ahead.{Ahead}
-use Rattle.lines.specs.declared.Ahead.the-variants.{Square, Outside}
-use Rattle.lines.specs.Picture.{Picture}
-use Rattle.lines.specs.Squares.{WithinSquare, exitOf}
-use Rattle.lines.specs.Crossings.{beyond, through, nextNumber, aheadOf, edgesIn, edgeOf, crossedAt}
-use Rattle.lines.specs.Contours.{waits, waiting, contourFrom, without}
+use Rattle.contour_rules.specs.declared.Ahead.{Ahead}
+use Rattle.contour_rules.specs.declared.Ahead.the-variants.{Square, Outside}
+use Rattle.contour_rules.specs.Picture.{Picture}
+use Rattle.contour_rules.specs.Squares.{WithinSquare, exitOf}
+use Rattle.contour_rules.specs.Crossings.{beyond, through, nextNumber, aheadOf, edgesIn, edgeOf, crossedAt}
+use Rattle.contour_rules.specs.Contours.{waits, waiting, contourFrom, without}
 
 -- what lies ahead is in the network, or outside
 abbrev pub WithinAhead : ℕ → ℕ → Ahead → Type 0

@@ -4,8 +4,8 @@ ghost use mathlib.Core.List.{_++_};
 ghost use Prim.Native.Nat.{_+_, _≤_, _<_};
 ghost use lib.ListN.{length, take, drop};
 ghost use Rattle.network.specs.Edges.{Sized, numberOf, edges as edgeCount};
-ghost use Rattle.lines.specs.Picture.{picture};
-ghost use Rattle.lines.specs.Contours.{bit, crossedTo};
+ghost use Rattle.contour_rules.specs.Picture.{picture};
+ghost use Rattle.contour_rules.specs.Contours.{bit, crossedTo};
 ghost use Rattle.contour.specs.Fill.{edgeIn, rowWidth, rowCount, Fills};
 use network::Edge;
 

@@ -1,4 +1,4 @@
-// The contours of a network at a level: document 01, "Network and contours".
+// The contours of a network at a level: RULES, "Network and contours".
 ghost use mathlib.Core.Path.{_≡_};
 ghost use mathlib.Core.Bool.{_&&_};
 ghost use mathlib.Core.List.{_++_, _∷_, []};
@@ -6,8 +6,8 @@ ghost use Prim.Native.Nat.{_≤_};
 ghost use lib.Dec.{leb};
 ghost use lib.ListN.{length, take};
 ghost use Rattle.network.specs.Edges.{Sized, edges as edgeCount};
-ghost use Rattle.lines.specs.Picture.{picture};
-ghost use Rattle.lines.specs.Contours.{contoursOf};
+ghost use Rattle.contour_rules.specs.Picture.{picture};
+ghost use Rattle.contour_rules.specs.Contours.{contoursOf};
 ghost use Rattle.contour.specs.Answers.{front, handedOut, contoursOut, outcome, Leaves};
 use crate::core::MOST_EDGES;
 use crate::core::Progress;

@@ -5,14 +5,14 @@ ghost use Prim.Native.Nat.{_+_, _-_, _<_, _≤_};
 ghost use lib.ListN.{length};
 ghost use Rattle.network.specs.Edges.{Sized, WithinEdge, numberOf, edges as edgeCount};
 ghost use Rattle.network.specs.declared.Edge.the-variants.{Vertical};
-ghost use Rattle.lines.specs.Picture.{picture};
-ghost use Rattle.lines.specs.Crossings.{firstIn, acrossOf, aheadOf, edgeOf, isOutside, entersAt};
-ghost use Rattle.lines.specs.Contours.{bit, waits, crossedTo, allListed};
+ghost use Rattle.contour_rules.specs.Picture.{picture};
+ghost use Rattle.contour_rules.specs.Crossings.{firstIn, acrossOf, aheadOf, edgeOf, isOutside, entersAt};
+ghost use Rattle.contour_rules.specs.Contours.{bit, waits, crossedTo, allListed};
 ghost use Rattle.contour.specs.Desk.{desk, Room, Grows, Sweeps, FirstWaiting, Holds, added, tried};
 use crate::core::Progress;
 use crate::walk;
 use crate::walk::Stand;
-use lines::Ahead;
+use contour_rules::Ahead;
 use network::Edge;
 
 // Whether the west or south end of the edge is in.

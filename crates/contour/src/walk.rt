@@ -2,13 +2,13 @@
 ghost use mathlib.Core.Path.{_≡_};
 ghost use Prim.Native.Nat.{_<_};
 ghost use Rattle.network.specs.Edges.{Sides, Sized, WithinEdge};
-ghost use Rattle.lines.specs.Picture.{picture, cutOf};
-ghost use Rattle.lines.specs.Squares.{WithinSquare, turn, corner, exitOf, sideEdge};
-ghost use Rattle.lines.specs.Crossings.{northOf, southOf, westOf, eastOf, beyond, acrossOf};
-ghost use Rattle.lines.specs.Contours.{waits};
+ghost use Rattle.contour_rules.specs.Picture.{picture, cutOf};
+ghost use Rattle.contour_rules.specs.Squares.{WithinSquare, turn, corner, exitOf, sideEdge};
+ghost use Rattle.contour_rules.specs.Crossings.{northOf, southOf, westOf, eastOf, beyond, acrossOf};
+ghost use Rattle.contour_rules.specs.Contours.{waits};
 ghost use Rattle.contour.specs.Walk.{WithinAhead, stepEdge, stepAhead, Traceable, Traced};
-use lines::Ahead;
-use lines::Side;
+use contour_rules::Ahead;
+use contour_rules::Side;
 use network::Edge;
 
 // The next side counterclockwise.

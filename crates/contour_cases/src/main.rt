@@ -22,7 +22,7 @@ fn frame(columns: u32, rows: u32) -> Frame {
 }
 
 fn small_networks() {
-    // document 01: the middle of three by three is in
+    // the rules: the middle of three by three is in
     let hill = [4000u32, 4000, 4000, 4000, 5000, 4000, 4000, 4000, 4000];
     show(&hill, frame(3, 3), 4500, b"2 7 3 10 | 4 | 1");
     // one square, its south-west corner in

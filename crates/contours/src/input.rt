@@ -1,16 +1,16 @@
 // What the program is given: the network's bytes and the contour levels among its arguments.
 use libc::STDIN_FILENO;
-use sheet::core::intake::READING;
-use sheet::core::intake::Turn;
-use sheet::core::intake::next_turn;
-use sheet::words::Given;
-use sheet::words::take_word;
+use contours_steps::core::intake::READING;
+use contours_steps::core::intake::Turn;
+use contours_steps::core::intake::next_turn;
+use contours_steps::words::Given;
+use contours_steps::words::take_word;
 ghost use mathlib.Core.Path.{_≡_};
 ghost use mathlib.Core.Bool.{_&&_};
 ghost use Prim.Native.Nat.{_<_};
 ghost use lib.ListN.{length};
-ghost use Rattle.sheet.specs.Intake.{Turned, TextRead};
-ghost use Rattle.sheet.specs.Words.{Gathered, ArgumentTaken};
+ghost use Rattle.contours_steps.specs.Intake.{Turned, TextRead};
+ghost use Rattle.contours_steps.specs.Words.{Gathered, ArgumentTaken};
 
 // One read behind the first n bytes.
 fn read_on(text: &mut [u8], n: usize) -> Turn

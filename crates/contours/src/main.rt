@@ -7,21 +7,21 @@ mod print;
 mod say;
 
 use network::Frame;
-use sheet::core::intake::FAILED;
-use sheet::core::intake::Turn;
-use sheet::core::intake::WHOLE;
-use sheet::core::intake::line_begun;
-use sheet::core::intake::overlong_line;
-use sheet::words::Given;
-use sheet::words::MOST_LEVELS;
-use sheet::words::words_refusal;
+use contours_steps::core::intake::FAILED;
+use contours_steps::core::intake::Turn;
+use contours_steps::core::intake::WHOLE;
+use contours_steps::core::intake::line_begun;
+use contours_steps::core::intake::overlong_line;
+use contours_steps::words::Given;
+use contours_steps::words::MOST_LEVELS;
+use contours_steps::words::words_refusal;
 ghost use mathlib.Core.Path.{_≡_};
 ghost use lib.ListN.{length};
-ghost use Rattle.sheet.specs.Answer.{ReadWhole, ReadFailed, ReadFull};
-ghost use Rattle.sheet.specs.Intake.{TextRead};
-ghost use Rattle.sheet.specs.Sheet.{textRefusal, refusedAt, mostText};
-ghost use Rattle.sheet.specs.Words.{Gathered, mostLevels, givenRefusal};
-ghost use Rattle.sheet.specs.Drawing.{Stored};
+ghost use Rattle.contours_steps.specs.Answer.{ReadWhole, ReadFailed, ReadFull};
+ghost use Rattle.contours_steps.specs.Intake.{TextRead};
+ghost use Rattle.contours_steps.specs.Sheet.{textRefusal, refusedAt, mostText};
+ghost use Rattle.contours_steps.specs.Words.{Gathered, mostLevels, givenRefusal};
+ghost use Rattle.contours_steps.specs.Drawing.{Stored};
 
 // Room for any network that is not refused, and more: 65,536 values of up to 8 bytes, each with the space or line end
 // behind it, and the header.

@@ -4,10 +4,10 @@ use contour::core::MOST_EDGES;
 use contour::core::Progress;
 use libc::STDOUT_FILENO;
 use network::Frame;
-use sheet::core::intake::Turn;
-use sheet::core::put::put_refused;
-use sheet::core::put::put_start;
-use sheet::words::Given;
+use contours_steps::core::intake::Turn;
+use contours_steps::core::put::put_refused;
+use contours_steps::core::put::put_start;
+use contours_steps::words::Given;
 use wkt::core::first;
 use wkt::core::print_part;
 ghost use mathlib.Core.Path.{_≡_};
@@ -16,11 +16,11 @@ ghost use lib.ListN.{length, getD, take};
 ghost use Rattle.wkt.specs.Calls.{networkText};
 ghost use Rattle.wkt.specs.Parts.{Printable, linesFrom};
 ghost use Rattle.wkt.specs.Text.{textOf};
-ghost use Rattle.sheet.specs.Sheet.{lineStart, levelLine, sheetOf, refusedLine, lineBegun, overlongLine};
-ghost use Rattle.sheet.specs.Words.{Gathered};
-ghost use Rattle.sheet.specs.Drawing.{Accepted, Refused, Drawable};
-ghost use Rattle.sheet.specs.Due.{Due};
-ghost use Rattle.sheet.specs.Answer.{ReadWhole, ReadFailed, ReadFull, Answered};
+ghost use Rattle.contours_steps.specs.Sheet.{lineStart, levelLine, sheetOf, refusedLine, lineBegun, overlongLine};
+ghost use Rattle.contours_steps.specs.Words.{Gathered};
+ghost use Rattle.contours_steps.specs.Drawing.{Accepted, Refused, Drawable};
+ghost use Rattle.contours_steps.specs.Due.{Due};
+ghost use Rattle.contours_steps.specs.Answer.{ReadWhole, ReadFailed, ReadFull, Answered};
 
 // The one write of a part of the sheet, which is due past the `sent` bytes before it. The count goes on with it, so that
 // no part is due twice.

@@ -1,5 +1,5 @@
 -- A network file by its lines: five keys with whole numbers, where it is named the no-data value, then the rows.
--- Document 01, "Files and the report program"; a missing header line counts as an empty one. Assumes nothing.
+-- The rules, "Files and the report program"; a missing header line counts as an empty one. Assumes nothing.
 use Prim.Native.Nat.{ℕ, _+_}
 use mathlib.Core.List.{List, [], _∷_, _++_, map}
 use mathlib.Core.Bool.{Bool, cond, _&&_, _||_}

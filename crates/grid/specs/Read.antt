@@ -1,5 +1,5 @@
 -- A network text that is read: what it is refused with, and what it leaves in the room that is lent.
--- Document 01, "Refusal numbers": 17, 12, 13, 14. Assumes nothing.
+-- The rules, "Refusal numbers": 17, 12, 13, 14. Assumes nothing.
 use Prim.Native.Nat.{ℕ}
 use mathlib.Core.List.{List, [], _∷_, _++_}
 use mathlib.Core.Bool.{cond, _&&_}

@@ -1,5 +1,5 @@
 -- A row of a network file: values parted by one space, each a level or the no-data value as the file spells it.
--- Document 01, "Files and the report program". A space is 32. Assumes nothing.
+-- The rules, "Files and the report program". A space is 32. Assumes nothing.
 use Prim.Native.Nat.{ℕ}
 use mathlib.Core.List.{List, [], _∷_, _++_, map}
 use mathlib.Core.Bool.{Bool, true, cond, _&&_, _||_, not}

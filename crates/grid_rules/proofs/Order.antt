@@ -1,4 +1,4 @@
--- A text is refused with 17, 12, 13 or 14, in this order, exactly where the document says. Assumes nothing.
+-- A text is refused with 17, 12, 13 or 14, in this order, exactly where the rules say. Assumes nothing.
 use Prim.Native.Nat.{ℕ, zero, suc, _+_, _-_, _*_, _≤_, _<_}
 use mathlib.Core.Path.{_≡_, refl, sym, ap, _∙_}
 use mathlib.Core.List.{List, [], _∷_, _++_, map}
@@ -288,7 +288,7 @@ module _ (text : List ℕ) where
         (λ c l. let v = value i c h (omega (arith, value-count (getD rows i []))) in
         rw (spelling, value-field (getD rows i []) c) (given-is nodata (fieldOf 32 c (getD rows i [])) (v .other)))))
 
-  -- 17, 12, 13, 14, each exactly where the document says
+  -- 17, 12, 13, 14, each exactly where the rules say
   refused-from : (headers room first : ℕ) (nodata : List ℕ) → Fault text (faultLine lines) first nodata → rowsOf lines ≡ drop first lines
       → noDataOf lines ≡ nodata → (faultLine lines ≡ 0 → first ≤ length lines) → Refused text headers room (readRefusal text headers room) f first nodata
   refused-from headers room first nodata fault start spelling there =

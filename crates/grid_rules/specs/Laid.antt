@@ -1,4 +1,4 @@
--- Where a network file says what, line by line and place by place: document 01, "Files and the report program".
+-- Where a network file says what, line by line and place by place: RULES, "Files and the report program".
 -- Assumes nothing.
 use Prim.Native.Nat.{ℕ, suc, _+_, _-_, _*_, _<_}
 use mathlib.Core.Path.{_≡_}

@@ -1,4 +1,4 @@
--- Which network texts are refused, by which number and at which line: document 01, "Files and the report program" and
+-- Which network texts are refused, by which number and at which line: RULES, "Files and the report program" and
 -- "Refusal numbers": 17 where a line is off its layout, then 12, then 13, then 14. Assumes nothing.
 use Prim.Native.Nat.{ℕ, suc, _*_, _≤_, _<_}
 use mathlib.Core.Path.{_≡_}

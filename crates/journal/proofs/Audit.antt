@@ -9,14 +9,14 @@ use lib.ListN.{length, take, drop, length-append}
 use lib.Seq.{take-append-seam, drop-append-seam}
 use lib.Dec.{eqb, leb}
 use borrow.Author.Tests.{leb-true, leb-false, le-leb, eq-eqb, ne-eqb}
-use Rattle.book.specs.Columns.{Book, sound}
-use Rattle.book.specs.Calls.{Call, after}
-use Rattle.book.specs.Calls.Call.{enter, supply, takeBack, withdraw}
-use Rattle.book.specs.History.{Made, movements, booked, answered, listAnswered, rowsOf, emptyBook}
-use Rattle.book.specs.Chain.{Chain}
-use Rattle.book.specs.Chain.Chain.{done, called}
-use Rattle.book.proofs.History.{history}
-use Rattle.book.proofs.Order.{decides, given-by, sound-decides}
+use Rattle.book_rules.specs.Columns.{Book, sound}
+use Rattle.book_rules.specs.Calls.{Call, after}
+use Rattle.book_rules.specs.Calls.Call.{enter, supply, takeBack, withdraw}
+use Rattle.book_rules.specs.History.{Made, movements, booked, answered, listAnswered, rowsOf, emptyBook}
+use Rattle.book_rules.specs.Chain.{Chain}
+use Rattle.book_rules.specs.Chain.Chain.{done, called}
+use Rattle.book_rules.proofs.History.{history}
+use Rattle.book_rules.proofs.Order.{decides, given-by, sound-decides}
 use Rattle.journal.specs.Journal.{widthOf, callAt, whole, callsOf, laidOut, madeFor, written, replayRefusal, Replayed}
 use Rattle.journal.specs.Spelling.{spelled, journalOf, Spelled}
 use Rattle.journal.specs.Replay.{ReplayHolds}

@@ -10,8 +10,8 @@ use lib.Dec.{eqb, leb}
 use mathlib.Core.Logic.{_⊎_, ⊎-elim}
 use borrow.Author.Tests.{le-leb, lt-leb, leb-true, ne-eqb}
 use Rattle.refusal.proofs.Laws.{and-left, and-right}
-use Rattle.book.specs.Calls.{Call}
-use Rattle.book.specs.Calls.Call.{enter, supply, takeBack, withdraw}
+use Rattle.book_rules.specs.Calls.{Call}
+use Rattle.book_rules.specs.Calls.Call.{enter, supply, takeBack, withdraw}
 use Rattle.journal.specs.Journal.{widthOf, callAt, whole, callsFrom, laidOutFrom, callsOf, laidOut}
 
 -- numbers that belong to the call before are passed over

@@ -11,10 +11,10 @@ use lib.Dec.{leb}
 use borrow.Author.Tests.{eq-eqb, ne-eqb, leb-true}
 use Rattle.refusal.proofs.Laws.{refuse-none}
 use Rattle.column.proofs.Lists.{front, front-more}
-use Rattle.book.specs.Columns.{Book, sound}
-use Rattle.book.specs.Calls.{Call, Called, refusal, after}
-use Rattle.book.specs.History.{Made, made, booked, answered}
-use Rattle.book.proofs.Kept.{called-sound}
+use Rattle.book_rules.specs.Columns.{Book, sound}
+use Rattle.book_rules.specs.Calls.{Call, Called, refusal, after}
+use Rattle.book_rules.specs.History.{Made, made, booked, answered}
+use Rattle.book_rules.proofs.Kept.{called-sound}
 use Rattle.journal.specs.Journal.{callAt, callsOf, laidOut, madeFor, written, replayRefusal, Replayed}
 use Rattle.journal.proofs.Reading.{Step, tail, nothing-left}
 

@@ -8,10 +8,10 @@ use mathlib.Core.List.{List, [], _∷_, _++_}
 use lib.ListN.{length, take, drop, getD}
 use lib.Dec.{eqb, leb}
 use Rattle.refusal.specs.Refuse.{refuse}
-use Rattle.book.specs.Columns.{Book, sound}
-use Rattle.book.specs.Calls.{Call}
-use Rattle.book.specs.Calls.Call.{enter, supply, takeBack, withdraw}
-use Rattle.book.specs.History.{Made, made, booked, answered}
+use Rattle.book_rules.specs.Columns.{Book, sound}
+use Rattle.book_rules.specs.Calls.{Call}
+use Rattle.book_rules.specs.Calls.Call.{enter, supply, takeBack, withdraw}
+use Rattle.book_rules.specs.History.{Made, made, booked, answered}
 
 -- The calls that numbers spell
 

@@ -4,11 +4,11 @@ use mathlib.Core.Path.{_≡_}
 use mathlib.Core.Bool.{false}
 use mathlib.Core.List.{List}
 use lib.ListN.{length}
-use Rattle.book.specs.Columns.{Book}
-use Rattle.book.specs.History.{answered}
-use Rattle.book.specs.SoundBook.{SoundBook}
-use Rattle.book.specs.Order.{Given}
-use Rattle.book.specs.Chain.{Chain}
+use Rattle.book_rules.specs.Columns.{Book}
+use Rattle.book_rules.specs.History.{answered}
+use Rattle.book_rules.specs.SoundBook.{SoundBook}
+use Rattle.book_rules.specs.Order.{Given}
+use Rattle.book_rules.specs.Chain.{Chain}
 use Rattle.journal.specs.Journal.{laidOut, callsOf, madeFor, written}
 
 -- the replay of the journal j on the book b, with a room for answers, was answered r and left b′ and room′

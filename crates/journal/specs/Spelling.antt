@@ -3,8 +3,8 @@ use Prim.Native.Nat.{ℕ}
 use mathlib.Core.Path.{_≡_}
 use mathlib.Core.List.{List, [], _∷_, _++_}
 use lib.ListN.{length}
-use Rattle.book.specs.Calls.{Call}
-use Rattle.book.specs.Calls.Call.{enter, supply, takeBack, withdraw}
+use Rattle.book_rules.specs.Calls.{Call}
+use Rattle.book_rules.specs.Calls.Call.{enter, supply, takeBack, withdraw}
 use Rattle.journal.specs.Journal.{callsOf}
 
 unfoldable pub spelled : Call → List ℕ

@@ -2,7 +2,7 @@
 mod making;
 mod numbers;
 
-use book::soundness::is_sound;
+use soundness::is_sound;
 use making::make_call;
 use numbers::count_calls;
 use numbers::is_laid_out;
@@ -11,8 +11,8 @@ ghost use mathlib.Core.Path.{_≡_};
 ghost use mathlib.Core.Bool.{true};
 ghost use Prim.Native.Nat.{_≤_};
 ghost use lib.ListN.{length};
-ghost use Rattle.book.specs.Columns.{bookOf, sound};
-ghost use Rattle.book.specs.History.{booked, answered};
+ghost use Rattle.book_rules.specs.Columns.{bookOf, sound};
+ghost use Rattle.book_rules.specs.History.{booked, answered};
 ghost use Rattle.journal.specs.Journal.{laidOut, callsOf, madeFor, written, replayRefusal, Replayed};
 
 // 16, then 9, then 14, or 0.

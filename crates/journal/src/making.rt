@@ -3,8 +3,8 @@ ghost use mathlib.Core.Path.{_≡_};
 ghost use mathlib.Core.Bool.{true};
 ghost use Prim.Native.Nat.{_+_, _≤_};
 ghost use lib.ListN.{length, take, drop, getD};
-ghost use Rattle.book.specs.Columns.{bookOf, sound};
-ghost use Rattle.book.specs.Calls.{Call, Called};
+ghost use Rattle.book_rules.specs.Columns.{bookOf, sound};
+ghost use Rattle.book_rules.specs.Calls.{Call, Called};
 ghost use Rattle.journal.specs.Journal.{callAt, whole};
 
 fn enter_from(
@@ -19,7 +19,7 @@ fn enter_from(
     requires { ⌜ 6 ≤ length (now rest) ⌝ }
     ensures { λ r. ⌜ Called points (bookOf (now (ids .entry)) (now (groups .entry)) (now (marks .entry)) (now (levels .entry))) (Call.enter (getD (now (rest .entry)) 1 0) (getD (now (rest .entry)) 2 0) (getD (now (rest .entry)) 3 0) (getD (now (rest .entry)) 4 0) (getD (now (rest .entry)) 5 0)) r (bookOf (now (ids .exit)) (now (groups .exit)) (now (marks .exit)) (now (levels .exit))) ⌝ }
 {
-    calls::core::enter(
+    book::core::enter(
         ids,
         groups,
         marks,
@@ -46,7 +46,7 @@ fn supply_from(
     ensures { λ r. ⌜ Called points (bookOf (now (ids .entry)) (now (groups .entry)) (now (marks .entry)) (now (levels .entry))) (Call.supply (getD (now (rest .entry)) 1 0) (take (getD (now (rest .entry)) 2 0) (drop 3 (now (rest .entry))))) r (bookOf (now (ids .entry)) (now (groups .entry)) (now (marks .exit)) (now (levels .exit))) ⌝ }
 {
     let end = 3 + rest[2] as usize;
-    calls::core::supply(ids, groups, marks, levels, points, rest[1], &rest[3..end])
+    book::core::supply(ids, groups, marks, levels, points, rest[1], &rest[3..end])
 }
 
 pub(crate) fn make_call(
@@ -70,7 +70,7 @@ pub(crate) fn make_call(
         return supply_from(ids, groups, marks, levels, points, rest);
     }
     if kind == 3 {
-        return calls::core::take_back(ids, groups, marks, levels, points, identity);
+        return book::core::take_back(ids, groups, marks, levels, points, identity);
     }
-    calls::core::withdraw(ids, groups, marks, levels, points, identity)
+    book::core::withdraw(ids, groups, marks, levels, points, identity)
 }

@@ -1,4 +1,4 @@
--- Each number of document 01, "Energy and load", lies between its neighbours.
+-- Each number of RULES, "Energy and load", lies between its neighbours.
 -- Assumes nothing.
 use mathlib.Core.Path.{_≡_, refl, subst}
 use mathlib.Core.Bool.{Bool, true, false, cond}

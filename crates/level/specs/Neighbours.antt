@@ -1,4 +1,4 @@
--- What document 01, "Energy and load", says of each number, by the whole numbers on both sides of it.
+-- What RULES, "Energy and load", says of each number, by the whole numbers on both sides of it.
 -- Its own numbers stand here again, so that a definition with another of them, or another rounding, is stopped.
 -- Assumes nothing.
 use Prim.Native.Nat.{ℕ, suc, _+_, _*_, _/_, _%_, _^_, _≤_, _<_}

@@ -1,4 +1,4 @@
--- The two tables of document 01, "Energy and load", by their rules.
+-- The two tables of RULES, "Energy and load", by their rules.
 -- Assumes nothing.
 use Prim.Native.Nat.{ℕ, zero, suc, _+_, _*_, _^_, _≤_, _<_}
 use mathlib.Core.Path.{_≡_}

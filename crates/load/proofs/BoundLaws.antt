@@ -11,12 +11,12 @@ use Rattle.level.specs.Limits.{maxMovements, maxEnergy, maxTotal, maxMean}
 use Rattle.level.specs.Energy.{meanOf}
 use Rattle.level.proofs.ScaleLaws.{scaled-le, div-mono}
 use Rattle.movement.specs.Limits.{groupCount}
-use Rattle.counted.specs.declared.Group.{Group}
-use Rattle.counted.specs.Tally.{groupAt}
-use Rattle.counted.specs.Factors.{over, scaledBy, sumTo, known, unknown}
-use Rattle.counted.specs.Load.{countsOf, scaledEnergy}
-use Rattle.counted.proofs.SumLaws.{sum-le, sum-more, sum-times}
-use Rattle.counted.proofs.FactorLaws.{known-sum}
+use Rattle.load_rules.specs.declared.Group.{Group}
+use Rattle.load_rules.specs.Tally.{groupAt}
+use Rattle.load_rules.specs.Factors.{over, scaledBy, sumTo, known, unknown}
+use Rattle.load_rules.specs.Load.{countsOf, scaledEnergy}
+use Rattle.load_rules.proofs.SumLaws.{sum-le, sum-more, sum-times}
+use Rattle.load_rules.proofs.FactorLaws.{known-sum}
 use Rattle.load.specs.Steps.{Scalable, Bounded, Fitting, sumsOf}
 
 -- a product with a factor is at most the highest energy for each movement above

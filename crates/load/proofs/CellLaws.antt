@@ -9,9 +9,9 @@ use native.Mathlib.Omega.{arith}
 use lib.ListN.{replicate, set}
 use lib.Dec.{eqb}
 use mathlib.Core.List.{List}
-use Rattle.counted.specs.declared.Counts.{Counts}
-use Rattle.counted.specs.declared.Group.{Group}
-use Rattle.counted.specs.Tally.{table, groupAt, withGroup}
+use Rattle.load_rules.specs.declared.Counts.{Counts}
+use Rattle.load_rules.specs.declared.Group.{Group}
+use Rattle.load_rules.specs.Tally.{table, groupAt, withGroup}
 
 -- P holds at each number below n
 abbrev All : (ℕ → Type 0) → ℕ → Type 0

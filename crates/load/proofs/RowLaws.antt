@@ -20,14 +20,14 @@ use Rattle.movement.specs.declared.period.Period.the-variants.{Day, Evening, Ni
 use Rattle.movement.specs.Group.{groupPeriod}
 use Rattle.refusal.proofs.Laws.{and-left, and-right}
 use Rattle.refusal.specs.Range.{allWithin}
-use Rattle.book.specs.Columns.{Book, sound, headSound, topLevel, rowSound, rowsSound}
-use Rattle.book.proofs.Shapes.{sound-fits, sound-rows}
-use Rattle.counted.specs.declared.Group.{Group}
-use Rattle.counted.specs.Shares.{Share, energyIn, rowShare, sharesTo}
-use Rattle.counted.specs.Shares.Share.{has, lacks}
-use Rattle.counted.specs.Tally.{groupWith, addsComputed, addsMissing, addsEnergy, sumOf, tally, table, groupAt, withGroup}
-use Rattle.counted.proofs.SumLaws.{sum-ext}
-use Rattle.counted.proofs.TallyLaws.{sum-append, AllGrouped, grouped-append, counted-le}
+use Rattle.book_rules.specs.Columns.{Book, sound, headSound, topLevel, rowSound, rowsSound}
+use Rattle.book_rules.proofs.Shapes.{sound-fits, sound-rows}
+use Rattle.load_rules.specs.declared.Group.{Group}
+use Rattle.load_rules.specs.Shares.{Share, energyIn, rowShare, sharesTo}
+use Rattle.load_rules.specs.Shares.Share.{has, lacks}
+use Rattle.load_rules.specs.Tally.{groupWith, addsComputed, addsMissing, addsEnergy, sumOf, tally, table, groupAt, withGroup}
+use Rattle.load_rules.proofs.SumLaws.{sum-ext}
+use Rattle.load_rules.proofs.TallyLaws.{sum-append, AllGrouped, grouped-append, counted-le}
 use Rattle.load.specs.Steps.{Room, Bounded, withRow}
 use Rattle.load.proofs.CellLaws.{at-table, put-table}
 

@@ -13,17 +13,17 @@ use Rattle.level.specs.Level.{levelOf, verdictOf}
 use Rattle.level.specs.declared.Level.{Level}
 use Rattle.movement.specs.Limits.{groupCount}
 use Rattle.refusal.proofs.Laws.{and-left, and-right}
-use Rattle.book.specs.Columns.{Book, sound}
-use Rattle.counted.specs.declared.Group.{Group}
-use Rattle.counted.specs.declared.Counts.{Counts}
-use Rattle.counted.specs.declared.Judged.the-variants.{Given, Refused}
-use Rattle.counted.specs.Shares.{Share}
-use Rattle.counted.specs.Tally.{tally, table, groupAt, listFrom}
-use Rattle.counted.specs.Factors.{over, scaledBy, sumTo, known, unknown, knownSum, unknownSum, generalFactor}
-use Rattle.counted.specs.Load.{countsOf, scaledEnergy, scaledSum, totalOf, daysFit, noneComputed, loadRefusal, answer, refusedLoad, loadOf}
-use Rattle.counted.specs.Verdict.{limitFits, verdictRefusal, refusalNumber, judged, judgedOf}
-use Rattle.counted.proofs.TallyLaws.{AllGrouped, rule-ten}
-use Rattle.counted.proofs.FactorLaws.{known-sum}
+use Rattle.book_rules.specs.Columns.{Book, sound}
+use Rattle.load_rules.specs.declared.Group.{Group}
+use Rattle.load_rules.specs.declared.Counts.{Counts}
+use Rattle.load_rules.specs.declared.Judged.the-variants.{Given, Refused}
+use Rattle.load_rules.specs.Shares.{Share}
+use Rattle.load_rules.specs.Tally.{tally, table, groupAt, listFrom}
+use Rattle.load_rules.specs.Factors.{over, scaledBy, sumTo, known, unknown, knownSum, unknownSum, generalFactor}
+use Rattle.load_rules.specs.Load.{countsOf, scaledEnergy, scaledSum, totalOf, daysFit, noneComputed, loadRefusal, answer, refusedLoad, loadOf}
+use Rattle.load_rules.specs.Verdict.{limitFits, verdictRefusal, refusalNumber, judged, judgedOf}
+use Rattle.load_rules.proofs.TallyLaws.{AllGrouped, rule-ten}
+use Rattle.load_rules.proofs.FactorLaws.{known-sum}
 use Rattle.load.specs.declared.sums.Sums.{Sums}
 use Rattle.load.specs.Steps.{Scalable, Bounded, sumsOf, loadFrom, judgedBy}
 use Rattle.load.proofs.BoundLaws.{scaled-sum-small, scaled-by-le}

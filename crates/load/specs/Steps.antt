@@ -8,14 +8,14 @@ use Rattle.level.specs.Tables.{Holds, tableA}
 use Rattle.level.specs.Limits.{maxMovements, maxEnergy, maxTotal}
 use Rattle.level.specs.Level.{verdictOf}
 use Rattle.movement.specs.Limits.{groupCount}
-use Rattle.counted.specs.declared.Group.{Group}
-use Rattle.counted.specs.declared.Load.{Load}
-use Rattle.counted.specs.declared.Judged.{Judged}
-use Rattle.counted.specs.Shares.{energyIn}
-use Rattle.counted.specs.Tally.{groupWith, groupAt}
-use Rattle.counted.specs.Factors.{sumTo, known, unknown, knownSum, unknownSum}
-use Rattle.counted.specs.Load.{countsOf, scaledEnergy, answer, refusedLoad}
-use Rattle.counted.specs.Verdict.{judged}
+use Rattle.load_rules.specs.declared.Group.{Group}
+use Rattle.load_rules.specs.declared.Load.{Load}
+use Rattle.load_rules.specs.declared.Judged.{Judged}
+use Rattle.load_rules.specs.Shares.{energyIn}
+use Rattle.load_rules.specs.Tally.{groupWith, groupAt}
+use Rattle.load_rules.specs.Factors.{sumTo, known, unknown, knownSum, unknownSum}
+use Rattle.load_rules.specs.Load.{countsOf, scaledEnergy, answer, refusedLoad}
+use Rattle.load_rules.specs.Verdict.{judged}
 use Rattle.load.specs.declared.sums.Sums.{Sums}
 
 -- table A and the powers of ten, as they are lent

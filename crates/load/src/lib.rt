@@ -1,11 +1,11 @@
-// The load and the verdict at a point of a book: document 01, "Energy and load".
+// The load and the verdict at a point of a book: RULES, "Energy and load".
 mod sums;
 mod tally;
 
-use counted::Counts;
-use counted::Groups;
-use counted::Judged;
-use counted::Load;
+use load_rules::Counts;
+use load_rules::Groups;
+use load_rules::Judged;
+use load_rules::Load;
 use level::Level;
 use movement::limits::MAX_DAYS;
 use movement::limits::MAX_LIMIT;
@@ -19,11 +19,11 @@ ghost use mathlib.Core.Path.{_≡_};
 ghost use mathlib.Core.Bool.{true, _&&_};
 ghost use Prim.Native.Nat.{_<_};
 ghost use lib.Dec.{ltb};
-ghost use Rattle.book.specs.Columns.{bookOf, sound};
-ghost use Rattle.counted.specs.Shares.{bookShares};
-ghost use Rattle.counted.specs.Tally.{groupAt};
-ghost use Rattle.counted.specs.Load.{refusedLoad, daysFit, loadOf, bookLoad};
-ghost use Rattle.counted.specs.Verdict.{limitFits, Judging};
+ghost use Rattle.book_rules.specs.Columns.{bookOf, sound};
+ghost use Rattle.load_rules.specs.Shares.{bookShares};
+ghost use Rattle.load_rules.specs.Tally.{groupAt};
+ghost use Rattle.load_rules.specs.Load.{refusedLoad, daysFit, loadOf, bookLoad};
+ghost use Rattle.load_rules.specs.Verdict.{limitFits, Judging};
 ghost use Rattle.load.specs.Steps.{Bounded, loadFrom, judgedBy};
 
 // The load at a point of a book, over a number of days.
@@ -86,7 +86,7 @@ fn point_fits(
 ) -> bool
     ensures { λ r. ⌜ r ≡ (sound points (bookOf (now (ids .entry)) (now (groups .entry)) (now (marks .entry)) (now (levels .entry))) && ltb point points) ⌝ }
 {
-    if !book::soundness::is_sound(ids, groups, marks, levels, points) {
+    if !soundness::is_sound(ids, groups, marks, levels, points) {
         return false;
     }
     point < points

@@ -1,15 +1,15 @@
 // Sums over the 18 groups.
 use crate::tally::group_at;
-use counted::Counts;
-use counted::Group;
-use counted::Groups;
+use load_rules::Counts;
+use load_rules::Group;
+use load_rules::Groups;
 ghost use mathlib.Core.Path.{_≡_};
 ghost use mathlib.Core.Bool.{_&&_};
 ghost use lib.Dec.{eqb, ltb};
 ghost use Rattle.movement.specs.Limits.{groupCount};
-ghost use Rattle.counted.specs.Tally.{groupAt, listFrom};
-ghost use Rattle.counted.specs.Factors.{over, scaledBy};
-ghost use Rattle.counted.specs.Load.{countsOf};
+ghost use Rattle.load_rules.specs.Tally.{groupAt, listFrom};
+ghost use Rattle.load_rules.specs.Factors.{over, scaledBy};
+ghost use Rattle.load_rules.specs.Load.{countsOf};
 ghost use Rattle.load.specs.Steps.{Scalable, Bounded, Fitting, sumsOf, addedTo};
 
 // P, V + U over the groups with computed movements, and W.

@@ -1,14 +1,14 @@
 // The tally of a book's rows: V, U and S of each group at one point.
-use counted::Group;
-use counted::Groups;
+use load_rules::Group;
+use load_rules::Groups;
 ghost use mathlib.Core.Path.{_≡_};
 ghost use mathlib.Core.Bool.{true};
 ghost use mathlib.Core.List.{[]};
 ghost use Prim.Native.Nat.{_≤_, _<_};
 ghost use Rattle.movement.specs.Limits.{maxLevel, groupCount};
-ghost use Rattle.book.specs.Columns.{bookOf, sound};
-ghost use Rattle.counted.specs.Shares.{bookShares};
-ghost use Rattle.counted.specs.Tally.{tally, table, groupAt};
+ghost use Rattle.book_rules.specs.Columns.{bookOf, sound};
+ghost use Rattle.load_rules.specs.Shares.{bookShares};
+ghost use Rattle.load_rules.specs.Tally.{tally, table, groupAt};
 ghost use Rattle.load.specs.Steps.{Tables, Room, withRow};
 
 // No movement in any group.

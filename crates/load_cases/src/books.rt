@@ -6,7 +6,7 @@ use crate::show::refused;
 use crate::show::verdict_at;
 use libc::STDOUT_FILENO;
 
-// Document 01's file, on the way from an empty book and back to three movements.
+// The rules's file, on the way from an empty book and back to three movements.
 pub fn small() {
     let mut ids = [0u32; 6];
     let mut groups = [0u32; 6];
@@ -48,20 +48,20 @@ fn entered(ids: &mut [u32], groups: &mut [u32], marks: &mut [u32], levels: &mut 
 
 // Movements 1 and 2, each a large start by day.
 fn starts(ids: &mut [u32], groups: &mut [u32], marks: &mut [u32], levels: &mut [u32]) {
-    calls::enter(ids, groups, marks, levels, 1, 1, 0, 0, 25200, 70000);
-    calls::enter(ids, groups, marks, levels, 1, 2, 0, 0, 68399, 70000);
+    book::enter(ids, groups, marks, levels, 1, 1, 0, 0, 25200, 70000);
+    book::enter(ids, groups, marks, levels, 1, 2, 0, 0, 68399, 70000);
 }
 
 // Movement 4, a helicopter's landing by night, and 3, like 1 and 2.
 fn others(ids: &mut [u32], groups: &mut [u32], marks: &mut [u32], levels: &mut [u32]) {
-    calls::enter(ids, groups, marks, levels, 1, 4, 2, 1, 82800, 3000);
-    calls::enter(ids, groups, marks, levels, 1, 3, 0, 0, 43200, 70000);
+    book::enter(ids, groups, marks, levels, 1, 4, 2, 1, 82800, 3000);
+    book::enter(ids, groups, marks, levels, 1, 3, 0, 0, 43200, 70000);
 }
 
 // 0.00 dB for movement 1 is a level; then 100.00 dB for movements 1 and 2.
 fn supplied(ids: &[u32], groups: &[u32], marks: &mut [u32], levels: &mut [u32]) {
     let zero = [0u32; 1];
-    calls::supply(ids, groups, marks, levels, 1, 1, &zero);
+    book::supply(ids, groups, marks, levels, 1, 1, &zero);
     let want = Want {
         refused: 0,
         total: 4,
@@ -72,8 +72,8 @@ fn supplied(ids: &[u32], groups: &[u32], marks: &mut [u32], levels: &mut [u32]) 
     };
     load_at(b"one at 0.00", ids, groups, marks, levels, 1, 0, 1, want);
     let given = [10000u32; 1];
-    calls::supply(ids, groups, marks, levels, 1, 1, &given);
-    calls::supply(ids, groups, marks, levels, 1, 2, &given);
+    book::supply(ids, groups, marks, levels, 1, 1, &given);
+    book::supply(ids, groups, marks, levels, 1, 2, &given);
 }
 
 // One group computed and another not: P = 3·10^10, total 4·10^10, M = 462,962,962, level 56.66.
@@ -87,7 +87,7 @@ fn told(ids: &[u32], groups: &[u32], marks: &[u32], levels: &[u32]) {
         last: [0, 1],
     };
     load_at(
-        b"document 01's file",
+        b"the rules' file",
         ids,
         groups,
         marks,
@@ -202,7 +202,7 @@ fn load_refusals(ids: &[u32], groups: &[u32], marks: &[u32], levels: &[u32]) {
 
 // Without movement 4 there is no W: the total is P.
 fn withdrawn(ids: &mut [u32], groups: &mut [u32], marks: &mut [u32], levels: &mut [u32]) {
-    calls::withdraw(ids, groups, marks, levels, 1, 4);
+    book::withdraw(ids, groups, marks, levels, 1, 4);
     let want = Want {
         refused: 0,
         total: 30000000000,

@@ -1,4 +1,4 @@
-// Document 01's file as a book, and the edge cases of a load. Each line has a case, and each number beside what it should be.
+// The rules's file as a book, and the edge cases of a load. Each line has a case, and each number beside what it should be.
 mod books;
 mod quiet;
 mod show;

@@ -1,5 +1,5 @@
 // A load or a verdict, each number beside what it should be.
-use counted::Judged;
+use load_rules::Judged;
 use libc::STDOUT_FILENO;
 
 // What a load should answer: its refusal, its total, 1 and the level or 0 and 0 for below zero, and V and U of the first and the last group.
@@ -32,7 +32,7 @@ pub fn pair(name: &[u8], got: u64, want: u64) {
     io::print_decimal(STDOUT_FILENO, want);
 }
 
-fn counts(name: &[u8], got: counted::Counts, want: [u32; 2]) {
+fn counts(name: &[u8], got: load_rules::Counts, want: [u32; 2]) {
     pair(name, got.computed as u64, want[0] as u64);
     pair(b" and ", got.missing as u64, want[1] as u64);
 }

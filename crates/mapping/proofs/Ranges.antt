@@ -1,4 +1,4 @@
--- What is answered for the edge of a number is document 01's crossing and map point, or none. Assumes nothing.
+-- What is answered for the edge of a number is the rules' crossing and map point, or none. Assumes nothing.
 use mathlib.Core.Path.{_≡_, refl, sym, ap, _∙_, subst}
 use mathlib.Core.Bool.{Bool, true, false, _&&_, true≢false}
 use mathlib.Core.Logic.{_⊎_, inl, inr}

@@ -1,4 +1,4 @@
--- Where a contour crosses an edge, for map layers: document 01, "Network and contours". Assumes nothing.
+-- Where a contour crosses an edge, for map layers: RULES, "Network and contours". Assumes nothing.
 use mathlib.Core.Path.{_≡_}
 use mathlib.Core.Bool.{Bool, false, _&&_, cond}
 use mathlib.Core.List.{List}

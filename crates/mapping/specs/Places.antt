@@ -1,4 +1,4 @@
--- The map point of a crossing: document 01, "Network and contours". Assumes nothing.
+-- The map point of a crossing: RULES, "Network and contours". Assumes nothing.
 use mathlib.Core.Bool.{cond}
 use mathlib.Core.List.{List}
 use Prim.Native.Nat.{ℕ, _+_, _*_}

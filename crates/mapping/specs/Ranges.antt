@@ -1,4 +1,4 @@
--- What is answered for the edge of a number: document 01, "Network and contours", with its formulas written out.
+-- What is answered for the edge of a number: RULES, "Network and contours", with its formulas written out.
 -- Assumes nothing.
 use mathlib.Core.Path.{_≡_}
 use mathlib.Core.Bool.{false}

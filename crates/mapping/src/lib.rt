@@ -1,4 +1,4 @@
-// Crossings and map points for map layers, in binary64: document 01, "Network and contours".
+// Crossings and map points for map layers, in binary64: RULES, "Network and contours".
 ghost use mathlib.Core.Path.{_≡_};
 ghost use Prim.Native.Nat.{_*_, _≤_};
 ghost use lib.ListN.{length};

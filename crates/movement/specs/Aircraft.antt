@@ -1,4 +1,4 @@
--- The type of an aircraft: document 01, "Movements and the book".
+-- The type of an aircraft: RULES, "Movements and the book".
 -- Assumes nothing.
 use Prim.Native.Nat.{ℕ}
 use mathlib.Core.Bool.{Bool, true, cond}

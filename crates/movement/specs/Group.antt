@@ -1,4 +1,4 @@
--- The 18 groups of type, kind and period: document 01, "Movements and the book".
+-- The 18 groups of type, kind and period: RULES, "Movements and the book".
 -- Assumes nothing.
 use Prim.Native.Nat.{ℕ, _+_, _*_, _%_}
 use Rattle.movement.specs.declared.aircraft.Aircraft.{Aircraft}

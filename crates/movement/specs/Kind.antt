@@ -1,4 +1,4 @@
--- The kind of a movement: document 01, "Movements and the book".
+-- The kind of a movement: RULES, "Movements and the book".
 -- Assumes nothing.
 use Prim.Native.Nat.{ℕ}
 use mathlib.Core.Bool.{cond}

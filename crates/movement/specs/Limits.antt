@@ -1,4 +1,4 @@
--- The ranges of document 01, "Numbers and sizes" and "Movements and the book", in one place.
+-- The ranges of RULES, "Numbers and sizes" and "Movements and the book", in one place.
 -- Assumes nothing.
 use Prim.Native.Nat.{ℕ}
 

@@ -1,4 +1,4 @@
--- The period of the day and its weight: document 01, "Movements and the book" and "Energy and load".
+-- The period of the day and its weight: RULES, "Movements and the book" and "Energy and load".
 -- Assumes nothing.
 use Prim.Native.Nat.{ℕ}
 use mathlib.Core.Bool.{cond}

@@ -1,4 +1,4 @@
--- Every range and edge of a movement, "exactly if", with document 01's own numbers: one off by one is stopped here.
+-- Every range and edge of a movement, "exactly if", with the rules' own numbers: one off by one is stopped here.
 -- Assumes nothing.
 use Prim.Native.Nat.{ℕ, _+_, _*_, _%_, _≤_, _<_}
 use mathlib.Core.Path.{_≡_}

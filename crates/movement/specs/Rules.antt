@@ -1,4 +1,4 @@
--- Rules 1, 2, 3 and 7: document 01, "Refusal numbers".
+-- Rules 1, 2, 3 and 7: RULES, "Refusal numbers".
 -- Assumes nothing.
 use Prim.Native.Nat.{ℕ}
 use mathlib.Core.Bool.{Bool, _&&_}

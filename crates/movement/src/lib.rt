@@ -1,4 +1,4 @@
-// An aircraft movement: document 01, "Movements and the book". Its type, kind and period, its group, its weight, and
+// An aircraft movement: RULES, "Movements and the book". Its type, kind and period, its group, its weight, and
 // the rules that judge it (1, 2, 3 and 7).
 pub mod aircraft;
 pub mod core;

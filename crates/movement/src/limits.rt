@@ -1,4 +1,4 @@
-// The ranges of document 01, "Numbers and sizes" and "Movements and the book", in one place. specs/Limits.antt has
+// The ranges of RULES, "Numbers and sizes" and "Movements and the book", in one place. specs/Limits.antt has
 // each again, for the contracts: the prover refuses any use of one that differs from the other.
 
 // Rows of a book, and points.

@@ -1,4 +1,4 @@
-// Rules 1, 2, 3 and 7 of document 01, "Refusal numbers".
+// Rules 1, 2, 3 and 7 of RULES, "Refusal numbers".
 use crate::aircraft::Aircraft;
 use crate::limits::KINDS;
 use crate::limits::MASS_NOT_COUNTED;

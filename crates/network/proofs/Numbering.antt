@@ -1,4 +1,4 @@
--- Edges have document 01's numbers, and are crossed where it says. Assumes nothing.
+-- Edges have the rules' numbers, and are crossed where it says. Assumes nothing.
 use mathlib.Core.Path.{_≡_, refl, sym, ap, _∙_}
 use mathlib.Core.Bool.{Bool, true, false}
 use mathlib.Core.Logic.{_⊎_, inl, inr, ⊎-elim, _↔_}

@@ -1,4 +1,4 @@
--- Refusals 12, 13 and 15 are given exactly where document 01 says. Assumes nothing.
+-- Refusals 12, 13 and 15 are given exactly where the rules say. Assumes nothing.
 use mathlib.Core.Path.{_≡_, refl, sym, ap, _∙_}
 use mathlib.Core.Bool.{Bool, true, false, _&&_, cond, true≢false}
 use mathlib.Core.Logic.{_⊎_, inl, inr, ⊎-elim, _↔_}

@@ -1,4 +1,4 @@
--- Which points are in, and which edges a contour crosses: document 01, "Network and contours". Assumes nothing.
+-- Which points are in, and which edges a contour crosses: RULES, "Network and contours". Assumes nothing.
 use mathlib.Core.Bool.{Bool, true, false, not}
 use mathlib.Core.List.{List}
 use Prim.Native.Nat.{ℕ, _+_, _-_}

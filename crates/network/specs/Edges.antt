@@ -1,4 +1,4 @@
--- The points and edges of a network, numbered as document 01, "Network and contours", says. Assumes nothing.
+-- The points and edges of a network, numbered as RULES, "Network and contours", says. Assumes nothing.
 use mathlib.Core.Path.{_≡_}
 use mathlib.Core.Bool.{cond}
 use mathlib.Core.List.{List}

@@ -1,4 +1,4 @@
--- The ranges of a network, by document 01, "Numbers and sizes", in one place. Assumes nothing.
+-- The ranges of a network, RULES, "Numbers and sizes", in one place. Assumes nothing.
 use Prim.Native.Nat.{ℕ}
 
 -- points a side

@@ -1,4 +1,4 @@
--- Document 01, "Network and contours", on points, edges and crossings, with its formulas written out.
+-- The rules, "Network and contours", on points, edges and crossings, with its formulas written out.
 -- Assumes nothing.
 use mathlib.Core.Path.{_≡_}
 use mathlib.Core.Bool.{true}

@@ -1,4 +1,4 @@
--- The ranges of a network and of a contour level, and the order of refusals, in document 01's own numbers.
+-- The ranges of a network and of a contour level, and the order of refusals, in the rules' own numbers.
 -- Assumes nothing.
 use mathlib.Core.Path.{_≡_}
 use mathlib.Core.Logic.{_↔_}

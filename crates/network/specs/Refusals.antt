@@ -1,4 +1,4 @@
--- Which networks and contour levels are refused, and by which number: document 01, "Refusal numbers", 12, 13 and 15. Assumes nothing.
+-- Which networks and contour levels are refused, and by which number: RULES, "Refusal numbers", 12, 13 and 15. Assumes nothing.
 use mathlib.Core.Bool.{Bool, _&&_}
 use mathlib.Core.List.{List}
 use Prim.Native.Nat.{ℕ, _*_}

@@ -1,4 +1,4 @@
-// A network of levels: its frame and check, its edges by number, and which of them a contour crosses. Document 01, "Network and contours".
+// A network of levels: its frame and check, its edges by number, and which of them a contour crosses. The rules, "Network and contours".
 ghost use mathlib.Core.Path.{_≡_};
 ghost use mathlib.Core.Bool.{_&&_};
 ghost use Rattle.network.specs.Refusals.{between, sided, placed, filled, networkRefusal, contourRefusal};

@@ -1,4 +1,4 @@
-// The ranges of a network, by document 01, "Numbers and sizes", in one place. They are those of specs/Limits.antt.
+// The ranges of a network, RULES, "Numbers and sizes", in one place. They are those of specs/Limits.antt.
 pub const LEAST_SIDE: u32 = 2;
 
 pub const MOST_SIDE: u32 = 256;

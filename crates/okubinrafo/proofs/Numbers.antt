@@ -13,13 +13,13 @@ use Rattle.level.specs.declared.Level.{Level}
 use Rattle.level.specs.declared.Verdict.{Verdict}
 use Rattle.level.specs.Level.{verdictNumber}
 use Rattle.text.proofs.Digits.{either}
-use Rattle.book.specs.Columns.{Book, sound}
-use Rattle.counted.specs.declared.Counts.{Counts}
-use Rattle.counted.specs.declared.Judged.{Judged}
-use Rattle.counted.specs.declared.Judged.the-variants.{Refused, Given}
-use Rattle.counted.specs.Shares.{bookShares}
-use Rattle.counted.specs.Load.{loadRefusal, answer, refusedLoad, loadOf, bookLoad}
-use Rattle.counted.specs.Verdict.{refusalNumber}
+use Rattle.book_rules.specs.Columns.{Book, sound}
+use Rattle.load_rules.specs.declared.Counts.{Counts}
+use Rattle.load_rules.specs.declared.Judged.{Judged}
+use Rattle.load_rules.specs.declared.Judged.the-variants.{Refused, Given}
+use Rattle.load_rules.specs.Shares.{bookShares}
+use Rattle.load_rules.specs.Load.{loadRefusal, answer, refusedLoad, loadOf, bookLoad}
+use Rattle.load_rules.specs.Verdict.{refusalNumber}
 use Rattle.okubinrafo.specs.Rooms.{Writes}
 use Rattle.okubinrafo.specs.Loads.{computedOf, missingOf, numbersFrom, loadNumbers, verdictNumbers}
 use Rattle.okubinrafo.proofs.Answers.{nothing}

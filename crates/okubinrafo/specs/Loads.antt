@@ -1,12 +1,12 @@
--- A load and a verdict as numbers: document 01, "Energy and load". Assumes nothing.
+-- A load and a verdict as numbers: RULES, "Energy and load". Assumes nothing.
 use Prim.Native.Nat.{ℕ}
 use mathlib.Core.List.{List, [], _∷_, _++_, map}
 use Rattle.level.specs.declared.Level.{Level}
 use Rattle.level.specs.Level.{levelGiven, levelValue, verdictNumber}
-use Rattle.counted.specs.declared.Counts.{Counts}
-use Rattle.counted.specs.declared.Load.{Load}
-use Rattle.counted.specs.declared.Judged.{Judged}
-use Rattle.counted.specs.declared.Judged.the-variants.{Refused, Given}
+use Rattle.load_rules.specs.declared.Counts.{Counts}
+use Rattle.load_rules.specs.declared.Load.{Load}
+use Rattle.load_rules.specs.declared.Judged.{Judged}
+use Rattle.load_rules.specs.declared.Judged.the-variants.{Refused, Given}
 
 abbrev pub computedOf : Counts → ℕ
 computedOf c = c .computed

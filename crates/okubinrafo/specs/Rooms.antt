@@ -1,4 +1,4 @@
--- An answer in lent room: document 01, "Refusal numbers". 14 comes last, a refusal changes no byte, and room past an answer keeps its bytes.
+-- An answer in lent room: RULES, "Refusal numbers". 14 comes last, a refusal changes no byte, and room past an answer keeps its bytes.
 -- Assumes nothing.
 use Prim.Native.Nat.{ℕ}
 use mathlib.Core.Path.{_≡_}

@@ -1,4 +1,4 @@
--- Register rows as numbers: document 01, "Files and the report program". Assumes nothing.
+-- Register rows as numbers: RULES, "Files and the report program". Assumes nothing.
 use Prim.Native.Nat.{ℕ}
 use mathlib.Core.List.{List}
 use lib.ListN.{length, getD}

@@ -1,6 +1,6 @@
 // The calls on a book, and a journal of them.
-ghost use Rattle.book.specs.Columns.{bookOf};
-ghost use Rattle.book.specs.Calls.{Call, Called};
+ghost use Rattle.book_rules.specs.Columns.{bookOf};
+ghost use Rattle.book_rules.specs.Calls.{Call, Called};
 ghost use Rattle.journal.specs.Journal.{Replayed};
 
 // A movement goes into the book at its place, not computed.
@@ -19,7 +19,7 @@ pub extern "C" fn okubinrafo_enter(
 ) -> u32
     ensures { λ r. ⌜ Called points (bookOf (now (identities .entry)) (now (groups .entry)) (now (marks .entry)) (now (levels .entry))) (Call.enter identity ty kind time mass) r (bookOf (now (identities .exit)) (now (groups .exit)) (now (marks .exit)) (now (levels .exit))) ⌝ }
 {
-    calls::enter(
+    book::enter(
         identities,
         groups,
         marks,
@@ -46,7 +46,7 @@ pub extern "C" fn okubinrafo_supply(
 ) -> u32
     ensures { λ r. ⌜ Called points (bookOf (now (identities .entry)) (now (groups .entry)) (now (marks .entry)) (now (levels .entry))) (Call.supply identity (now (given .entry))) r (bookOf (now (identities .entry)) (now (groups .entry)) (now (marks .exit)) (now (levels .exit))) ⌝ }
 {
-    calls::supply(
+    book::supply(
         identities,
         groups,
         marks,
@@ -69,7 +69,7 @@ pub extern "C" fn okubinrafo_take_back(
 ) -> u32
     ensures { λ r. ⌜ Called points (bookOf (now (identities .entry)) (now (groups .entry)) (now (marks .entry)) (now (levels .entry))) (Call.takeBack identity) r (bookOf (now (identities .entry)) (now (groups .entry)) (now (marks .exit)) (now (levels .exit))) ⌝ }
 {
-    calls::take_back(identities, groups, marks, levels, points as usize, identity)
+    book::take_back(identities, groups, marks, levels, points as usize, identity)
 }
 
 // A movement goes out of the book.
@@ -84,7 +84,7 @@ pub extern "C" fn okubinrafo_withdraw(
 ) -> u32
     ensures { λ r. ⌜ Called points (bookOf (now (identities .entry)) (now (groups .entry)) (now (marks .entry)) (now (levels .entry))) (Call.withdraw identity) r (bookOf (now (identities .exit)) (now (groups .exit)) (now (marks .exit)) (now (levels .exit))) ⌝ }
 {
-    calls::withdraw(identities, groups, marks, levels, points as usize, identity)
+    book::withdraw(identities, groups, marks, levels, points as usize, identity)
 }
 
 // A journal: calls one after the other as numbers, with an answer for each.

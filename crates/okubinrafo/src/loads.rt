@@ -1,14 +1,14 @@
 // The load and the verdict at a point of a book.
-use counted::Counts;
-use counted::Judged;
+use load_rules::Counts;
+use load_rules::Judged;
 use level::Level;
 ghost use mathlib.Core.Path.{_≡_};
 ghost use mathlib.Core.List.{_∷_, []};
 ghost use Prim.Native.Nat.{_≤_, _<_};
 ghost use lib.ListN.{length, getD};
-ghost use Rattle.book.specs.Columns.{bookOf};
-ghost use Rattle.counted.specs.Load.{bookLoad};
-ghost use Rattle.counted.specs.Verdict.{refusalNumber, bookVerdict};
+ghost use Rattle.book_rules.specs.Columns.{bookOf};
+ghost use Rattle.load_rules.specs.Load.{bookLoad};
+ghost use Rattle.load_rules.specs.Verdict.{refusalNumber, bookVerdict};
 ghost use Rattle.mapping.specs.Many.{over};
 ghost use Rattle.okubinrafo.specs.Rooms.{Writes};
 ghost use Rattle.okubinrafo.specs.Loads.{loadSize, numbersFrom, loadNumbers, verdictNumbers};

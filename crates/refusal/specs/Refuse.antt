@@ -1,4 +1,4 @@
--- The order of refusals: document 01, "Refusal numbers".
+-- The order of refusals: RULES, "Refusal numbers".
 -- Assumes nothing.
 use Prim.Native.Nat.{ℕ}
 use mathlib.Core.Bool.{Bool, cond}

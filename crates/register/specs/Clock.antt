@@ -1,4 +1,4 @@
--- Times of day as text, hh:mm:ss: document 01, "Files and the report program". A colon is 58.
+-- Times of day as text, hh:mm:ss: RULES, "Files and the report program". A colon is 58.
 use Prim.Native.Nat.{ℕ, _+_, _*_, _/_, _%_}
 use mathlib.Core.List.{List, _∷_, _++_}
 use mathlib.Core.Bool.{cond, _&&_}

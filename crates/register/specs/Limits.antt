@@ -1,4 +1,4 @@
--- limits.csv as a whole text: document 01, "Files and the report program".
+-- limits.csv as a whole text: RULES, "Files and the report program".
 use Prim.Native.Nat.{ℕ, _+_}
 use mathlib.Core.List.{List, []}
 use mathlib.Core.Bool.{cond, _&&_}

@@ -1,4 +1,4 @@
-// Register rows, headers and limits.csv: document 01, "Files and the report program".
+// Register rows, headers and limits.csv: RULES, "Files and the report program".
 mod cell;
 mod clock;
 pub mod header;

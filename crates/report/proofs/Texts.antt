@@ -11,11 +11,11 @@ use borrow.Author.Tests.{eqb-true, eqb-false}
 use Rattle.text.specs.Put.{Wrote}
 use Rattle.text.proofs.Puts.{wrote-front, wrote-fits}
 use Rattle.text.proofs.Digits.{either}
-use Rattle.book.specs.Columns.{Book}
-use Rattle.book.specs.History.{emptyBook}
+use Rattle.book_rules.specs.Columns.{Book}
+use Rattle.book_rules.specs.History.{emptyBook}
 use Rattle.register.specs.declared.limits.Limits.{Limits}
 use Rattle.register.specs.Limits.{limitsOf}
-use Rattle.reporting.specs.Reading.{Reading, readingAt, registered}
+use Rattle.report_steps.specs.Reading.{Reading, readingAt, registered}
 use Rattle.report_text.specs.Text.{refusedText, bookText}
 use Rattle.report_text.specs.Room.{WroteWithin}
 use Rattle.report_rules.specs.Report.{bookRows, registerText, reportOf, endless}

@@ -13,12 +13,12 @@ use lib.Seq.{take-add, take-at}
 use borrow.Author.Tests.{ne-eqb, eqb-true, eqb-false}
 use Rattle.io.specs.Counts.{clamped}
 use Rattle.text.proofs.Digits.{either}
-use Rattle.book.specs.Columns.{Book, bookOf, sound}
-use Rattle.book.specs.History.{emptyBook}
-use Rattle.reporting.specs.declared.core.feeding.Arrived.the-variants.{Bytes, End, Failed}
-use Rattle.reporting.specs.Stream.{longestLine}
-use Rattle.reporting.specs.Reading.{Reading, readingAt, opening, closing, registered, readOn, Onward, Unended, PieceTaken, LastTaken, arrivedOf}
-use Rattle.reporting.proofs.Readings.{onward-more, onward-then, stuck, endless-off}
+use Rattle.book_rules.specs.Columns.{Book, bookOf, sound}
+use Rattle.book_rules.specs.History.{emptyBook}
+use Rattle.report_steps.specs.declared.core.feeding.Arrived.the-variants.{Bytes, End, Failed}
+use Rattle.report_steps.specs.Stream.{longestLine}
+use Rattle.report_steps.specs.Reading.{Reading, readingAt, opening, closing, registered, readOn, Onward, Unended, PieceTaken, LastTaken, arrivedOf}
+use Rattle.report_steps.proofs.Readings.{onward-more, onward-then, stuck, endless-off}
 use Rattle.text.specs.Line.{linesOf}
 use Rattle.report_rules.specs.Report.{endless}
 use Rattle.report.specs.declared.feed.Turn.{Turn}

@@ -7,9 +7,9 @@ use mathlib.Core.List.{List, [], _++_}
 use lib.ListN.{length, take, drop}
 use lib.IntN.{ℤ, pos}
 use Rattle.io.specs.Counts.{clamped}
-use Rattle.book.specs.Columns.{Book, sound}
-use Rattle.reporting.specs.Stream.{longestLine}
-use Rattle.reporting.specs.Reading.{Reading, readingAt, closing, registered, readOn, Onward, Unended, PieceTaken, LastTaken}
+use Rattle.book_rules.specs.Columns.{Book, sound}
+use Rattle.report_steps.specs.Stream.{longestLine}
+use Rattle.report_steps.specs.Reading.{Reading, readingAt, closing, registered, readOn, Onward, Unended, PieceTaken, LastTaken}
 use Rattle.report_rules.specs.Report.{endless}
 use Rattle.report.specs.declared.feed.Turn.{Turn}
 

@@ -4,9 +4,9 @@ use Prim.Native.Nat.{ℕ, _≤_}
 use mathlib.Core.Path.{_≡_}
 use mathlib.Core.List.{List}
 use lib.ListN.{length, take, replicate}
-use Rattle.book.specs.Columns.{Book}
+use Rattle.book_rules.specs.Columns.{Book}
 use Rattle.register.specs.declared.limits.Limits.{Limits}
-use Rattle.reporting.specs.Reading.{readingAt}
+use Rattle.report_steps.specs.Reading.{readingAt}
 use Rattle.report_rules.specs.Report.{bookRows, readingText, registerText, Came, Answers, Written}
 
 -- columns with nothing in them, and room for the levels of eight points

@@ -1,17 +1,17 @@
 // The bytes as they come: limits.csv whole, and the register through a buffer of fixed size.
 use libc::STDIN_FILENO;
-use reporting::core::feeding::Arrived;
-use reporting::core::feeding::take_last;
-use reporting::core::feeding::take_piece;
-use reporting::core::feeding::what_came;
+use report_steps::core::feeding::Arrived;
+use report_steps::core::feeding::take_last;
+use report_steps::core::feeding::take_piece;
+use report_steps::core::feeding::what_came;
 ghost use mathlib.Core.Path.{_≡_};
 ghost use mathlib.Core.Bool.{true};
 ghost use Prim.Native.Nat.{_+_, _^_, _≤_, _<_};
 ghost use lib.ListN.{length, take};
 ghost use Rattle.io.specs.Counts.{Counts};
-ghost use Rattle.book.specs.Columns.{bookOf, sound};
-ghost use Rattle.reporting.specs.Stream.{longestLine};
-ghost use Rattle.reporting.specs.Reading.{readingAt, Unended};
+ghost use Rattle.book_rules.specs.Columns.{bookOf, sound};
+ghost use Rattle.report_steps.specs.Stream.{longestLine};
+ghost use Rattle.report_steps.specs.Reading.{readingAt, Unended};
 ghost use Rattle.report.specs.Feeding.{failedAt, Waiting, Answered, Turned, Pieced, Lasted, Registered};
 
 // Where the reading stands: `left` bytes wait in front of the buffer for the end of line `line`, and `state` says whether to read on. A line that is

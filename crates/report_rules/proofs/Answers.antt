@@ -10,13 +10,13 @@ use lib.ListN.{length, take, length-append, length-take}
 use lib.Seq.{take-append-le}
 use borrow.Author.Tests.{ne-eqb, le-leb}
 use Rattle.movement.specs.Limits.{maxRows, maxPoints}
-use Rattle.book.specs.Columns.{Book, sound}
-use Rattle.book.specs.History.{emptyBook, booked, sizesFit}
-use Rattle.book.proofs.History.{history-sound}
+use Rattle.book_rules.specs.Columns.{Book, sound}
+use Rattle.book_rules.specs.History.{emptyBook, booked, sizesFit}
+use Rattle.book_rules.proofs.History.{history-sound}
 use Rattle.register.specs.declared.limits.Limits.{Limits}
 use Rattle.register.specs.Limits.{limitsOf}
 use Rattle.register.proofs.LimitsFront.{limits-front}
-use Rattle.reporting.specs.Reading.{Reading, registered}
+use Rattle.report_steps.specs.Reading.{Reading, registered}
 use Rattle.report_text.specs.Text.{refusedText, bookText}
 use Rattle.report_rules.specs.Report.{bookRows, readingText, registerText, answerText, reportOf, Came, Answers, Written}
 use Rattle.report_rules.specs.Report.Came.{whole, stopped, failed}

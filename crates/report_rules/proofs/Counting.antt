@@ -9,14 +9,14 @@ use lib.Dec.{eqb, ltb}
 use lib.ListN.{length}
 use borrow.Author.Tests.{lt-ltb}
 use Rattle.movement.specs.Limits.{groupCount}
-use Rattle.book.specs.History.{Movement, hasLevels, Made, movements}
-use Rattle.book.proofs.Standing.{AllGood}
-use Rattle.book.proofs.History.{told-all}
-use Rattle.counted.specs.declared.Load.{Load}
-use Rattle.counted.specs.Factors.{sumTo}
-use Rattle.counted.specs.Afresh as afresh
-use Rattle.counted.specs.Afresh.{countsAt, CountsEach}
-use Rattle.counted.proofs.SumLaws.{sum-add, sum-zero, sum-ext, sum-one}
+use Rattle.book_rules.specs.History.{Movement, hasLevels, Made, movements}
+use Rattle.book_rules.proofs.Standing.{AllGood}
+use Rattle.book_rules.proofs.History.{told-all}
+use Rattle.load_rules.specs.declared.Load.{Load}
+use Rattle.load_rules.specs.Factors.{sumTo}
+use Rattle.load_rules.specs.Afresh as afresh
+use Rattle.load_rules.specs.Afresh.{countsAt, CountsEach}
+use Rattle.load_rules.proofs.SumLaws.{sum-add, sum-zero, sum-ext, sum-one}
 use Rattle.report_text.specs.Totals as totals
 use Rattle.report_rules.specs.Flights.{howMany, computed}
 

@@ -10,15 +10,15 @@ use lib.Dec.{eqb, ltb}
 use borrow.Author.Tests.{eq-eqb, ne-eqb, eqb-true, eqb-false}
 use Rattle.text.specs.Line.{linesOf}
 use Rattle.text.proofs.Digits.{either}
-use Rattle.book.specs.Columns.{Book}
-use Rattle.book.specs.History.{Movement, emptyBook, booked, movements, listOf, accepted, rowsOf}
-use Rattle.book.proofs.History.{Told, told, told-empty}
+use Rattle.book_rules.specs.Columns.{Book}
+use Rattle.book_rules.specs.History.{Movement, emptyBook, booked, movements, listOf, accepted, rowsOf}
+use Rattle.book_rules.proofs.History.{Told, told, told-empty}
 use Rattle.register.specs.Row.{layoutOf}
-use Rattle.reporting.specs.Intake.{takenNumber, rowTaken}
-use Rattle.reporting.specs.Reading.{Reading, opening, lineRefusal, lineAfter, lineRead, linesRead, closing, registered}
-use Rattle.reporting.specs.Booking.{rowCalls, linesCalls, registerCalls}
-use Rattle.reporting.proofs.Readings.{stuck}
-use Rattle.reporting.proofs.Bookings.{row-booked, register-rows}
+use Rattle.report_steps.specs.Intake.{takenNumber, rowTaken}
+use Rattle.report_steps.specs.Reading.{Reading, opening, lineRefusal, lineAfter, lineRead, linesRead, closing, registered}
+use Rattle.report_steps.specs.Booking.{rowCalls, linesCalls, registerCalls}
+use Rattle.report_steps.proofs.Readings.{stuck}
+use Rattle.report_steps.proofs.Bookings.{row-booked, register-rows}
 use Rattle.report_rules.specs.Report.{bookRows}
 use Rattle.report_rules.specs.Flights.{rowsIn, flightsIn, howMany, standingIn, AllStand}
 use Rattle.report_rules.proofs.Rows.{accepted-then, row-read, row-flights}

@@ -1,4 +1,4 @@
--- A row read and a row written are refused in document 01's order.
+-- A row read and a row written are refused in the rules' order.
 -- Assumes nothing.
 use mathlib.Core.Path.{_≡_, refl, sym, ap, _∙_}
 use mathlib.Core.Bool.{Bool, true, false, cond, _&&_}
@@ -17,8 +17,8 @@ use Rattle.movement.specs.Limits.{maxPoints, maxLevel}
 use Rattle.movement.specs.Rules.{fieldsFit, identityFits, levelsFit}
 use Rattle.movement.proofs.Ranges.{ranges-hold}
 use Rattle.text.proofs.Digits.{either}
-use Rattle.book.specs.Order.{Given}
-use Rattle.book.proofs.Order.{Decides, decides, given-by}
+use Rattle.book_rules.specs.Order.{Given}
+use Rattle.book_rules.proofs.Order.{Decides, decides, given-by}
 use Rattle.register.specs.declared.row.Fields.{Fields}
 use Rattle.register.specs.Row.{pointsFit, layoutOf, faultOf, first, rowRefusal}
 use Rattle.register.specs.Write.{showRow, zeroWhereBlank, rowLevelsFit, writeFault, writeRefusal}

@@ -15,7 +15,7 @@ use Rattle.level.specs.declared.Level.the-variants.{BelowZero, At}
 use Rattle.level.specs.declared.Verdict.{Verdict}
 use Rattle.level.specs.declared.Verdict.the-variants.{Within, Over}
 use Rattle.level.specs.Level.{verdictOf}
-use Rattle.counted.specs.declared.Load.{Load}
+use Rattle.load_rules.specs.declared.Load.{Load}
 use Rattle.text.specs.Line.{firstLine, linesOf}
 use Rattle.text.specs.Field.{countOf, fieldOf, joinedBy}
 use Rattle.text.specs.Index.{listing}

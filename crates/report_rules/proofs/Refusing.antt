@@ -1,4 +1,4 @@
--- A report is refused with the number and the line that document 01 gives.
+-- A report is refused with the number and the line that the rules give.
 -- Assumes nothing.
 use mathlib.Core.Path.{_≡_, refl, sym, ap, _∙_}
 use mathlib.Core.Bool.{Bool, true, false, cond, _&&_, and-false}
@@ -21,15 +21,15 @@ use Rattle.text.specs.declared.number.Number.the-variants.{Got, Off}
 use Rattle.text.proofs.Digits.{either}
 use Rattle.text.proofs.Fields.{Free, join-field}
 use Rattle.text.proofs.Free.{shown-free}
-use Rattle.book.specs.Columns.{Book}
-use Rattle.book.specs.Calls.{refusal, after}
-use Rattle.book.specs.History.{emptyBook}
+use Rattle.book_rules.specs.Columns.{Book}
+use Rattle.book_rules.specs.Calls.{refusal, after}
+use Rattle.book_rules.specs.History.{emptyBook}
 use Rattle.register.specs.Header.{headerOf, registerHeader}
 use Rattle.register.specs.Limits.{limitsOf}
 use Rattle.register.specs.Row.{layoutOf}
-use Rattle.reporting.specs.Intake.{takenNumber, entering, supplying, suppliedTaken, enteredTaken, layoutTaken, rowTaken}
-use Rattle.reporting.specs.Reading.{Reading, opening, pointsRefusal, lineRefusal, lineRead, linesRead, closing, registered}
-use Rattle.reporting.proofs.Readings.{stuck, all-lines}
+use Rattle.report_steps.specs.Intake.{takenNumber, entering, supplying, suppliedTaken, enteredTaken, layoutTaken, rowTaken}
+use Rattle.report_steps.specs.Reading.{Reading, opening, pointsRefusal, lineRefusal, lineRead, linesRead, closing, registered}
+use Rattle.report_steps.proofs.Readings.{stuck, all-lines}
 use Rattle.report_text.specs.Text.{ended, line, refusedText, bookRefusal, bookText}
 use Rattle.report_rules.specs.Report.{bookRows, readingText, registerText, reportOf}
 use Rattle.report_rules.specs.Flights.{bookIn}

@@ -13,18 +13,18 @@ use Rattle.refusal.proofs.Laws.{refuse-none}
 use Rattle.text.proofs.Digits.{either}
 use Rattle.movement.specs.Group.{groupOf}
 use Rattle.movement.specs.Rules.{fieldsFit, counts, movementRefusal, identityFits}
-use Rattle.book.specs.Columns.{Book, sound, stands}
-use Rattle.book.specs.Calls.{Call, refusedOr, enterRefusal, soundRefusal, refusal, after}
-use Rattle.book.specs.Calls.Call.{enter, supply}
-use Rattle.book.specs.History.{Held, Movement, movement, added, holding, standing, step, listOf, Made, made, standingRefusal, listRefusal, accepted, booked, sizesFit}
-use Rattle.book.specs.History.Held.{none, holds}
-use Rattle.book.proofs.History.{Told, refusal-told, told}
+use Rattle.book_rules.specs.Columns.{Book, sound, stands}
+use Rattle.book_rules.specs.Calls.{Call, refusedOr, enterRefusal, soundRefusal, refusal, after}
+use Rattle.book_rules.specs.Calls.Call.{enter, supply}
+use Rattle.book_rules.specs.History.{Held, Movement, movement, added, holding, standing, step, listOf, Made, made, standingRefusal, listRefusal, accepted, booked, sizesFit}
+use Rattle.book_rules.specs.History.Held.{none, holds}
+use Rattle.book_rules.proofs.History.{Told, refusal-told, told}
 use Rattle.register.specs.declared.row.Layout.{Layout}
 use Rattle.register.specs.Row.{layoutOf}
-use Rattle.reporting.specs.declared.Taken.{Taken}
-use Rattle.reporting.specs.declared.Taken.the-variants.{Entered, PassedOver, Refused}
-use Rattle.reporting.specs.Intake.{takenNumber, entering, supplying, suppliedTaken, enteredTaken, layoutTaken, rowTaken}
-use Rattle.reporting.specs.Booking.{layoutCalls, rowCalls}
+use Rattle.report_steps.specs.declared.Taken.{Taken}
+use Rattle.report_steps.specs.declared.Taken.the-variants.{Entered, PassedOver, Refused}
+use Rattle.report_steps.specs.Intake.{takenNumber, entering, supplying, suppliedTaken, enteredTaken, layoutTaken, rowTaken}
+use Rattle.report_steps.specs.Booking.{layoutCalls, rowCalls}
 use Rattle.report_rules.specs.Flights.{flightOf, flightsIn, howMany, Light, PassedExactly}
 
 -- Lists of movements

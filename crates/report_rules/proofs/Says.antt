@@ -10,12 +10,12 @@ use borrow.Author.Tests.{lt-ltb, le-ltb}
 use Rattle.level.specs.declared.Level.{Level}
 use Rattle.level.specs.declared.Level.the-variants.{BelowZero, At}
 use Rattle.level.specs.Level.{levelGiven, levelValue, verdictOf}
-use Rattle.book.specs.Columns.{Book}
-use Rattle.book.specs.History.{Movement, Made, emptyBook, booked, movements}
-use Rattle.counted.specs.declared.Load.{Load}
-use Rattle.counted.specs.Load.{bookLoad}
-use Rattle.counted.specs.Afresh.{CountsEach}
-use Rattle.counted.proofs.CountedOnce.{counted-once}
+use Rattle.book_rules.specs.Columns.{Book}
+use Rattle.book_rules.specs.History.{Movement, Made, emptyBook, booked, movements}
+use Rattle.load_rules.specs.declared.Load.{Load}
+use Rattle.load_rules.specs.Load.{bookLoad}
+use Rattle.load_rules.specs.Afresh.{CountsEach}
+use Rattle.load_rules.proofs.CountedOnce.{counted-once}
 use Rattle.text.specs.Line.{linesOf}
 use Rattle.text.specs.Field.{countOf, fieldOf}
 use Rattle.text.specs.Index.{listing}
@@ -25,9 +25,9 @@ use Rattle.text.proofs.Fields.{Free}
 use Rattle.text.proofs.Indices.{length-listing}
 use Rattle.register.specs.declared.limits.Limits.{Limits}
 use Rattle.register.specs.Limits.{limitsOf}
-use Rattle.reporting.specs.Reading.{registered}
-use Rattle.reporting.specs.Booking.{registerCalls}
-use Rattle.reporting.proofs.Bookings.{register-booked}
+use Rattle.report_steps.specs.Reading.{registered}
+use Rattle.report_steps.specs.Booking.{registerCalls}
+use Rattle.report_steps.proofs.Bookings.{register-booked}
 use Rattle.report_text.specs.Text.{ended, line, headerLine, levelText, verdictText, pointFields, pointLine, pointsText, bookRefusal, bookText}
 use Rattle.report_text.specs.Totals as totals
 use Rattle.report_rules.specs.Report.{bookRows, registerText, reportOf}

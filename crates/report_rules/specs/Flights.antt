@@ -1,4 +1,4 @@
--- No flight drops out: what a register that is accepted leaves standing, and what its report says of it. Document 01, "Files and the report
+-- No flight drops out: what a register that is accepted leaves standing, and what its report says of it. The rules, "Files and the report
 -- program". Assumes nothing.
 use Prim.Native.Nat.{ℕ, suc, _+_, _-_, _≤_, _<_}
 use mathlib.Core.Path.{_≡_}
@@ -10,10 +10,10 @@ use Rattle.level.specs.declared.Level.{Level}
 use Rattle.level.specs.Level.{levelGiven, levelValue}
 use Rattle.movement.specs.Group.{groupOf}
 use Rattle.movement.specs.Rules.{fieldsFit}
-use Rattle.book.specs.Columns.{Book, sound}
-use Rattle.book.specs.History.{Movement, movement, hasLevels, emptyBook, movements, rowsOf}
-use Rattle.book.specs.History.Held.{none, holds}
-use Rattle.counted.specs.Load.{bookLoad}
+use Rattle.book_rules.specs.Columns.{Book, sound}
+use Rattle.book_rules.specs.History.{Movement, movement, hasLevels, emptyBook, movements, rowsOf}
+use Rattle.book_rules.specs.History.Held.{none, holds}
+use Rattle.load_rules.specs.Load.{bookLoad}
 use Rattle.text.specs.Line.{linesOf}
 use Rattle.text.specs.Field.{fieldOf}
 use Rattle.text.specs.Number.{showNumber, showLevel}
@@ -22,10 +22,10 @@ use Rattle.register.specs.declared.row.Layout.{Layout}
 use Rattle.register.specs.declared.limits.Limits.{Limits}
 use Rattle.register.specs.Limits.{limitsOf}
 use Rattle.register.specs.Row.{layoutOf}
-use Rattle.reporting.specs.declared.Taken.the-variants.{PassedOver}
-use Rattle.reporting.specs.Intake.{rowTaken}
-use Rattle.reporting.specs.Reading.{registered}
-use Rattle.reporting.specs.Booking.{registerCalls}
+use Rattle.report_steps.specs.declared.Taken.the-variants.{PassedOver}
+use Rattle.report_steps.specs.Intake.{rowTaken}
+use Rattle.report_steps.specs.Reading.{registered}
+use Rattle.report_steps.specs.Booking.{registerCalls}
 use Rattle.report_rules.specs.Report.{bookRows, reportOf}
 
 -- The flights of a register

@@ -1,4 +1,4 @@
--- limits.csv: how its two lines spell points, days and limits, and what refuses it. Document 01, "Files and the report program".
+-- limits.csv: how its two lines spell points, days and limits, and what refuses it. The rules, "Files and the report program".
 -- Assumes nothing.
 use Prim.Native.Nat.{ℕ, _+_, _*_, _≤_, _<_}
 use mathlib.Core.Path.{_≡_}

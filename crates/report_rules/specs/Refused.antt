@@ -1,21 +1,21 @@
--- When a report is refused, with which number and which line: document 01, "Files and the report program".
+-- When a report is refused, with which number and which line: RULES, "Files and the report program".
 -- Assumes nothing.
 use Prim.Native.Nat.{ℕ, _+_, _*_, _≤_, _<_}
 use mathlib.Core.Path.{_≡_}
 use mathlib.Core.Logic.{_↔_}
 use mathlib.Core.List.{List, [], _∷_}
 use lib.ListN.{length, getD, take}
-use Rattle.book.specs.Columns.{Book}
-use Rattle.book.specs.Calls.{refusal, after}
-use Rattle.book.specs.History.{emptyBook}
+use Rattle.book_rules.specs.Columns.{Book}
+use Rattle.book_rules.specs.Calls.{refusal, after}
+use Rattle.book_rules.specs.History.{emptyBook}
 use Rattle.text.specs.Line.{linesOf}
 use Rattle.text.specs.Field.{fieldOf}
 use Rattle.text.specs.Number.{showNumber}
 use Rattle.text.specs.Spelled.{bytes}
 use Rattle.register.specs.Limits.{limitsOf}
 use Rattle.register.specs.Row.{layoutOf}
-use Rattle.reporting.specs.Intake.{entering, supplying}
-use Rattle.reporting.specs.Reading.{Reading, opening, linesRead, lineRefusal, registered}
+use Rattle.report_steps.specs.Intake.{entering, supplying}
+use Rattle.report_steps.specs.Reading.{Reading, opening, linesRead, lineRefusal, registered}
 use Rattle.report_text.specs.Text.{bookRefusal}
 use Rattle.report_rules.specs.Report.{bookRows, reportOf}
 use Rattle.report_rules.specs.Flights.{bookIn}

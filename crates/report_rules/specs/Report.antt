@@ -1,4 +1,4 @@
--- The whole report, from bytes to bytes: document 01, "Files and the report program".
+-- The whole report, from bytes to bytes: RULES, "Files and the report program".
 -- Assumes nothing.
 use Prim.Native.Nat.{ℕ, _+_}
 use mathlib.Core.Path.{_≡_}
@@ -6,11 +6,11 @@ use mathlib.Core.Bool.{cond}
 use mathlib.Core.List.{List, _++_}
 use lib.ListN.{replicate}
 use lib.Dec.{eqb}
-use Rattle.book.specs.History.{emptyBook}
+use Rattle.book_rules.specs.History.{emptyBook}
 use Rattle.register.specs.declared.limits.Limits.{Limits}
 use Rattle.register.specs.Limits.{limitsOf}
-use Rattle.reporting.specs.Stream.{longestLine}
-use Rattle.reporting.specs.Reading.{Reading, registered}
+use Rattle.report_steps.specs.Stream.{longestLine}
+use Rattle.report_steps.specs.Reading.{Reading, registered}
 use Rattle.report_text.specs.Text.{refusedText, bookText}
 
 -- the report program's own book has 2,000 rows

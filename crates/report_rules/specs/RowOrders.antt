@@ -1,11 +1,11 @@
--- The order of refusals of a row read and of a row written: document 01, "Refusal numbers", each reason in its words.
+-- The order of refusals of a row read and of a row written: RULES, "Refusal numbers", each reason in its words.
 -- Assumes nothing.
 use Prim.Native.Nat.{ℕ, _≤_, _<_}
 use mathlib.Core.Path.{_≡_}
 use mathlib.Core.List.{List}
 use lib.ListN.{length, getD}
 use Rattle.movement.specs.Ranges.{FieldsInRange, LevelsInRange}
-use Rattle.book.specs.Order.{Given}
+use Rattle.book_rules.specs.Order.{Given}
 use Rattle.register.specs.declared.row.Fields.{Fields}
 use Rattle.register.specs.Row.{layoutOf}
 use Rattle.register.specs.Write.{showRow}

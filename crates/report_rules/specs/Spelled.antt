@@ -1,4 +1,4 @@
--- How a row of a register spells its fields: document 01, "Files and the report program", column by column and letter by letter.
+-- How a row of a register spells its fields: RULES, "Files and the report program", column by column and letter by letter.
 -- Assumes nothing.
 use Prim.Native.Nat.{ℕ, _+_, _/_, _%_, _≤_, _<_}
 use mathlib.Core.Path.{_≡_}

@@ -9,10 +9,10 @@ use Rattle.level.specs.declared.Level.the-variants.{At}
 use Rattle.level.specs.Level.{bound, firstFrom, levelOf, levelValue}
 use Rattle.level.specs.Energy.{meanOf}
 use Rattle.text.proofs.Digits.{either}
-use Rattle.book.specs.Columns.{Book, sound}
-use Rattle.counted.specs.Load.{bookLoad, loadOf, answer, refusedLoad, loadRefusal, totalOf}
-use Rattle.counted.specs.Shares.{Share, bookShares}
-use Rattle.counted.specs.Tally.{tally}
+use Rattle.book_rules.specs.Columns.{Book, sound}
+use Rattle.load_rules.specs.Load.{bookLoad, loadOf, answer, refusedLoad, loadRefusal, totalOf}
+use Rattle.load_rules.specs.Shares.{Share, bookShares}
+use Rattle.load_rules.specs.Tally.{tally}
 
 first-most : (test : ℕ → Bool) (i f : ℕ) → firstFrom test i f ≤ i + f
 unfolding firstFrom

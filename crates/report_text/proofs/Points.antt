@@ -6,9 +6,9 @@ use Prim.Native.Nat.{ℕ, _+_, _≤_}
 use native.Mathlib.Omega.{arith}
 use lib.ListN.{length, getD, length-append}
 use borrow.Author.Tests.{ne-eqb}
-use Rattle.book.specs.Columns.{Book}
-use Rattle.counted.specs.declared.Load.{Load}
-use Rattle.counted.specs.Load.{bookLoad}
+use Rattle.book_rules.specs.Columns.{Book}
+use Rattle.load_rules.specs.declared.Load.{Load}
+use Rattle.load_rules.specs.Load.{bookLoad}
 use Rattle.text.specs.Index.{listing}
 use Rattle.text.specs.Put.{Wrote}
 use Rattle.text.proofs.Puts.{wrote-then, wrote-none}

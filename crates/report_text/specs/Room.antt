@@ -7,7 +7,7 @@ use lib.ListN.{length, getD}
 use Rattle.text.specs.Put.{Wrote}
 use Rattle.register.specs.declared.limits.Limits.{Limits}
 use Rattle.report_text.specs.declared.core.Report.{Report}
-use Rattle.book.specs.Columns.{Book}
+use Rattle.book_rules.specs.Columns.{Book}
 use Rattle.report_text.specs.Text.{bookText, bookRefusal}
 
 -- the longest line of a point with its CRLF: three numbers of 20 digits, two levels of 6 bytes, a verdict of 6, five commas

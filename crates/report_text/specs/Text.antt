@@ -1,4 +1,4 @@
--- The report as text, from the limits and a book, and the one line of a refusal: document 01, "Files and the report program".
+-- The report as text, from the limits and a book, and the one line of a refusal: RULES, "Files and the report program".
 -- Assumes nothing.
 use Prim.Native.Nat.{ℕ, _+_}
 use mathlib.Core.Bool.{cond}
@@ -10,9 +10,9 @@ use Rattle.level.specs.declared.Level.the-variants.{BelowZero, At}
 use Rattle.level.specs.declared.Verdict.{Verdict}
 use Rattle.level.specs.declared.Verdict.the-variants.{Within, Over}
 use Rattle.level.specs.Level.{verdictOf}
-use Rattle.book.specs.Columns.{Book}
-use Rattle.counted.specs.declared.Load.{Load}
-use Rattle.counted.specs.Load.{bookLoad}
+use Rattle.book_rules.specs.Columns.{Book}
+use Rattle.load_rules.specs.declared.Load.{Load}
+use Rattle.load_rules.specs.Load.{bookLoad}
 use Rattle.text.specs.Number.{showNumber, showLevel}
 use Rattle.text.specs.Field.{joinedBy}
 use Rattle.text.specs.Index.{listing}

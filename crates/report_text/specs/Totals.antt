@@ -1,11 +1,11 @@
--- The movements computed and those without levels, of all groups: document 01, "Files and the report program".
+-- The movements computed and those without levels, of all groups: RULES, "Files and the report program".
 -- Assumes nothing.
 use Prim.Native.Nat.{ℕ}
 use mathlib.Core.List.{List}
 use lib.ListN.{getD}
 use Rattle.movement.specs.Limits.{groupCount}
-use Rattle.counted.specs.declared.Counts.{Counts}
-use Rattle.counted.specs.Factors.{sumTo}
+use Rattle.load_rules.specs.declared.Counts.{Counts}
+use Rattle.load_rules.specs.Factors.{sumTo}
 
 -- V and U of group g
 abbrev pub countsIn : List Counts → ℕ → Counts

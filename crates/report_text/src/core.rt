@@ -1,7 +1,7 @@
 // The report's text, put into a buffer that has room for the longest.
 use crate::totals::added_up;
-use counted::Counts;
-use counted::Load;
+use load_rules::Counts;
+use load_rules::Load;
 use level::Level;
 use level::Verdict;
 use load::load_at;
@@ -15,7 +15,7 @@ ghost use mathlib.Core.List.{_∷_, _++_};
 ghost use Prim.Native.Nat.{_+_, _≤_, _<_};
 ghost use lib.ListN.{length};
 ghost use Rattle.level.specs.Level.{levelValue, verdictOf};
-ghost use Rattle.book.specs.Columns.{bookOf};
+ghost use Rattle.book_rules.specs.Columns.{bookOf};
 ghost use Rattle.text.specs.Put.{Wrote};
 ghost use Rattle.text.specs.Number.{showNumber, showLevel};
 ghost use Rattle.report_text.specs.Totals.{computedIn, missingIn};

@@ -1,5 +1,5 @@
 // The movements computed and those without levels, of all groups of a load.
-use counted::Counts;
+use load_rules::Counts;
 ghost use mathlib.Core.Path.{_≡_};
 ghost use Prim.Native.Nat.{_+_, _*_, _^_, _≤_};
 ghost use Rattle.report_text.specs.Totals.{computedIn, missingIn};

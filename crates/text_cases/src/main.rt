@@ -1,4 +1,4 @@
-// Register rows, headers and limits.csv: the examples of document 01 and a table of damaged lines. Each line of output has a
+// Register rows, headers and limits.csv: the examples of the rules and a table of damaged lines. Each line of output has a
 // text, the answer, and what it should be.
 use libc::STDOUT_FILENO;
 use register::header::limits_points;

@@ -12,12 +12,12 @@ use Rattle.network.specs.declared.Frame.{Frame}
 use Rattle.network.specs.Edges.{edges, Checked}
 use Rattle.network.specs.Crossed.{crossedAt}
 use Rattle.network.proofs.Refusals.{both}
-use Rattle.lines.specs.Picture.{Picture, picture}
-use Rattle.lines.specs.Crossings.{edgesIn}
-use Rattle.lines.specs.Contours.{Contour, bit, contoursOf, edgesOf, countsOf, closedOf}
-use Rattle.lines.specs.Once.{occurs, Sound, AllSound}
-use Rattle.lines.proofs.Sums.{length-counts, length-closed, crossings-le, all-listed}
-use Rattle.lines.proofs.Every.{every-crossing}
+use Rattle.contour_rules.specs.Picture.{Picture, picture}
+use Rattle.contour_rules.specs.Crossings.{edgesIn}
+use Rattle.contour_rules.specs.Contours.{Contour, bit, contoursOf, edgesOf, countsOf, closedOf}
+use Rattle.contour_rules.specs.Once.{occurs, Sound, AllSound}
+use Rattle.contour_rules.proofs.Sums.{length-counts, length-closed, crossings-le, all-listed}
+use Rattle.contour_rules.proofs.Every.{every-crossing}
 use Rattle.contour.specs.Answers.{front}
 use Rattle.contour.specs.Desk.{Listed}
 use Rattle.wkt.specs.Text.{textOf, pointsOf, contoursText}

@@ -1,4 +1,4 @@
--- Printed contours follow document 01's layout. Assumes nothing.
+-- Printed contours follow the rules' layout. Assumes nothing.
 use mathlib.Core.Path.{_≡_, refl, sym, ap, _∙_, subst}
 use mathlib.Core.Bool.{Bool, true, false, _&&_, cond}
 use mathlib.Core.Logic.{_⊎_, ⊎-elim}
@@ -23,10 +23,10 @@ use Rattle.network.proofs.Refusals.{both}
 use Rattle.network.proofs.Ranges.{room-refused}
 use Rattle.network.proofs.Numbering.{parts, edges-numbered}
 use Rattle.network.proofs.Astride.{num-den}
-use Rattle.lines.specs.Picture.{Picture, picture}
-use Rattle.lines.specs.Contours.{Contour, bit, contoursOf}
-use Rattle.lines.specs.Once.{Sound, AllSound}
-use Rattle.lines.proofs.Every.{every-crossing}
+use Rattle.contour_rules.specs.Picture.{Picture, picture}
+use Rattle.contour_rules.specs.Contours.{Contour, bit, contoursOf}
+use Rattle.contour_rules.specs.Once.{Sound, AllSound}
+use Rattle.contour_rules.proofs.Every.{every-crossing}
 use Rattle.wkt.specs.declared.Spot.{Spot}
 use Rattle.wkt.specs.Places.{nearest, offsetOf, slideOf, standOf, spotOf}
 use Rattle.wkt.specs.Text.{showMetres, showSpot, placeText, bracket, comma, pointsText, linesText, multilinestring, textOf, pointsOf, contoursText}

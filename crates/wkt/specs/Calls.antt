@@ -1,4 +1,4 @@
--- The call that prints the contours of a network, and what it leaves in the room lent to it: document 01, "Files and the report program". Assumes nothing.
+-- The call that prints the contours of a network, and what it leaves in the room lent to it: RULES, "Files and the report program". Assumes nothing.
 use mathlib.Core.Path.{_≡_}
 use mathlib.Core.Bool.{_&&_, cond}
 use mathlib.Core.List.{List, [], _∷_, _++_}
@@ -8,8 +8,8 @@ use lib.ListN.{length, drop}
 use Rattle.refusal.specs.Refuse.{refuse}
 use Rattle.network.specs.declared.Frame.{Frame}
 use Rattle.network.specs.Refusals.{contourChecked}
-use Rattle.lines.specs.Picture.{picture}
-use Rattle.lines.specs.Contours.{contoursOf}
+use Rattle.contour_rules.specs.Picture.{picture}
+use Rattle.contour_rules.specs.Contours.{contoursOf}
 use Rattle.contour.specs.Answers.{front}
 use Rattle.wkt.specs.Text.{contoursText}
 

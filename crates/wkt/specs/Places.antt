@@ -1,4 +1,4 @@
--- The printed place of a crossing, in whole millimetres: document 01, "Network and contours". Assumes nothing.
+-- The printed place of a crossing, in whole millimetres: RULES, "Network and contours". Assumes nothing.
 use mathlib.Core.List.{List}
 use Prim.Native.Nat.{ℕ, _+_, _*_, _/_}
 use Rattle.network.specs.declared.Edge.{Edge}

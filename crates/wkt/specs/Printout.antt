@@ -1,4 +1,4 @@
--- Printed contours as document 01 lays them out, "Network and contours" and "Files and the report program".
+-- Printed contours as the rules lay them out, "Network and contours" and "Files and the report program".
 -- Assumes nothing.
 use mathlib.Core.Path.{_≡_}
 use mathlib.Core.Bool.{cond}
@@ -9,8 +9,8 @@ use Rattle.text.specs.Number.{wholeOf}
 use Rattle.text.specs.declared.number.Number.the-variants.{Got}
 use Rattle.network.specs.declared.Frame.{Frame}
 use Rattle.network.specs.Numbering.{pointLevel, Parts, OneIn}
-use Rattle.lines.specs.Picture.{picture}
-use Rattle.lines.specs.Contours.{Contour, contoursOf}
+use Rattle.contour_rules.specs.Picture.{picture}
+use Rattle.contour_rules.specs.Contours.{Contour, contoursOf}
 use Rattle.wkt.specs.Text.{placeText}
 use Rattle.wkt.specs.Calls.{networkText}
 

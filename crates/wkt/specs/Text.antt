@@ -1,4 +1,4 @@
--- The text of contours: document 01, "Files and the report program". A byte is a number: 32 space, 40 and 41 parentheses, 44 comma, 46 point, 48 to 57 digits.
+-- The text of contours: RULES, "Files and the report program". A byte is a number: 32 space, 40 and 41 parentheses, 44 comma, 46 point, 48 to 57 digits.
 -- Assumes nothing.
 use mathlib.Core.List.{List, [], _∷_, _++_, map}
 use Prim.Native.Nat.{ℕ, _+_, _/_, _%_}
@@ -6,7 +6,7 @@ use lib.ListN.{take}
 use Rattle.text.specs.Number.{showWhole, showTwo}
 use Rattle.network.specs.declared.Frame.{Frame}
 use Rattle.network.specs.Edges.{edgeAt}
-use Rattle.lines.specs.Contours.{Contour, bit}
+use Rattle.contour_rules.specs.Contours.{Contour, bit}
 use Rattle.wkt.specs.declared.Spot.{Spot}
 use Rattle.wkt.specs.Places.{spotOf}
 

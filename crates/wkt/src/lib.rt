@@ -1,4 +1,4 @@
-// Contours printed as well-known text: document 01, "Files and the report program", last paragraph.
+// Contours printed as well-known text: RULES, "Files and the report program", last paragraph.
 ghost use mathlib.Core.Path.{_≡_};
 ghost use Prim.Native.Nat.{_≤_};
 ghost use lib.ListN.{length, take};

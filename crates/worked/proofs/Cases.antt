@@ -11,15 +11,15 @@ use Rattle.movement.specs.Limits.{kindCount, secondsADay, maxIdentity, maxPoint
 use Rattle.movement.specs.Period.{periodNumber, periodNumbered}
 use Rattle.movement.specs.Group.{groupPeriod}
 use Rattle.movement.specs.Rules.{fieldsFit, counts, movementRefusal, identityFits}
-use Rattle.book.specs.Calls.{refusedOr, refusal}
-use Rattle.book.specs.Calls.Call.{enter}
-use Rattle.book.specs.History.{made, emptyBook, booked, movements, accepted, listOf, listRefusal, standingRefusal, sizesFit, standing}
-use Rattle.book.proofs.History.{history-refusal}
-use Rattle.book.proofs.Lookup.{call-does}
+use Rattle.book_rules.specs.Calls.{refusedOr, refusal}
+use Rattle.book_rules.specs.Calls.Call.{enter}
+use Rattle.book_rules.specs.History.{made, emptyBook, booked, movements, accepted, listOf, listRefusal, standingRefusal, sizesFit, standing}
+use Rattle.book_rules.proofs.History.{history-refusal}
+use Rattle.book_rules.proofs.Lookup.{call-does}
 use Rattle.level.specs.Tables.{tableA}
 use Rattle.level.specs.Energy.{energyOf}
 use Rattle.level.proofs.RootLaws.{root-only}
-use Rattle.lines.specs.Contours.{waiting, follow, without, swept, crossedTo}
+use Rattle.contour_rules.specs.Contours.{waiting, follow, without, swept, crossedTo}
 use Rattle.text.specs.Number.{shown}
 use Rattle.wkt.specs.Text.{placeText, pointsText, linesText, textOf}
 use Rattle.worked.specs.Cases.{Case, InPeriod, Answered, Holds, AllHold, cases, hill, hillFrame, hillContours, hillText}

@@ -1,4 +1,4 @@
--- The cases of document 01, "Numbers worked by hand", that are marked P.
+-- The cases of RULES, "Numbers worked by hand", that are marked P.
 -- Assumes nothing.
 use Prim.Native.Nat.{ℕ, _+_, _*_, _^_, _≤_, _<_}
 use mathlib.Core.Path.{_≡_}
@@ -6,15 +6,15 @@ use mathlib.Core.Bool.{true}
 use mathlib.Core.List.{List, [], _∷_}
 use Rattle.movement.specs.Period.{periodNumber}
 use Rattle.movement.specs.Group.{groupPeriod}
-use Rattle.book.specs.Columns.{Book}
-use Rattle.book.specs.Calls.{Called, refusal}
-use Rattle.book.specs.Calls.Call.{enter}
-use Rattle.book.specs.History.{emptyBook}
-use Rattle.book.specs.Lookup.{found, bare}
+use Rattle.book_rules.specs.Columns.{Book}
+use Rattle.book_rules.specs.Calls.{Called, refusal}
+use Rattle.book_rules.specs.Calls.Call.{enter}
+use Rattle.book_rules.specs.History.{emptyBook}
+use Rattle.book_rules.specs.Lookup.{found, bare}
 use Rattle.level.specs.Energy.{energyOf}
 use Rattle.network.specs.declared.Frame.{Frame}
-use Rattle.lines.specs.Picture.{picture}
-use Rattle.lines.specs.Contours.{Contour, contoursOf}
+use Rattle.contour_rules.specs.Picture.{picture}
+use Rattle.contour_rules.specs.Contours.{Contour, contoursOf}
 use Rattle.wkt.specs.Calls.{networkText}
 
 pub data Case : Type 0 where

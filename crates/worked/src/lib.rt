@@ -1,2 +1,2 @@
-// The cases of document 01, "Numbers worked by hand", that are marked P: one table in specs/Cases.antt, and one theorem, `all-hold`, in
+// The cases of RULES, "Numbers worked by hand", that are marked P: one table in specs/Cases.antt, and one theorem, `all-hold`, in
 // proofs/Cases.antt. There is no code here: the cases speak of the definitions that the calls are proved against.

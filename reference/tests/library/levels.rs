@@ -68,7 +68,7 @@ fn both_edges_of_a_level() {
     });
 }
 
-/// The energies that document 01 works by hand, by day, in the evening and at night.
+/// The energies that the rules work by hand, by day, in the evening and at night.
 #[test]
 fn worked_energies() {
     directed("worked_energies", &[("load", 12, &["0"])], || {
@@ -95,7 +95,7 @@ fn worked_energies() {
     });
 }
 
-/// Document 01's file, and the same without its W: the level goes by the whole total.
+/// The rules's file, and the same without its W: the level goes by the whole total.
 #[test]
 fn movements_of_groups_without_levels() {
     directed("movements_of_groups_without_levels", &[("load", 2, &["0"])], || {

@@ -1,5 +1,5 @@
-//! Every range of document 01 at its ends and one past them, with everything else right; the answers expected are the
-//! document's own, so that the reference is held to them too.
+//! Every range of the rules at its ends and one past them, with everything else right; the answers expected are the
+//! rules' own, so that the reference is held to them too.
 
 use crate::compared::{ask, change, contours, load, read_network, read_row, verdict, write, Asked, Book, Change, Written};
 use crate::library::Library;

@@ -211,7 +211,7 @@ fn difference(own: &[u8], expected: &[u8], text: &[u8], words: &[String]) -> Str
     format!("the program writes about byte {place} {own:?}\nthe reference {expected:?}\nlevels {words:?}\nnetwork {text:?}")
 }
 
-/// Document 01's hill, cut in two at every place, at levels with a contour and without.
+/// The rules's hill, cut in two at every place, at levels with a contour and without.
 #[test]
 #[ignore = "needs OKUBINRAFO_CONTOURS, the command of the contours program"]
 fn the_documents_hill_in_two_pieces() {

@@ -109,7 +109,7 @@ const HEADER: &str = "id,type,mtow,kind,time,l1\r\n";
 const MOVEMENTS: &str = "1,G,70000,S,07:00:00,100.00\r\n2,G,70000,S,18:59:59,100.00\r\n3,G,70000,S,12:00:00,\r\n4,H,3000,L,23:00:00,\r\n";
 const REPORT: &str = "point,level,limit,verdict,computed,missing\r\n1,56.66,56.65,over,2,2\r\n";
 
-/// Document 01's file, cut in two at every place: whatever the pieces, every flight counts.
+/// The rules's file, cut in two at every place: whatever the pieces, every flight counts.
 #[test]
 #[ignore = "needs OKUBINRAFO_REPORT, the command of the report program"]
 fn the_documents_file_in_two_pieces() {
@@ -131,7 +131,7 @@ fn passed_over(bytes: usize) -> String {
     (0..rows).map(|row| format!("{},G,150,S,07:00:00,1.00\r\n", &"9999999"[..length(row) - 24])).collect()
 }
 
-/// Document 01's file behind rows that are passed over, so that the buffer ends at every place of its movements.
+/// The rules's file behind rows that are passed over, so that the buffer ends at every place of its movements.
 #[test]
 #[ignore = "needs OKUBINRAFO_REPORT, the command of the report program"]
 fn the_documents_file_about_a_buffers_end() {

@@ -6,8 +6,8 @@ use denote.Ref.{now}
 use lib.ListN.{length, replicate, length-replicate}
 use Rattle.network.specs.Edges.{edges}
 use Rattle.network.proofs.Numbers.{edges-le}
-use Rattle.lines.specs.Picture.{Picture, picture}
-use Rattle.lines.proofs.Every.{few}
+use Rattle.contour_rules.specs.Picture.{Picture, picture}
+use Rattle.contour_rules.proofs.Every.{few}
 use Rattle.contour.proofs.Handing.{apart}
 use Rattle.contour.proofs.list_apart.Statement.{statement}
 use Rattle.contour.proofs.list_apart.Tie as tie

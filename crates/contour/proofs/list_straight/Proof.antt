@@ -3,8 +3,8 @@ use borrow.Author.Needs.{needs}
 use native.Mathlib.Omega.{arith}
 use denote.Ref.{now}
 use Rattle.network.proofs.Numbers.{edges-le}
-use Rattle.lines.specs.Picture.{Picture, picture}
-use Rattle.lines.proofs.Every.{few}
+use Rattle.contour_rules.specs.Picture.{Picture, picture}
+use Rattle.contour_rules.proofs.Every.{few}
 use Rattle.contour.proofs.Handing.{straight}
 use Rattle.contour.proofs.list_straight.Statement.{statement}
 use Rattle.contour.proofs.list_straight.Tie as tie

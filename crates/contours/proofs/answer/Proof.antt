@@ -2,7 +2,7 @@
 use mathlib.Core.Path.{sym}
 use native.Mathlib.Omega.{arith}
 use lib.Seq.{length-take-le}
-use Rattle.sheet.proofs.Answers.{came, came-full}
+use Rattle.contours_steps.proofs.Answers.{came, came-full}
 use borrow.Author.Needs.{needs}
 use Rattle.contours.proofs.answer.Statement.{statement}
 use Rattle.contours.proofs.answer.Tie as tie

@@ -7,9 +7,9 @@ use denote.Ref.{now}
 use lib.ListN.{length, getD}
 use lib.Seq.{length-take-le}
 use Rattle.grid.specs.Read.{textFrame, textLevels}
-use Rattle.sheet.specs.Sheet.{textRefusal}
-use Rattle.sheet.specs.Drawing.{Stored}
-use Rattle.sheet.proofs.Drawings.{given-fine, words-front, frame-back, points-are, accepted}
+use Rattle.contours_steps.specs.Sheet.{textRefusal}
+use Rattle.contours_steps.specs.Drawing.{Stored}
+use Rattle.contours_steps.proofs.Drawings.{given-fine, words-front, frame-back, points-are, accepted}
 use borrow.Author.Needs.{needs}
 use Rattle.contours.proofs.draw.Statement.{statement}
 use Rattle.contours.proofs.draw.Tie as tie

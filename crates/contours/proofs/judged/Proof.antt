@@ -4,8 +4,8 @@ use Prim.Native.Nat.{ℕ}
 use native.Mathlib.Omega.{arith}
 use denote.Ref.{now}
 use lib.ListN.{replicate, length-replicate}
-use Rattle.sheet.specs.Sheet.{textRefusal}
-use Rattle.sheet.proofs.Drawings.{stored}
+use Rattle.contours_steps.specs.Sheet.{textRefusal}
+use Rattle.contours_steps.proofs.Drawings.{stored}
 use borrow.Author.Needs.{needs}
 use Rattle.contours.proofs.judged.Statement.{statement}
 use Rattle.contours.proofs.judged.Tie as tie

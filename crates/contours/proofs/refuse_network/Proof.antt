@@ -1,5 +1,5 @@
 -- `contours::refuse_network` meets what its line asks for. Assumes nothing.
-use Rattle.sheet.proofs.Drawings.{refused-text}
+use Rattle.contours_steps.proofs.Drawings.{refused-text}
 use borrow.Author.Needs.{needs}
 use Rattle.contours.proofs.refuse_network.Statement.{statement}
 use Rattle.contours.proofs.refuse_network.Tie as tie

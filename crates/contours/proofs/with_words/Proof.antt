@@ -1,6 +1,6 @@
 -- `contours::with_words`: the words' refusal, or none. Assumes nothing.
 use mathlib.Core.Path.{sym, _∙_}
-use Rattle.sheet.proofs.Drawings.{refused-words}
+use Rattle.contours_steps.proofs.Drawings.{refused-words}
 use borrow.Author.Needs.{needs}
 use Rattle.contours.proofs.with_words.Statement.{statement}
 use Rattle.contours.proofs.with_words.Tie as tie
@@ -9,7 +9,7 @@ use Rattle.contours.proofs.with_words.Lts as lts
 use Rattle.contours.proofs.draw.Reads as draw-reads
 use Rattle.contours.proofs.print.refusal.Reads as refusal-reads
 use Rattle.contours.proofs.say.of_levels.Reads as of-levels-reads
-use Rattle.sheet.proofs.words.words_refusal.Reads as words-refusal-reads
+use Rattle.contours_steps.proofs.words.words_refusal.Reads as words-refusal-reads
 
 words-refusal-requires : tie.Need-words-refusal-requires
 words-refusal-requires c κs = search needs

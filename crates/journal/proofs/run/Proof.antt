@@ -5,7 +5,7 @@ use native.Mathlib.Omega.{arith}
 use lib.ListN.{length, length-set}
 use denote.Ref.{now}
 use borrow.Author.Needs.{needs}
-use Rattle.book.specs.Columns.{bookOf}
+use Rattle.book_rules.specs.Columns.{bookOf}
 use Rattle.journal.specs.Journal.{callsOf}
 use Rattle.journal.proofs.Reading.{Step, step-laid}
 use Rattle.journal.proofs.Replaying.{Replaying, replay-starts, replay-more, replay-ends, next, all, length-all}

@@ -1,7 +1,7 @@
 -- `load::days_fit` meets its contract: each test in its order.
 -- Assumes nothing.
 use borrow.Author.Tests.{le-leb, lt-leb}
-use Rattle.counted.specs.Load.{daysFit}
+use Rattle.load_rules.specs.Load.{daysFit}
 use Rattle.load.proofs.days_fit.Statement.{statement}
 use Rattle.load.proofs.days_fit.Tie as tie
 

@@ -2,8 +2,8 @@
 -- Assumes nothing.
 use mathlib.Core.Path.{ap}
 use borrow.Author.Tests.{ne-eqb}
-use Rattle.counted.specs.declared.Judged.the-variants.{Given}
-use Rattle.counted.specs.Verdict.{judged}
+use Rattle.load_rules.specs.declared.Judged.the-variants.{Given}
+use Rattle.load_rules.specs.Verdict.{judged}
 use Rattle.load.specs.Steps.{judgedBy}
 use borrow.Author.Needs.{needs}
 use Rattle.load.proofs.judged_by.Statement.{statement}

@@ -1,8 +1,8 @@
 -- `load::load_at` meets its contract: 9, 11, and then the load of the rows.
 -- Assumes nothing.
 use Rattle.refusal.proofs.Laws.{passed, failed}
-use Rattle.book.specs.Columns.{Book, bookOf}
-use Rattle.counted.specs.Load.{loadRefusal, loadOf, bookLoad}
+use Rattle.book_rules.specs.Columns.{Book, bookOf}
+use Rattle.load_rules.specs.Load.{loadRefusal, loadOf, bookLoad}
 use Rattle.load.proofs.SumsLaws.{fits-there}
 use borrow.Author.Needs.{needs}
 use Rattle.load.proofs.load_at.Statement.{statement}

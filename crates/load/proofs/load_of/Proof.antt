@@ -3,9 +3,9 @@
 use mathlib.Core.Path.{ap, _∙_}
 use native.Mathlib.Omega.{arith}
 use lib.ListN.{length}
-use Rattle.book.specs.Columns.{Book, bookOf}
-use Rattle.counted.specs.Shares.{bookShares}
-use Rattle.counted.specs.Tally.{tally, groupAt}
+use Rattle.book_rules.specs.Columns.{Book, bookOf}
+use Rattle.load_rules.specs.Shares.{bookShares}
+use Rattle.load_rules.specs.Tally.{tally, groupAt}
 use Rattle.load.specs.Steps.{loadFrom}
 use Rattle.load.proofs.RowLaws.{rows-bounded, rows-grouped}
 use Rattle.load.proofs.SumsLaws.{from-table, from-shares}

@@ -1,7 +1,7 @@
 -- `load::refusal` meets its contract: by definition.
 -- Assumes nothing.
 use borrow.Author.Needs.{needs}
-use Rattle.counted.specs.Load.{refusedLoad}
+use Rattle.load_rules.specs.Load.{refusedLoad}
 use Rattle.load.proofs.refusal.Statement.{statement}
 use Rattle.load.proofs.refusal.Tie as tie
 

@@ -3,10 +3,10 @@
 use mathlib.Core.Path.{refl, sym, ap, _∙_}
 use borrow.Author.Tests.{le-leb, lt-leb}
 use Rattle.refusal.proofs.Laws.{passed, failed}
-use Rattle.book.specs.Columns.{Book, bookOf}
-use Rattle.counted.specs.Shares.{bookShares}
-use Rattle.counted.specs.Verdict.{limitFits, verdictRefusal, judged, judgedOf, bookVerdict}
-use Rattle.counted.proofs.Determined.{judging}
+use Rattle.book_rules.specs.Columns.{Book, bookOf}
+use Rattle.load_rules.specs.Shares.{bookShares}
+use Rattle.load_rules.specs.Verdict.{limitFits, verdictRefusal, judged, judgedOf, bookVerdict}
+use Rattle.load_rules.proofs.Determined.{judging}
 use Rattle.load.specs.Steps.{judgedBy}
 use Rattle.load.proofs.SumsLaws.{fits-there, judged-load}
 use borrow.Author.Needs.{needs}

@@ -1,5 +1,5 @@
 -- `report::answer_whole` meets its contract: a refusal's one line, or the report of the book. Assumes nothing.
-use Rattle.book.specs.Columns.{Book, bookOf}
+use Rattle.book_rules.specs.Columns.{Book, bookOf}
 use Rattle.report.proofs.Texts.{sized-refused, sized-report}
 use borrow.Author.Needs.{needs}
 use Rattle.report.proofs.answer_whole.Statement.{statement}

@@ -1,7 +1,7 @@
 -- `report::report_in` meets its contract: the register is read into the book, and the answer is that of its reading. Assumes nothing.
 use native.Mathlib.Omega.{arith}
 use mathlib.Core.Path.{_∙_, ap}
-use Rattle.book.specs.Columns.{Book, bookOf}
+use Rattle.book_rules.specs.Columns.{Book, bookOf}
 use Rattle.report_rules.proofs.Answers.{empty-sound}
 use Rattle.report.proofs.Texts.{sized-refused, answered-whole, answered-other}
 use borrow.Author.Needs.{needs}

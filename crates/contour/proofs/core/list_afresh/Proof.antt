@@ -1,7 +1,7 @@
 -- `contour::core::list_afresh` meets its contract. Assumes nothing.
 use borrow.Author.Needs.{needs}
 use denote.Ref.{now}
-use Rattle.lines.specs.Picture.{Picture, picture}
+use Rattle.contour_rules.specs.Picture.{Picture, picture}
 use Rattle.contour.proofs.Listings.{first-room, all-held}
 use Rattle.contour.proofs.core.list_afresh.Statement.{statement}
 use Rattle.contour.proofs.core.list_afresh.Tie as tie

@@ -3,7 +3,7 @@ use borrow.Author.Needs.{needs}
 use mathlib.Core.Path.{_∙_}
 use native.Mathlib.Omega.{arith}
 use denote.Ref.{now}
-use Rattle.lines.specs.Picture.{picture}
+use Rattle.contour_rules.specs.Picture.{picture}
 use Rattle.contour.proofs.Borders.{along-fits}
 use Rattle.contour.proofs.Rows.{first-along, first-up, fills-all}
 use Rattle.contour.proofs.fill.fill_list.Statement.{statement}

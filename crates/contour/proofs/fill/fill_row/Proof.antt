@@ -7,9 +7,9 @@ use denote.Ref.{now}
 use lib.ListN.{length, length-set}
 use Rattle.network.specs.Edges.{WithinEdge, edges}
 use Rattle.network.proofs.Numbers.{edges-le}
-use Rattle.lines.specs.Picture.{Picture, picture}
-use Rattle.lines.specs.Crossings.{crossed, crossedAt}
-use Rattle.lines.specs.Contours.{bit}
+use Rattle.contour_rules.specs.Picture.{Picture, picture}
+use Rattle.contour_rules.specs.Crossings.{crossed, crossedAt}
+use Rattle.contour_rules.specs.Contours.{bit}
 use Rattle.contour.specs.Fill.{edgeIn, Fills}
 use Rattle.contour.proofs.Rows.{row-within, row-crossed, fills-none, fills-more}
 use Rattle.contour.proofs.fill.fill_row.Statement.{statement}

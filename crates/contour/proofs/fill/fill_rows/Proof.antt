@@ -5,7 +5,7 @@ use native.Mathlib.Omega.{arith}
 use lib.ListN.{length}
 use Rattle.network.specs.Edges.{numberOf}
 use Rattle.network.proofs.Numbers.{number-small}
-use Rattle.lines.specs.Picture.{picture}
+use Rattle.contour_rules.specs.Picture.{picture}
 use Rattle.contour.specs.Fill.{edgeIn, rowWidth, Fills}
 use Rattle.contour.proofs.Rows.{row-within, width-some, next-row, fills-on}
 use Rattle.contour.proofs.fill.fill_rows.Statement.{statement}

@@ -3,7 +3,7 @@ use borrow.Author.Needs.{needs}
 use native.Mathlib.Omega.{arith}
 use denote.Ref.{now}
 use Rattle.network.proofs.Numbers.{edges-le}
-use Rattle.lines.specs.Picture.{Picture, picture}
+use Rattle.contour_rules.specs.Picture.{Picture, picture}
 use Rattle.contour.specs.Desk.{Desk, desk}
 use Rattle.contour.proofs.Listings.{count-fits, end-fits, grown}
 use Rattle.contour.proofs.sweep.add_contour.Statement.{statement}

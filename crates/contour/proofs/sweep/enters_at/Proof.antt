@@ -4,8 +4,8 @@ use mathlib.Core.Path.{_≡_, sym, subst, _∙_}
 use denote.Ref.{now}
 use Rattle.network.specs.Edges.{WithinEdge}
 use Rattle.network.proofs.Numbers.{edge-within}
-use Rattle.lines.specs.Picture.{picture}
-use Rattle.lines.specs.Crossings.{crossedAt}
+use Rattle.contour_rules.specs.Picture.{picture}
+use Rattle.contour_rules.specs.Crossings.{crossedAt}
 use Rattle.contour.proofs.sweep.enters_at.Statement.{statement}
 use Rattle.contour.proofs.sweep.enters_at.Tie as tie
 

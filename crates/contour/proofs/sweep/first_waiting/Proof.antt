@@ -6,8 +6,8 @@ use mathlib.Core.Logic.{⊎-elim}
 use Prim.Native.Nat.{ℕ, _-_, _≤_, _<_}
 use native.Mathlib.Omega.{arith}
 use borrow.Author.Tests.{ne-eqb}
-use Rattle.lines.specs.Contours.{waits}
-use Rattle.lines.proofs.Waiting.{is-or-not}
+use Rattle.contour_rules.specs.Contours.{waits}
+use Rattle.contour_rules.proofs.Waiting.{is-or-not}
 use Rattle.contour.proofs.sweep.first_waiting.Statement.{statement}
 use Rattle.contour.proofs.sweep.first_waiting.Tie as tie
 

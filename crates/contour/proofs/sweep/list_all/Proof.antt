@@ -4,7 +4,7 @@ use mathlib.Core.Path.{sym}
 use native.Mathlib.Omega.{arith}
 use native.Mathlib.Nat.{le-of-eq}
 use denote.Ref.{now}
-use Rattle.lines.specs.Picture.{Picture, picture}
+use Rattle.contour_rules.specs.Picture.{Picture, picture}
 use Rattle.contour.proofs.Borders.{all-swept}
 use Rattle.contour.proofs.sweep.list_all.Statement.{statement}
 use Rattle.contour.proofs.sweep.list_all.Tie as tie

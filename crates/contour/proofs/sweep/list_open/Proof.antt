@@ -1,7 +1,7 @@
 -- `contour::sweep::list_open` meets its contract. Assumes nothing.
 use borrow.Author.Needs.{needs}
 use denote.Ref.{now}
-use Rattle.lines.specs.Picture.{Picture, picture}
+use Rattle.contour_rules.specs.Picture.{Picture, picture}
 use Rattle.contour.proofs.Borders.{border-swept}
 use Rattle.contour.proofs.sweep.list_open.Statement.{statement}
 use Rattle.contour.proofs.sweep.list_open.Tie as tie

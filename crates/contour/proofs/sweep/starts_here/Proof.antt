@@ -3,8 +3,8 @@ use borrow.Author.Needs.{needs}
 use mathlib.Core.Path.{_≡_, refl, sym, _∙_}
 use mathlib.Core.Bool.{Bool, true, false, _&&_, _||_}
 use denote.Ref.{now}
-use Rattle.lines.specs.Picture.{picture}
-use Rattle.lines.specs.Crossings.{entersAt}
+use Rattle.contour_rules.specs.Picture.{picture}
+use Rattle.contour_rules.specs.Crossings.{entersAt}
 use Rattle.contour.proofs.sweep.starts_here.Statement.{statement}
 use Rattle.contour.proofs.sweep.starts_here.Tie as tie
 

@@ -6,7 +6,7 @@ use native.Mathlib.Omega.{arith}
 use denote.Ref.{now}
 use Rattle.network.specs.declared.Edge.the-variants.{Vertical}
 use Rattle.network.proofs.Numbers.{edges-le, number-lt}
-use Rattle.lines.specs.Picture.{Picture, picture}
+use Rattle.contour_rules.specs.Picture.{Picture, picture}
 use Rattle.contour.proofs.Borders.{along-fits, up-fits, ends-swept}
 use Rattle.contour.proofs.sweep.sweep_ends.Statement.{statement}
 use Rattle.contour.proofs.sweep.sweep_ends.Tie as tie

@@ -3,7 +3,7 @@ use borrow.Author.Needs.{needs}
 use Prim.Native.Nat.{_-_, _*_, _≤_}
 use native.Mathlib.Omega.{arith}
 use denote.Ref.{now}
-use Rattle.lines.specs.Picture.{Picture, picture}
+use Rattle.contour_rules.specs.Picture.{Picture, picture}
 use Rattle.contour.proofs.Borders.{along-fits, rows-swept}
 use Rattle.contour.proofs.sweep.sweep_rows.Statement.{statement}
 use Rattle.contour.proofs.sweep.sweep_rows.Tie as tie

@@ -4,9 +4,9 @@ use mathlib.Core.Path.{_≡_, sym, ap, _∙_}
 use mathlib.Core.Bool.{_||_}
 use denote.Ref.{now}
 use Rattle.network.proofs.Refusals.{both}
-use Rattle.lines.specs.Picture.{Picture, picture}
-use Rattle.lines.specs.Crossings.{aheadOf, edgeOf, entersAt}
-use Rattle.lines.specs.Contours.{waits}
+use Rattle.contour_rules.specs.Picture.{Picture, picture}
+use Rattle.contour_rules.specs.Crossings.{aheadOf, edgeOf, entersAt}
+use Rattle.contour_rules.specs.Contours.{waits}
 use Rattle.contour.specs.Desk.{Desk, desk}
 use Rattle.contour.proofs.Listings.{try-starts, try-passes}
 use Rattle.contour.proofs.sweep.try_edge.Statement.{statement}

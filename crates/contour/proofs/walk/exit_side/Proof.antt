@@ -3,9 +3,9 @@ use borrow.Author.Needs.{needs}
 use mathlib.Core.Path.{sym, _∙_}
 use mathlib.Core.Bool.{Bool}
 use denote.Ref.{now}
-use Rattle.lines.specs.declared.Side.{Side}
-use Rattle.lines.specs.Picture.{picture, cutOf}
-use Rattle.lines.specs.Squares.{corner}
+use Rattle.contour_rules.specs.declared.Side.{Side}
+use Rattle.contour_rules.specs.Picture.{picture, cutOf}
+use Rattle.contour_rules.specs.Squares.{corner}
 use Rattle.contour.proofs.Exits.{both-in, saddle-cut, saddle-kept, left-in, none-in}
 use Rattle.contour.proofs.walk.exit_side.Statement.{statement}
 use Rattle.contour.proofs.walk.exit_side.Tie as tie

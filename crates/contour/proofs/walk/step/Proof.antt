@@ -4,10 +4,10 @@ use mathlib.Core.Path.{_≡_, sym, ap, subst, _∙_}
 use native.Mathlib.Omega.{arith}
 use denote.Ref.{now}
 use Rattle.network.specs.Edges.{WithinEdge, numberOf}
-use Rattle.lines.specs.Picture.{Picture, picture}
-use Rattle.lines.specs.Squares.{WithinSquare, sideEdge}
-use Rattle.lines.specs.Crossings.{beyond}
-use Rattle.lines.proofs.Heading.{side-within}
+use Rattle.contour_rules.specs.Picture.{Picture, picture}
+use Rattle.contour_rules.specs.Squares.{WithinSquare, sideEdge}
+use Rattle.contour_rules.specs.Crossings.{beyond}
+use Rattle.contour_rules.proofs.Heading.{side-within}
 use Rattle.contour.specs.Walk.{WithinAhead, stepEdge, stepAhead}
 use Rattle.contour.proofs.walk.step.Statement.{statement}
 use Rattle.contour.proofs.walk.step.Tie as tie

@@ -2,7 +2,7 @@
 use borrow.Author.Needs.{needs}
 use mathlib.Core.Path.{sym}
 use denote.Ref.{now}
-use Rattle.lines.proofs.Waiting.{waits-past}
+use Rattle.contour_rules.proofs.Waiting.{waits-past}
 use Rattle.contour.proofs.walk.still_waits.Statement.{statement}
 use Rattle.contour.proofs.walk.still_waits.Tie as tie
 

@@ -8,9 +8,9 @@ use denote.Ref.{now}
 use lib.ListN.{length}
 use Rattle.network.specs.Edges.{edges}
 use Rattle.network.proofs.Numbers.{edges-le}
-use Rattle.lines.specs.Picture.{picture}
-use Rattle.lines.specs.Contours.{waits, waiting}
-use Rattle.lines.proofs.Waiting.{waits-lt, waiting-set}
+use Rattle.contour_rules.specs.Picture.{picture}
+use Rattle.contour_rules.specs.Contours.{waits, waiting}
+use Rattle.contour_rules.proofs.Waiting.{waits-lt, waiting-set}
 use Rattle.contour.proofs.Tracing.{Going, ahead-within, begins, fits, goes-on, ended}
 use Rattle.contour.proofs.walk.trace.Statement.{statement}
 use Rattle.contour.proofs.walk.trace.Tie as tie

@@ -4,7 +4,7 @@ use Prim.Native.Nat.{_-_}
 use native.Mathlib.Omega.{arith}
 use lib.ListN.{length}
 use borrow.Author.Needs.{needs}
-use Rattle.sheet.proofs.Gathering.{Gathering, gathering-none, gathering-next, gathered}
+use Rattle.contours_steps.proofs.Gathering.{Gathering, gathering-none, gathering-next, gathered}
 use Rattle.contours.proofs.input.gather.Statement.{statement}
 use Rattle.contours.proofs.input.gather.Tie as tie
 use Rattle.contours.proofs.input.gather.Reads as reads

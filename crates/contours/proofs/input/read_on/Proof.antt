@@ -10,7 +10,7 @@ use Rattle.contours.proofs.input.read_on.Tie as tie
 use Rattle.contours.proofs.input.read_on.Reads as reads
 use Rattle.contours.proofs.input.read_on.Lts as lts
 use Rattle.libc.proofs.read.Reads as read-reads
-use Rattle.sheet.proofs.core.intake.next_turn.Reads as next-turn-reads
+use Rattle.contours_steps.proofs.core.intake.next_turn.Reads as next-turn-reads
 
 sub-read : tie.Need-sub-read
 sub-read c = search needs

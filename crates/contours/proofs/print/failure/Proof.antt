@@ -1,5 +1,5 @@
 -- `contours::print::failure`: a read failed. Assumes nothing.
-use Rattle.sheet.proofs.Answers.{answered-failed}
+use Rattle.contours_steps.proofs.Answers.{answered-failed}
 use borrow.Author.Needs.{needs}
 use Rattle.contours.proofs.print.failure.Statement.{statement}
 use Rattle.contours.proofs.print.failure.Tie as tie

@@ -5,10 +5,10 @@ use native.Mathlib.Omega.{arith}
 use denote.Ref.{now}
 use lib.ListN.{length, getD, drop, length-append}
 use borrow.Author.Needs.{needs}
-use Rattle.sheet.specs.Sheet.{levelLine, levelLines, sheetOf}
-use Rattle.sheet.specs.Due.{Due}
-use Rattle.sheet.proofs.Dues.{due-front, due-rest}
-use Rattle.sheet.proofs.Order.{heading-due, lines-due, lines-long, lines-more, lines-none}
+use Rattle.contours_steps.specs.Sheet.{levelLine, levelLines, sheetOf}
+use Rattle.contours_steps.specs.Due.{Due}
+use Rattle.contours_steps.proofs.Dues.{due-front, due-rest}
+use Rattle.contours_steps.proofs.Order.{heading-due, lines-due, lines-long, lines-more, lines-none}
 use Rattle.contours.proofs.print.lines.Statement.{statement}
 use Rattle.contours.proofs.print.lines.Tie as tie
 use Rattle.contours.proofs.print.lines.Reads as reads

@@ -5,10 +5,10 @@ use native.Mathlib.Omega.{arith}
 use denote.Ref.{now}
 use lib.ListN.{getD}
 use Rattle.wkt.specs.Calls.{networkText}
-use Rattle.sheet.specs.Sheet.{lineEnd, lineStart, sheetOf}
-use Rattle.sheet.specs.Due.{Due}
-use Rattle.sheet.proofs.Dues.{due-front, due-rest}
-use Rattle.sheet.proofs.Short.{line-length}
+use Rattle.contours_steps.specs.Sheet.{lineEnd, lineStart, sheetOf}
+use Rattle.contours_steps.specs.Due.{Due}
+use Rattle.contours_steps.proofs.Dues.{due-front, due-rest}
+use Rattle.contours_steps.proofs.Short.{line-length}
 use borrow.Author.Needs.{needs}
 use Rattle.contours.proofs.print.one_level.Statement.{statement}
 use Rattle.contours.proofs.print.one_level.Tie as tie

@@ -1,5 +1,5 @@
 -- `contours::print::overlong`: the bytes fill the room. Assumes nothing.
-use Rattle.sheet.proofs.Answers.{answered-many, answered-line}
+use Rattle.contours_steps.proofs.Answers.{answered-many, answered-line}
 use borrow.Author.Needs.{needs}
 use Rattle.contours.proofs.print.overlong.Statement.{statement}
 use Rattle.contours.proofs.print.overlong.Tie as tie

@@ -11,9 +11,9 @@ use Rattle.wkt.specs.Text.{textOf}
 use Rattle.wkt.specs.Parts.{Reached, leftOf, linesFrom}
 use Rattle.wkt.proofs.Lengths.{piece-short}
 use Rattle.wkt.proofs.Steps.{left-first, left-end, reached-first}
-use Rattle.sheet.specs.Sheet.{sheetOf}
-use Rattle.sheet.specs.Due.{Due}
-use Rattle.sheet.proofs.Dues.{due-front, due-rest}
+use Rattle.contours_steps.specs.Sheet.{sheetOf}
+use Rattle.contours_steps.specs.Due.{Due}
+use Rattle.contours_steps.proofs.Dues.{due-front, due-rest}
 use Rattle.contours.proofs.print.parts.Statement.{statement}
 use Rattle.contours.proofs.print.parts.Tie as tie
 use Rattle.contours.proofs.print.parts.Reads as reads

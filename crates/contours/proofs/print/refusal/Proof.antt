@@ -1,5 +1,5 @@
 -- `contours::print::refusal`: a network that was read to its end is refused, or its words are. Assumes nothing.
-use Rattle.sheet.proofs.Answers.{answered-refusal}
+use Rattle.contours_steps.proofs.Answers.{answered-refusal}
 use borrow.Author.Needs.{needs}
 use Rattle.contours.proofs.print.refusal.Statement.{statement}
 use Rattle.contours.proofs.print.refusal.Tie as tie

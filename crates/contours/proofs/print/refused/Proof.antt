@@ -9,7 +9,7 @@ use Rattle.contours.proofs.print.refused.Tie as tie
 use Rattle.contours.proofs.print.refused.Reads as reads
 use Rattle.contours.proofs.print.refused.Lts as lts
 use Rattle.contours.proofs.print.write.Reads as write-reads
-use Rattle.sheet.proofs.core.put.put_refused.Reads as put-refused-reads
+use Rattle.contours_steps.proofs.core.put.put_refused.Reads as put-refused-reads
 
 slice-aggregate-put-refused : tie.Need-slice-aggregate-put-refused
 slice-aggregate-put-refused c = search needs

@@ -1,5 +1,5 @@
 -- `contours::print::sheet`: what is accepted can be drawn. Assumes nothing.
-use Rattle.sheet.proofs.Drawings.{drawable}
+use Rattle.contours_steps.proofs.Drawings.{drawable}
 use borrow.Author.Needs.{needs}
 use Rattle.contours.proofs.print.sheet.Statement.{statement}
 use Rattle.contours.proofs.print.sheet.Tie as tie

@@ -12,7 +12,7 @@ use Rattle.contours.proofs.print.start.Tie as tie
 use Rattle.contours.proofs.print.start.Reads as reads
 use Rattle.contours.proofs.print.start.Lts as lts
 use Rattle.contours.proofs.print.written.Reads as written-reads
-use Rattle.sheet.proofs.core.put.put_start.Reads as put-start-reads
+use Rattle.contours_steps.proofs.core.put.put_start.Reads as put-start-reads
 
 slice-aggregate-put-start : tie.Need-slice-aggregate-put-start
 slice-aggregate-put-start c = search needs

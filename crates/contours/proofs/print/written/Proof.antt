@@ -1,7 +1,7 @@
 -- `contours::print::written` meets its contract: a machine's word counts the whole sheet. Assumes nothing.
 use native.Mathlib.Omega.{arith}
-use Rattle.sheet.proofs.Dues.{due-within}
-use Rattle.sheet.proofs.Short.{sheet-short}
+use Rattle.contours_steps.proofs.Dues.{due-within}
+use Rattle.contours_steps.proofs.Short.{sheet-short}
 use borrow.Author.Needs.{needs}
 use Rattle.contours.proofs.print.written.Statement.{statement}
 use Rattle.contours.proofs.print.written.Tie as tie

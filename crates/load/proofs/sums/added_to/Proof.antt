@@ -4,8 +4,8 @@ use Prim.Native.Nat.{_+_}
 use native.Mathlib.Nat.{add-zero}
 use native.Mathlib.Omega.{arith}
 use borrow.Author.Tests.{eq-eqb, ne-eqb}
-use Rattle.counted.specs.Factors.{known, unknown}
-use Rattle.counted.specs.Load.{scaledEnergy}
+use Rattle.load_rules.specs.Factors.{known, unknown}
+use Rattle.load_rules.specs.Load.{scaledEnergy}
 use Rattle.load.specs.Steps.{Scalable, addedTo}
 use Rattle.load.proofs.BoundLaws.{scaled-by-le}
 use borrow.Author.Needs.{needs}

@@ -5,8 +5,8 @@ use native.Mathlib.Omega.{arith}
 use borrow.Author.Tests.{ne-eqb}
 use Rattle.level.specs.Limits.{maxEnergy}
 use Rattle.level.proofs.ScaleLaws.{scaled-le}
-use Rattle.counted.specs.Factors.{over, scaledBy}
-use Rattle.counted.proofs.FactorLaws.{never-divided}
+use Rattle.load_rules.specs.Factors.{over, scaledBy}
+use Rattle.load_rules.proofs.FactorLaws.{never-divided}
 use Rattle.load.proofs.sums.scaled_by.Statement.{statement}
 use Rattle.load.proofs.sums.scaled_by.Tie as tie
 

@@ -5,9 +5,9 @@ use Prim.Native.Nat.{_-_, _≤_}
 use native.Mathlib.Omega.{arith}
 use lib.ListN.{length, getD}
 use borrow.Author.Needs.{needs}
-use Rattle.book.specs.Columns.{Book, bookOf}
-use Rattle.counted.specs.Shares.{sharesTo, bookShares}
-use Rattle.counted.specs.Tally.{tally, table, groupAt, withGroup}
+use Rattle.book_rules.specs.Columns.{Book, bookOf}
+use Rattle.load_rules.specs.Shares.{sharesTo, bookShares}
+use Rattle.load_rules.specs.Tally.{tally, table, groupAt, withGroup}
 use Rattle.load.specs.Steps.{Room}
 use Rattle.load.proofs.RowLaws.{Row, row-at, row-next}
 use Rattle.load.proofs.tally.tallied.Statement.{statement}

@@ -5,7 +5,7 @@ use Prim.Native.Nat.{_+_, _≤_}
 use native.Mathlib.Omega.{arith}
 use Rattle.level.specs.Limits.{maxWeighted}
 use Rattle.level.specs.Energy.{energyOf}
-use Rattle.counted.specs.Shares.{energyIn}
+use Rattle.load_rules.specs.Shares.{energyIn}
 use Rattle.load.proofs.RowLaws.{row-unused, row-missing, row-computed, weighted-le, energy-in-small}
 use borrow.Author.Needs.{needs}
 use Rattle.load.proofs.tally.with_row.Statement.{statement}

@@ -2,9 +2,9 @@
 use mathlib.Core.Path.{_≡_, sym, ap, _∙_}
 use native.Mathlib.Omega.{arith}
 use lib.ListN.{length}
-use Rattle.book.specs.Columns.{bookOf}
-use Rattle.counted.specs.declared.Load.{Load}
-use Rattle.counted.specs.Load.{bookLoad}
+use Rattle.book_rules.specs.Columns.{bookOf}
+use Rattle.load_rules.specs.declared.Load.{Load}
+use Rattle.load_rules.specs.Load.{bookLoad}
 use Rattle.mapping.specs.Many.{over}
 use Rattle.okubinrafo.specs.Loads.{loadNumbers}
 use Rattle.okubinrafo.proofs.Answers.{refuse, lack, write}

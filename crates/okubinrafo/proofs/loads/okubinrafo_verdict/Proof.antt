@@ -1,8 +1,8 @@
 -- `okubinrafo::loads::okubinrafo_verdict` meets its contract: a refusal, or a verdict that is written. Assumes nothing.
 use mathlib.Core.Path.{sym, _∙_}
-use Rattle.book.specs.Columns.{bookOf}
-use Rattle.counted.specs.declared.Judged.{Judged}
-use Rattle.counted.specs.Verdict.{bookVerdict}
+use Rattle.book_rules.specs.Columns.{bookOf}
+use Rattle.load_rules.specs.declared.Judged.{Judged}
+use Rattle.load_rules.specs.Verdict.{bookVerdict}
 use Rattle.okubinrafo.proofs.Numbers.{judged-refused, judged-given}
 use borrow.Author.Needs.{needs}
 use Rattle.okubinrafo.proofs.loads.okubinrafo_verdict.Statement.{statement}

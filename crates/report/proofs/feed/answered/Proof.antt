@@ -10,8 +10,8 @@ use mir.Syntax.{w64}
 use mir.Val.{toZ, ofZ}
 use mir.ValLaws.{toZ-ofZ}
 use Rattle.io.specs.Counts.{clamped}
-use Rattle.reporting.specs.Reading.{arrivedOf}
-use Rattle.reporting.proofs.Readings.{arrived-end}
+use Rattle.report_steps.specs.Reading.{arrivedOf}
+use Rattle.report_steps.proofs.Readings.{arrived-end}
 use Rattle.report.proofs.Turns.{came-count, clamped-most, answered-failed, answered-piece, answered-last}
 use borrow.Author.Needs.{needs}
 use Rattle.report.proofs.feed.answered.Statement.{statement}
@@ -21,7 +21,7 @@ use Rattle.report.proofs.feed.answered.Lts as lts
 use Rattle.report.proofs.feed.failed.Reads as failed-reads
 use Rattle.report.proofs.feed.last.Reads as last-reads
 use Rattle.report.proofs.feed.piece.Reads as piece-reads
-use Rattle.reporting.proofs.core.feeding.what_came.Reads as what-came-reads
+use Rattle.report_steps.proofs.core.feeding.what_came.Reads as what-came-reads
 
 inside : (c : tie.Start) → c .args .left ≤ length (c .args .bytes .now)
 inside c = omega (arith, c .pre .1 .0 .short, c .pre .1 .0 .room)

@@ -3,7 +3,7 @@
 use mathlib.Core.Path.{_≡_, refl}
 use lib.ListN.{length}
 use borrow.Author.Needs.{needs}
-use Rattle.book.specs.Columns.{bookOf}
+use Rattle.book_rules.specs.Columns.{bookOf}
 use Rattle.report.proofs.Turns.{Come, come-none, come-next, come-done, come-failed}
 use Rattle.report.proofs.feed.read_register.Statement.{statement}
 use Rattle.report.proofs.feed.read_register.Tie as tie

@@ -6,7 +6,7 @@ use Prim.Native.Nat.{ℕ, _+_, _-_, _*_, _≤_, _<_}
 use native.Mathlib.Omega.{arith}
 use lib.ListN.{length, getD}
 use borrow.Author.Needs.{needs}
-use Rattle.book.specs.Columns.{Book, bookOf}
+use Rattle.book_rules.specs.Columns.{Book, bookOf}
 use Rattle.text.specs.Put.{Wrote}
 use Rattle.report_text.proofs.Points.{Passed, points-none, points-more, points-all}
 use Rattle.report_text.proofs.Levels.{load-level}

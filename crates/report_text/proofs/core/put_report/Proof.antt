@@ -1,5 +1,5 @@
 -- `report_text::core::put_report` meets its contract: the one line of rule 10, or the header and the points. Assumes nothing.
-use Rattle.book.specs.Columns.{Book, bookOf}
+use Rattle.book_rules.specs.Columns.{Book, bookOf}
 use Rattle.report_text.proofs.Points.{report-refused, report-points, refusal-is}
 use borrow.Author.Needs.{needs}
 use Rattle.report_text.proofs.core.put_report.Statement.{statement}

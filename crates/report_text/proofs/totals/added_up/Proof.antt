@@ -6,8 +6,8 @@ use Prim.Native.Nat.{ℕ, suc, _+_, _-_, _*_, _^_, _≤_, _<_}
 use native.Mathlib.Numerals.{add-one}
 use native.Mathlib.Omega.{arith}
 use borrow.Author.Needs.{needs}
-use Rattle.counted.specs.declared.Counts.{Counts}
-use Rattle.counted.specs.Factors.{sumTo}
+use Rattle.load_rules.specs.declared.Counts.{Counts}
+use Rattle.load_rules.specs.Factors.{sumTo}
 use Rattle.report_text.specs.Totals.{countsIn, computedIn, missingIn}
 use Rattle.report_text.proofs.totals.added_up.Statement.{statement}
 use Rattle.report_text.proofs.totals.added_up.Tie as tie

@@ -1,0 +1,52 @@
+-- `book::refusals::enter_refusal` meets its contract: rules 1 and 2 refuse an entry as they refuse its movement. Assumes nothing.
+use mathlib.Core.Path.{_≡_, refl, sym, _∙_}
+use native.Mathlib.Omega.{arith}
+use borrow.Author.Tests.{lt-ltb, le-ltb}
+use borrow.Author.Needs.{needs}
+use Rattle.refusal.proofs.Laws.{passed, failed}
+use Rattle.movement.specs.Rules.{movementRefusal}
+use Rattle.book_rules.specs.Columns.{stands}
+use Rattle.book_rules.proofs.Accepted.{enter-refused, enter-allowed, identity-in}
+use Rattle.book.proofs.refusals.enter_refusal.Statement.{statement}
+use Rattle.book.proofs.refusals.enter_refusal.Tie as tie
+
+-- past the first test rules 1 and 2 refuse nothing
+allowed : (c : tie.Else1) → movementRefusal (c .before .before .before .args .ty) (c .before .before .before .args .kind) (c .before .before .before .args .time) (c .before .before .before .args .mass) ≡ 0
+allowed c = sym (c .before .movement-refusal .ensures) ∙ c .if1 .left
+
+returns : tie.Need-returns
+returns c = let said = c .before .movement-refusal .ensures in said ∙ enter-refused _ _ _ _ _ _ (λ e. c .if1 .taken (said ∙ e))
+
+returns-2 : tie.Need-returns-2
+returns-2 c = sym (enter-allowed _ _ _ _ _ _ (allowed (c .before .before)) ∙ simp (failed (c .before .identity-fits .ensures) (c .if2 .taken)))
+
+stands-at-requires : tie.Need-stands-at-requires
+stands-at-requires c κs = (c .before .before .before .before .before .pre .0, identity-in _ (passed (c .before .identity-fits .ensures) (c .if2 .left)) .0)
+
+returns-3 : tie.Need-returns-3
+returns-3 c = sym (enter-allowed _ _ _ _ _ _ (allowed (c .before .before .before .before)) ∙ simp (passed (c .before .before .before .identity-fits .ensures) (c .before .before .if2 .left), sym (c .before .stands-at .ensures) ∙ c .if3 .taken))
+
+returns-4 : tie.Need-returns-4
+unfolding stands
+returns-4 c =
+    let rows = c .before .before .before .before .before .before .before .before .pre .1 in
+    sym (enter-allowed _ _ _ _ _ _ (allowed (c .before .before .before .before .before)) ∙ simp (passed (c .before .before .before .before .identity-fits .ensures) (c .before .before .before .if2 .left), sym (c .before .before .stands-at .ensures) ∙ c .before .if3 .left, ← rows, lt-ltb _ _ (c .if4 .taken)))
+
+returns-5 : tie.Need-returns-5
+unfolding stands
+returns-5 c =
+    let rows = c .before .before .before .before .before .before .before .before .pre .1 in
+    sym (enter-allowed _ _ _ _ _ _ (allowed (c .before .before .before .before .before)) ∙ simp (passed (c .before .before .before .before .identity-fits .ensures) (c .before .before .before .if2 .left), sym (c .before .before .stands-at .ensures) ∙ c .before .if3 .left, ← rows, le-ltb _ _ (c .if4 .left)))
+
+pub enter-refusal-spec : {M : Type 1} → statement M
+enter-refusal-spec =
+    tie.close
+    (tie.spec
+    (λ c κs. search needs)
+    returns
+    (λ c κs. search needs)
+    returns-2
+    stands-at-requires
+    returns-3
+    returns-4
+    returns-5)

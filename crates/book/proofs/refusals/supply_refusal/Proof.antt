@@ -1,0 +1,38 @@
+-- `book::refusals::supply_refusal` meets its contract. Assumes nothing.
+use borrow.Author.Needs.{needs}
+use Rattle.refusal.proofs.Laws.{passed, failed}
+use Rattle.book_rules.specs.Calls.{supplyRefusal}
+use Rattle.book_rules.proofs.Accepted.{identity-in}
+use Rattle.book.proofs.refusals.supply_refusal.Statement.{statement}
+use Rattle.book.proofs.refusals.supply_refusal.Tie as tie
+
+returns : tie.Need-returns
+unfolding supplyRefusal
+returns c = simp (failed (c .before .identity-fits .ensures) (c .if1 .taken))
+
+returns-2 : tie.Need-returns-2
+unfolding supplyRefusal
+returns-2 c = simp (passed (c .before .before .before .identity-fits .ensures) (c .before .before .if1 .left), failed (c .before .levels-fit .ensures) (c .if2 .taken))
+
+stands-at-requires : tie.Need-stands-at-requires
+stands-at-requires c κs = (c .before .before .before .before .before .before .pre, identity-in _ (passed (c .before .before .before .identity-fits .ensures) (c .before .before .if1 .left)) .0)
+
+returns-3 : tie.Need-returns-3
+unfolding supplyRefusal
+returns-3 c = simp (passed (c .before .before .before .before .before .identity-fits .ensures) (c .before .before .before .before .if1 .left), passed (c .before .before .before .levels-fit .ensures) (c .before .before .if2 .left), failed (c .before .stands-at .ensures) (c .if3 .taken))
+
+returns-4 : tie.Need-returns-4
+unfolding supplyRefusal
+returns-4 c = simp (passed (c .before .before .before .before .before .identity-fits .ensures) (c .before .before .before .before .if1 .left), passed (c .before .before .before .levels-fit .ensures) (c .before .before .if2 .left), passed (c .before .stands-at .ensures) (c .if3 .left))
+
+pub supply-refusal-spec : {M : Type 1} → statement M
+supply-refusal-spec =
+    tie.close
+    (tie.spec
+    (λ c κs. search needs)
+    returns
+    (λ c κs. search needs)
+    returns-2
+    stands-at-requires
+    returns-3
+    returns-4)

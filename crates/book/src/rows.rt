@@ -1,0 +1,53 @@
+// A row goes in or out, in all columns: of each, only the rows that stand after it move.
+use column::core::close_at;
+use column::core::open_at;
+ghost use mathlib.Core.Path.{_≡_};
+ghost use Prim.Native.Nat.{_<_};
+ghost use lib.ListN.{length};
+ghost use Rattle.book_rules.specs.Columns.{bookOf};
+ghost use Rattle.book_rules.specs.Calls.{rowIn, rowOut};
+ghost use Rattle.book_rules.specs.Rows.{RowsTo};
+
+// A row without levels goes in at `at`, and the rows from there on, of the `rows` that stand, move up by one.
+pub(crate) fn row_in(
+    ids: &mut [u32],
+    groups: &mut [u32],
+    marks: &mut [u32],
+    levels: &mut [u32],
+    points: usize,
+    at: usize,
+    rows: usize,
+    identity: u32,
+    group: u32,
+)
+    requires { ⌜ RowsTo points (bookOf (now ids) (now groups) (now marks) (now levels)) at rows ⌝ }
+    requires { ⌜ rows < length (now ids) ⌝ }
+    ensures { λ _. ⌜ bookOf (now (ids .exit)) (now (groups .exit)) (now (marks .exit)) (now (levels .exit)) ≡ rowIn points (bookOf (now (ids .entry)) (now (groups .entry)) (now (marks .entry)) (now (levels .entry))) at identity group ⌝ }
+{
+    let count = rows - at;
+    open_at(ids, at, count, 1, identity);
+    open_at(groups, at, count, 1, group);
+    open_at(marks, at, count, 1, 0);
+    open_at(levels, at * points, count * points, points, 0);
+}
+
+// The row at `at` goes out, and the rows after it, of the `rows` that stand, move down by one.
+pub(crate) fn row_out(
+    ids: &mut [u32],
+    groups: &mut [u32],
+    marks: &mut [u32],
+    levels: &mut [u32],
+    points: usize,
+    at: usize,
+    rows: usize,
+)
+    requires { ⌜ RowsTo points (bookOf (now ids) (now groups) (now marks) (now levels)) at rows ⌝ }
+    requires { ⌜ at < rows ⌝ }
+    ensures { λ _. ⌜ bookOf (now (ids .exit)) (now (groups .exit)) (now (marks .exit)) (now (levels .exit)) ≡ rowOut points (bookOf (now (ids .entry)) (now (groups .entry)) (now (marks .entry)) (now (levels .entry))) at ⌝ }
+{
+    let count = rows - at - 1;
+    close_at(ids, at, count, 1);
+    close_at(groups, at, count, 1);
+    close_at(marks, at, count, 1);
+    close_at(levels, at * points, count * points, points);
+}

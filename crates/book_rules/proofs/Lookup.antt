@@ -1,0 +1,340 @@
+-- What each accepted call does, by look-up. Assumes nothing.
+use mathlib.Core.Path.{_≡_, refl, sym, ap, subst, _∙_}
+use mathlib.Core.Bool.{Bool, true, false, cond, _||_}
+use mathlib.Core.Logic.{⊎-elim}
+use mathlib.Core.List.{List, [], _∷_, _++_}
+use Prim.Native.Nat.{ℕ, zero, suc, _+_, _*_, _≤_, _<_}
+use native.Mathlib.Omega.{arith}
+use lib.ListN.{length, take, drop, getD, replicate}
+use lib.Seq.{take-at, drop-at}
+use lib.Dec.{eqb, leb, ltb}
+use borrow.Author.Tests.{eqb-true, eqb-false, eq-eqb, ne-eqb, lt-ltb, le-ltb, not-true}
+use Rattle.movement.specs.Period.{dayFrom, eveningFrom, nightFrom, periodOf, periodNumber}
+use Rattle.movement.specs.Group.{groupOf}
+use Rattle.movement.proofs.Numbers.{group-of}
+use Rattle.movement.specs.Rules.{identityFits}
+use Rattle.refusal.proofs.Laws.{refuse-none}
+use Rattle.book_rules.specs.Columns.{Book, indexOf, stands, sound}
+use Rattle.book_rules.specs.Calls.{Call, Called, takeBackRefusal, soundRefusal, refusal, changed}
+use Rattle.book_rules.specs.Calls.Call.{enter, supply, takeBack, withdraw}
+use Rattle.book_rules.specs.History.{Held, Movement, movement, added, holding, without, step, markOf, levelsOf, column, identityCell, groupCell, markCell, levelCells, rowsOf}
+use Rattle.book_rules.specs.History.Held.{none, holds}
+use Rattle.book_rules.specs.Reasons.{Full}
+use Rattle.book_rules.specs.Lookup.{Row, foundFrom, found, markFound, groupFound, bare, rowHeld, listed, KeepsOthers, Enters, Supplies, TakesBack, Withdraws, Does}
+use Rattle.book_rules.specs.Lookup.Row.{nowhere, row}
+use Rattle.book_rules.proofs.Blocks.{Place, Found, added-last, added-here, added-there, without-this, without-later, holding-this, holding-later}
+use Rattle.book_rules.proofs.Blocks.Place.{last, here, there}
+use Rattle.book_rules.proofs.Blocks.Found.{this, later}
+use Rattle.book_rules.proofs.Standing.{AllGood, Below, Rising, length-without}
+use Rattle.book_rules.proofs.Accepted.{entered, supplied, taken-back, withdrawn, identity-in, fields-in, accepted-sound, after-accepted}
+use Rattle.book_rules.proofs.Reading.{book-read}
+use Rattle.book_rules.proofs.Steps.{ids, Stepped, stepped, place-at, stood-at, length-ids, first-unused}
+use Rattle.book_rules.proofs.Kept.{read-rows, called-sound}
+use Rattle.book_rules.proofs.SoundBook.{sound-exactly}
+use Rattle.book_rules.proofs.Search.{index-is, stands-index}
+use Rattle.book_rules.proofs.Order.{not-standing, standing-found, mark-found, refusal-order}
+
+-- The rows of a list of movements are found as the list says
+
+pub none-found : (x p n : ℕ) (gs ms ls : List ℕ) → 1 ≤ x → foundFrom x p (replicate n 0) gs ms ls ≡ nowhere
+unfolding foundFrom
+none-found x p zero gs ms ls l = refl
+none-found x p (suc n) gs ms ls l = rw (ne-eqb 0 x (omega arith)) (none-found x p n (drop 1 gs) (drop 1 ms) (drop p ls) l)
+
+row-held : (p g : ℕ) (h : Held) → row g (markOf h) (levelsOf p h) ≡ rowHeld p g h
+unfolding markOf levelsOf rowHeld
+row-held p g none = refl
+row-held p g (holds ls) = refl
+
+found-listed : (x p u : ℕ) (ms : List Movement) → 1 ≤ x → AllGood p ms
+    → foundFrom x p (column identityCell 1 u ms) (column groupCell 1 u ms) (column markCell 1 u ms) (column (levelCells p) p u ms) ≡ listed x p ms
+unfolding column foundFrom listed
+found-listed x p u [] l g = none-found x p (u * 1) _ _ _ l
+found-listed x p u (a ∷ ms) l g =
+    let w = g .0 .filled .wide in
+    rw (
+      take-at (levelsOf p (a .held)) (column (levelCells p) p u ms) p w,
+      drop-at (levelsOf p (a .held)) (column (levelCells p) p u ms) p w,
+      found-listed x p u ms l (g .1),
+      row-held p (a .group) (a .held),
+    )
+
+pub rows-found : (x p u : ℕ) (ms : List Movement) → 1 ≤ x → AllGood p ms → found x p (rowsOf p u ms) ≡ listed x p ms
+unfolding rowsOf
+rows-found x p u ms l g = found-listed x p u ms l g
+
+-- How each change of the list is found
+
+pub listed-none : (x p : ℕ) → listed x p [] ≡ nowhere
+unfolding listed
+listed-none x p = refl
+
+-- the first movement is looked at, then the others
+pub listed-this : (x p : ℕ) (a : Movement) (ms : List Movement) → a .identity ≡ x → listed x p (a ∷ ms) ≡ rowHeld p (a .group) (a .held)
+unfolding listed
+listed-this x p a ms e = rw (eq-eqb (a .identity) x e) refl
+
+pub listed-later : (x p : ℕ) (a : Movement) (ms : List Movement) → (a .identity ≡ x → ⊥) → listed x p (a ∷ ms) ≡ listed x p ms
+unfolding listed
+listed-later x p a ms e = rw (ne-eqb (a .identity) x e) refl
+
+-- what two lists begin with alike changes nothing
+listed-cons : (y p : ℕ) (a : Movement) (ms ns : List Movement) → listed y p ms ≡ listed y p ns → listed y p (a ∷ ms) ≡ listed y p (a ∷ ns)
+unfolding listed
+listed-cons y p a ms ns e = ap (cond (eqb (a .identity) y) (rowHeld p (a .group) (a .held))) e
+
+added-found : (p : ℕ) (m : Movement) {ms : List Movement} {k : ℕ} → Place (m .identity) ms k
+    → listed (m .identity) p (added m ms) ≡ rowHeld p (m .group) (m .held)
+added-found p m last = ap (listed (m .identity) p) (added-last m) ∙ listed-this (m .identity) p m [] refl
+added-found p m (here {a} {ms} h) = ap (listed (m .identity) p) (added-here m a ms h) ∙ listed-this (m .identity) p m (a ∷ ms) refl
+added-found p m (there {a} {ms} h r) =
+    ap (listed (m .identity) p) (added-there m a ms h) ∙ listed-later (m .identity) p a (added m ms) (omega arith) ∙ added-found p m r
+
+added-other : (y p : ℕ) (m : Movement) {ms : List Movement} {k : ℕ} → (m .identity ≡ y → ⊥) → Place (m .identity) ms k
+    → listed y p (added m ms) ≡ listed y p ms
+added-other y p m n last = ap (listed y p) (added-last m) ∙ listed-later y p m [] n
+added-other y p m n (here {a} {ms} h) = ap (listed y p) (added-here m a ms h) ∙ listed-later y p m (a ∷ ms) n
+added-other y p m n (there {a} {ms} h r) = ap (listed y p) (added-there m a ms h) ∙ listed-cons y p a (added m ms) ms (added-other y p m n r)
+
+group-held : (p g : ℕ) (h : Held) → groupFound (rowHeld p g h) ≡ g
+unfolding rowHeld
+group-held p g none = refl
+group-held p g (holds ls) = refl
+
+holding-found : (p : ℕ) (h : Held) {x k : ℕ} {ms : List Movement} → Found x ms k
+    → listed x p (holding x h ms) ≡ rowHeld p (groupFound (listed x p ms)) h
+holding-found p h {x} (this {a} {ms} e) =
+    ap (listed x p) (holding-this x h a ms e)
+    ∙ listed-this x p (movement (a .identity) (a .group) h) ms e
+    ∙ ap (λ g. rowHeld p g h) (sym (ap groupFound (listed-this x p a ms e) ∙ group-held p (a .group) (a .held)))
+holding-found p h {x} (later {a} {ms} e r) =
+    ap (listed x p) (holding-later x h a ms e)
+    ∙ listed-later x p a (holding x h ms) e
+    ∙ holding-found p h r
+    ∙ ap (λ (w : Row). rowHeld p (groupFound w) h) (sym (listed-later x p a ms e))
+
+holding-other : (y p : ℕ) (h : Held) {x k : ℕ} {ms : List Movement} → (y ≡ x → ⊥) → Found x ms k → listed y p (holding x h ms) ≡ listed y p ms
+holding-other y p h {x} n (this {a} {ms} e) =
+    let other : a .identity ≡ y → ⊥ = λ z. n (sym z ∙ e) in
+    ap (listed y p) (holding-this x h a ms e) ∙ listed-later y p (movement (a .identity) (a .group) h) ms other ∙ sym (listed-later y p a ms other)
+holding-other y p h {x} n (later {a} {ms} e r) =
+    ap (listed y p) (holding-later x h a ms e) ∙ listed-cons y p a (holding x h ms) ms (holding-other y p h n r)
+
+-- no identity comes again after a higher one
+pub below-none : (x p : ℕ) (ms : List Movement) → Below x ms → Rising ms → listed x p ms ≡ nowhere
+unfolding listed
+below-none x p [] b r = refl
+below-none x p (a ∷ ms) b r = rw (ne-eqb (a .identity) x (omega arith)) (below-none x p ms (below ms (r .0)) (r .1))
+  where
+    below : (ns : List Movement) → Below (a .identity) ns → Below x ns
+    below [] h = tt
+    below (c ∷ ns) h = omega (arith, b)
+
+without-found : (p : ℕ) {x k : ℕ} {ms : List Movement} → Rising ms → Found x ms k → listed x p (without x ms) ≡ nowhere
+without-found p {x} r (this {a} {ms} e) =
+    ap (listed x p) (without-this x a ms e) ∙ below-none x p ms (subst (λ n. Below n ms) e (r .0)) (r .1)
+without-found p {x} r (later {a} {ms} e f) =
+    ap (listed x p) (without-later x a ms e) ∙ listed-later x p a (without x ms) e ∙ without-found p (r .1) f
+
+without-other : (y p : ℕ) {x k : ℕ} {ms : List Movement} → (y ≡ x → ⊥) → Found x ms k → listed y p (without x ms) ≡ listed y p ms
+without-other y p {x} n (this {a} {ms} e) =
+    ap (listed y p) (without-this x a ms e) ∙ sym (listed-later y p a ms (λ z. n (sym z ∙ e)))
+without-other y p {x} n (later {a} {ms} e r) =
+    ap (listed y p) (without-later x a ms e) ∙ listed-cons y p a (without x ms) ms (without-other y p n r)
+
+-- An accepted call
+
+-- the book before and after it, as the rows of a list of movements and of that list after the call
+record Acted (p : ℕ) (b : Book) (c : Call) (b′ : Book) : Type 0 where
+  unused : ℕ
+  list : List Movement
+  before : b ≡ rowsOf p unused list
+  good : AllGood p list
+  rising : Rising list
+  passed : soundRefusal p (rowsOf p unused list) c ≡ 0
+  step= : Stepped p unused list c
+  after= : b′ ≡ rowsOf p (step= .unused) (step list c)
+  was-sound : sound p b ≡ true
+  is-sound : sound p b′ ≡ true
+
+acted : {p : ℕ} {b b′ : Book} {c : Call} → Called p b c 0 b′ → Acted p b c b′
+acted {p} {b} {b′} {c} k =
+    let z : refusal p b c ≡ 0 = sym (k .answer) in
+    let a = accepted-sound p b c z in
+    let r = book-read p b (a .0) in
+    let e = read-rows r in
+    let y = subst (λ (v : Book). soundRefusal p v c ≡ 0) e (a .1) in
+    let w = stepped p (r .unused) (r .list) c (r .good) (r .rising) y in
+    record {
+      unused = r .unused;
+      list = r .list;
+      before = e;
+      good = r .good;
+      rising = r .rising;
+      passed = y;
+      step= = w;
+      after= = k .book ∙ after-accepted p b c z ∙ ap (λ (v : Book). changed p v c) e ∙ w .rows;
+      was-sound = a .0;
+      is-sound = called-sound (a .0) k;
+    }
+
+module _ {p : ℕ} {b b′ : Book} {c : Call} (a : Acted p b c b′) where
+  found-before : (y : ℕ) → 1 ≤ y → found y p b ≡ listed y p (a .list)
+  found-before y l = ap (found y p) (a .before) ∙ rows-found y p (a .unused) (a .list) l (a .good)
+
+  found-after : (y : ℕ) → 1 ≤ y → found y p b′ ≡ listed y p (step (a .list) c)
+  found-after y l = ap (found y p) (a .after=) ∙ rows-found y p (a .step= .unused) (step (a .list) c) l (a .step= .good)
+
+  same-rows : length (b′ .identities) ≡ length (b .identities)
+  unfolding rowsOf
+  same-rows =
+      ap (λ (v : Book). length (v .identities)) (a .after=)
+      ∙ length-ids (a .step= .unused) (step (a .list) c)
+      ∙ a .step= .same
+      ∙ sym (ap (λ (v : Book). length (v .identities)) (a .before) ∙ length-ids (a .unused) (a .list))
+
+  keeps-others : (x : ℕ) → ((y : ℕ) → (y ≡ x → ⊥) → listed y p (step (a .list) c) ≡ listed y p (a .list)) → KeepsOthers p x b b′
+  keeps-others x h =
+      record {
+        sound= = a .is-sound;
+        rows = same-rows;
+        others = λ y l n. found-after y l ∙ h y n ∙ sym (found-before y l);
+      }
+
+-- the period of a second, by the edges of the day
+day-is : (s : ℕ) → 25200 ≤ s → s < 68400 → periodNumber (periodOf s) ≡ 0
+day-is s h k = rw (le-ltb s dayFrom h, lt-ltb s eveningFrom k) refl
+
+evening-is : (s : ℕ) → 68400 ≤ s → s < 82800 → periodNumber (periodOf s) ≡ 1
+evening-is s h k = rw (le-ltb s dayFrom (omega arith), le-ltb s eveningFrom h, lt-ltb s nightFrom k) refl
+
+late-is : (s : ℕ) → 82800 ≤ s → periodNumber (periodOf s) ≡ 2
+late-is s h = rw (le-ltb s dayFrom (omega arith), le-ltb s eveningFrom (omega arith), le-ltb s nightFrom h) refl
+
+early-is : (s : ℕ) → s < 25200 → periodNumber (periodOf s) ≡ 2
+early-is s h = rw (lt-ltb s dayFrom h) refl
+
+enter-does : {p x t k s m : ℕ} {b b′ : Book} → Called p b (enter x t k s m) 0 b′ → Enters p x t k s b b′
+unfolding soundRefusal rowsOf step rowHeld
+enter-does {p} {x} {t} {k} {s} {m} {b} {b′} q =
+    let a = acted q in
+    let e = entered (ids (a .unused) (a .list)) x t k s m (a .passed) in
+    let low = identity-in x (e .identity=) .0 in
+    let f = fields-in t k s m (e .fields) in
+    let v = movement x (groupOf t k s) none in
+    let at = place-at p x (a .unused) (a .list) (a .good) in
+    let new = subst (λ (w : Book). stands x (w .identities) ≡ false) (sym (a .before)) (not-true _ (e .new)) in
+    let stored : (n : ℕ) → periodNumber (periodOf s) ≡ n → found x p b′ ≡ bare p (6 * t + 3 * k + n) =
+    λ n z. found-after a x low ∙ added-found p v at ∙ ap (bare p) (group-of t k s (f .0) (f .1) ∙ ap (λ i. 6 * t + 3 * k + i) z) in
+    record {
+      kept = keeps-others a x (λ y n. added-other y p v (λ z. n (sym z)) at);
+      new = not-standing x p b new;
+      day = λ h l. stored 0 (day-is s h l);
+      evening = λ h l. stored 1 (evening-is s h l);
+      late = λ h. stored 2 (late-is s h);
+      early = λ h. stored 2 (early-is s h);
+    }
+
+-- the list after *supply* and *take back*: the identity x holds h
+module _ {p : ℕ} {b b′ : Book} {c : Call} (a : Acted p b c b′) (x : ℕ) (i : identityFits x ≡ true)
+    (e : stands x (ids (a .unused) (a .list)) ≡ true) where
+  low : 1 ≤ x
+  low = identity-in x i .0
+
+  at-row : Found x (a .list) (indexOf x (ids (a .unused) (a .list)))
+  at-row = stood-at p (a .unused) x (a .list) i e
+
+  stood-before : found x p b ≡ nowhere → ⊥
+  unfolding rowsOf
+  stood-before = standing-found x p b (subst (λ (w : Book). stands x (w .identities) ≡ true) (sym (a .before)) e)
+
+  held-after : (h : Held) → step (a .list) c ≡ holding x h (a .list) → found x p b′ ≡ rowHeld p (groupFound (found x p b)) h
+  held-after h s =
+      found-after a x low
+      ∙ ap (listed x p) s
+      ∙ holding-found p h at-row
+      ∙ ap (λ (w : Row). rowHeld p (groupFound w) h) (sym (found-before a x low))
+
+  held-others : (h : Held) → step (a .list) c ≡ holding x h (a .list) → KeepsOthers p x b b′
+  held-others h s = keeps-others a x (λ y n. ap (listed y p) s ∙ holding-other y p h n at-row)
+
+  gone-after : step (a .list) c ≡ without x (a .list) → found x p b′ ≡ nowhere
+  gone-after s = found-after a x low ∙ ap (listed x p) s ∙ without-found p (a .rising) at-row
+
+  gone-others : step (a .list) c ≡ without x (a .list) → KeepsOthers p x b b′
+  gone-others s = keeps-others a x (λ y n. ap (listed y p) s ∙ without-other y p n at-row)
+
+  -- a row is free again
+  room-after : step (a .list) c ≡ without x (a .list) → Full b′ → ⊥
+  unfolding rowsOf
+  room-after s full =
+      let ms = step (a .list) c in
+      let u = a .step= .unused in
+      let fewer = ap (λ (l : List Movement). suc (length l)) s ∙ length-without at-row in
+      let first = first-unused p u ms (a .step= .good) in
+      let h : indexOf 0 (ids u ms) < length (ids u ms) = omega (arith, a .step= .same, length-ids u ms) in
+      let f = subst Full (a .after=) full in
+      omega (arith, f (indexOf 0 (ids u ms)) h, index-is 0 (ids u ms) h)
+
+supply-does : {p x : ℕ} {ls : List ℕ} {b b′ : Book} → Called p b (supply x ls) 0 b′ → Supplies p x ls b b′
+unfolding soundRefusal rowsOf step rowHeld
+supply-does {p} {x} {ls} {b} {b′} q =
+    let a = acted q in
+    let w = supplied p (ids (a .unused) (a .list)) x ls (a .passed) in
+    let i = w .0 .identity= in
+    let e = w .0 .stands= in
+    record {
+      kept = held-others a x i e (holds ls) refl;
+      stood = stood-before a x i e;
+      found= = held-after a x i e (holds ls) refl;
+    }
+
+-- a take back finds the mark
+taken-mark : (ids ms : List ℕ) (x : ℕ) → takeBackRefusal ids ms x ≡ 0 → getD ms (indexOf x ids) 0 ≡ 1
+unfolding takeBackRefusal
+taken-mark ids ms x e =
+    let r₃ = refuse-none 3 (identityFits x) _ (omega arith) e in
+    let r₅ = refuse-none 5 (stands x ids) _ (omega arith) (r₃ .1) in
+    let r₈ = refuse-none 8 (eqb (getD ms (indexOf x ids) 0) 1) _ (omega arith) (r₅ .1) in
+    eqb-true (getD ms (indexOf x ids) 0) 1 (r₈ .0)
+
+take-back-does : {p x : ℕ} {b b′ : Book} → Called p b (takeBack x) 0 b′ → TakesBack p x b b′
+unfolding soundRefusal rowsOf step rowHeld
+take-back-does {p} {x} {b} {b′} q =
+    let a = acted q in
+    let y = accepted-sound p b (takeBack x) (sym (q .answer)) .1 in
+    let w = taken-back (ids (a .unused) (a .list)) (column markCell 1 (a .unused) (a .list)) x (a .passed) in
+    let i = w .identity= in
+    let e = w .stands= in
+    let there = stands-index x (b .identities) (taken-back (b .identities) (b .marks) x y .stands=) in
+    record {
+      kept = held-others a x i e none refl;
+      held = sym (mark-found x p (b .identities) (b .groups) (b .marks) (b .levels) there) ∙ taken-mark (b .identities) (b .marks) x y;
+      found= = held-after a x i e none refl;
+    }
+
+withdraw-does : {p x : ℕ} {b b′ : Book} → Called p b (withdraw x) 0 b′ → Withdraws p x b b′
+unfolding soundRefusal rowsOf step
+withdraw-does {p} {x} {b} {b′} q =
+    let a = acted q in
+    let w = withdrawn (ids (a .unused) (a .list)) x (a .passed) in
+    let i = w .identity= in
+    let e = w .stands= in
+    let range = identity-in x i in
+    let gone = gone-after a x i e refl in
+    record {
+      kept = gone-others a x i e refl;
+      stood = stood-before a x i e;
+      gone = gone;
+      free = λ t k s m f h.
+          let book = refusal-order p b′ (enter x t k s m) .otherwise (λ n. n (sound-exactly p b′ .only (a .is-sound))) in
+          let fields = book .otherwise (λ n. n f) .otherwise (λ l. omega arith) in
+          let new = fields .otherwise (⊎-elim (λ z. omega arith) (λ z. omega arith)) .otherwise (λ n. n gone) in
+          new .otherwise (room-after a x i e refl);
+    }
+
+pub call-does : {p : ℕ} {b b′ : Book} (c : Call) → Called p b c 0 b′ → Does p c b b′
+call-does (enter x t k s m) q = enter-does q
+call-does (supply x ls) q = supply-does q
+call-does (takeBack x) q = take-back-does q
+call-does (withdraw x) q = withdraw-does q

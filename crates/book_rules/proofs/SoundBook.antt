@@ -1,0 +1,208 @@
+-- The test of soundness passes exactly the books that are sound in the rules' words. Assumes nothing.
+use mathlib.Core.Path.{_≡_, refl, sym, ap, subst, _∙_}
+use mathlib.Core.Bool.{Bool, true, false, cond, _&&_, _||_, true≢false}
+use mathlib.Core.Logic.{inl, inr}
+use mathlib.Core.List.{List, [], _∷_}
+use Prim.Native.Nat.{ℕ, zero, suc, _+_, _*_, _≤_, _<_}
+use native.Mathlib.Nat.{zero-mul, suc-mul, le-of-suc-le-suc, not-suc-le-zero}
+use native.Mathlib.Omega.{arith}
+use lib.ListN.{length, take, drop, getD, length-drop}
+use lib.Seq.{getD-take, getD-drop, drop-drop, length-take-le}
+use lib.Dec.{eqb, leb, ltb}
+use borrow.Author.Tests.{ltb-true, eqb-true, eqb-false, le-leb, lt-ltb, eq-eqb, ne-eqb}
+use Rattle.refusal.specs.Range.{allWithin}
+use Rattle.refusal.proofs.Laws.{and-left, and-right}
+use Rattle.refusal.proofs.Ranges.{within-at}
+use Rattle.movement.specs.Limits.{maxRows, maxPoints, maxIdentity, maxLevel, groupCount}
+use Rattle.book_rules.specs.Columns.{Book, shapeFits, shaped, follows, followed, rising, headSound, topLevel, rowSound, rowsSound, sound}
+use Rattle.book_rules.specs.Calls.{Call, refusal}
+use Rattle.book_rules.specs.SoundBook.{SoundRow, Later, SoundBook, SoundExactly, SizesRefused}
+use Rattle.book_rules.proofs.Scans.{room}
+use Rattle.book_rules.proofs.Shapes.{sound-fits, sound-rises, sound-rows}
+use Rattle.book_rules.proofs.RowFacts.{row-at, row-facts}
+
+-- Rising identities, by pairs of rows
+
+follows-later : (x y : ℕ) → follows x y ≡ true → Later x y
+unfolding follows
+follows-later x y e = by (eqb y 0) refl e
+  where
+    by : (t : Bool) → eqb y 0 ≡ t → (t || (ltb 0 x && ltb x y)) ≡ true → Later x y
+    by true z e = inl (eqb-true y 0 z)
+    by false z e = inr (ltb-true 0 x (and-left (ltb 0 x) _ e), ltb-true x y (and-right (ltb 0 x) _ e))
+
+later-follows : (x y : ℕ) → Later x y → follows x y ≡ true
+unfolding follows
+later-follows x y (inl e) = rw (eq-eqb y 0 e) refl
+later-follows x y (inr l) = rw (ne-eqb y 0 (omega (arith, l .0, l .1)), lt-ltb 0 x (l .0), lt-ltb x y (l .1)) refl
+
+later-on : (x y z : ℕ) → Later x y → Later y z → Later x z
+later-on x y z l (inl e) = inl e
+later-on x y z (inl e) (inr m) = absurd (omega (arith, m .0))
+later-on x y z (inr l) (inr m) = inr (l .0, omega (arith, l .1, m .1))
+
+first-later : (x : ℕ) (xs : List ℕ) (j : ℕ) → rising (x ∷ xs) ≡ true → j < length xs → Later x (getD xs j 0)
+unfolding rising followed
+first-later x [] j r h = absurd (not-suc-le-zero h)
+first-later x (y ∷ ys) zero r h = follows-later x y (and-left (follows x y) _ r)
+first-later x (y ∷ ys) (suc j) r h =
+    later-on x y (getD ys j 0) (follows-later x y (and-left (follows x y) _ r))
+    (first-later y ys j (and-right (follows x y) (rising (y ∷ ys)) r) (le-of-suc-le-suc h))
+
+rise-pairs : (xs : List ℕ) (i j : ℕ) → rising xs ≡ true → i < j → j < length xs → Later (getD xs i 0) (getD xs j 0)
+unfolding rising
+rise-pairs [] i j r l h = absurd (not-suc-le-zero h)
+rise-pairs (x ∷ xs) i zero r l h = absurd (not-suc-le-zero l)
+rise-pairs (x ∷ xs) zero (suc j) r l h = first-later x xs j r (le-of-suc-le-suc h)
+rise-pairs (x ∷ xs) (suc i) (suc j) r l h = rise-pairs xs i j (and-right (followed x xs) (rising xs) r) (le-of-suc-le-suc l) (le-of-suc-le-suc h)
+
+pairs-rise : (xs : List ℕ) → ((i j : ℕ) → i < j → j < length xs → Later (getD xs i 0) (getD xs j 0)) → rising xs ≡ true
+unfolding rising followed
+pairs-rise [] h = refl
+pairs-rise (x ∷ []) h = refl
+pairs-rise (x ∷ (y ∷ ys)) h =
+    rw (later-follows x y (h 0 1 (omega arith) (omega arith)))
+    (pairs-rise (y ∷ ys) (λ i j l k. h (suc i) (suc j) (omega arith) (omega arith)))
+
+-- One row
+
+pub all-within : (top : ℕ) (ls : List ℕ) → ((j : ℕ) → j < length ls → getD ls j 0 ≤ top) → allWithin top ls ≡ true
+unfolding allWithin
+all-within top [] h = refl
+all-within top (l ∷ ls) h = rw (le-leb l top (h 0 (omega arith))) (all-within top ls (λ j k. h (suc j) (omega arith)))
+
+zero-head : (x g m : ℕ) → headSound x g m ≡ true → x ≡ 0 → (g ≡ 0) × (m ≡ 0)
+unfolding headSound
+zero-head x g m e z =
+    let f : (eqb g 0 && eqb m 0) ≡ true = rw (eq-eqb x 0 z) at e in
+    (eqb-true g 0 (and-left (eqb g 0) _ f), eqb-true m 0 (and-right (eqb g 0) _ f))
+
+head-of : (x g m : ℕ) → x ≤ 99999 → g < 18 → m ≤ 1 → (x ≡ 0 → (g ≡ 0) × (m ≡ 0)) → headSound x g m ≡ true
+unfolding headSound
+head-of x g m a b c u = by (eqb x 0) refl
+  where
+    by : (t : Bool) → eqb x 0 ≡ t → cond t (eqb g 0 && eqb m 0) (leb x maxIdentity && (ltb g groupCount && leb m 1)) ≡ true
+    by true z = let n = u (eqb-true x 0 z) in rw (eq-eqb g 0 (n .0), eq-eqb m 0 (n .1)) refl
+    by false z = rw (le-leb x maxIdentity a, lt-ltb g groupCount b, le-leb m 1 c) refl
+
+-- a level of the row is one of the column
+level-at : (p i : ℕ) (ls : List ℕ) (j : ℕ) → j < p → getD (take p (drop (i * p) ls)) j 0 ≡ getD ls (i * p + j) 0
+level-at p i ls j h = getD-take p (drop (i * p) ls) j 0 h ∙ getD-drop (i * p) ls j 0
+
+bare-level : (m : ℕ) (ls : List ℕ) (j : ℕ) {l : ℕ} → allWithin (topLevel m) ls ≡ true → m ≡ 0 → getD ls j 0 ≡ l → l ≡ 0
+unfolding topLevel
+bare-level m ls j {l} w z e = let k : allWithin 0 ls ≡ true = rw (eq-eqb m 0 z) at w in omega (arith, within-at 0 ls j k)
+
+row-words : (p : ℕ) (b : Book) (i : ℕ) → sound p b ≡ true → i < length (b .identities) → SoundRow p b i
+unfolding rowSound
+row-words p b i e h =
+    let f = sound-fits p b e in
+    let x = getD (b .identities) i 0 in
+    let g = getD (b .groups) i 0 in
+    let m = getD (b .marks) i 0 in
+    let part = take p (drop (i * p) (b .levels)) in
+    let s = row-at p (b .identities) (b .groups) (b .marks) (b .levels) i (sound-rows p b e) (f .groups=) (f .marks=) h in
+    let r = row-facts p b i e h in
+    record {
+      identity = r .identity≤;
+      group = r .group<;
+      mark = r .mark≤;
+      level = r .level≤;
+      bare = λ z j k. bare-level m part j (and-right (headSound x g m) _ s) z (level-at p i (b .levels) j k);
+      unused = zero-head x g m (and-left (headSound x g m) _ s);
+    }
+
+level-top : (m l v : ℕ) → l ≡ v → v ≤ 12000 → (m ≡ 0 → v ≡ 0) → l ≤ topLevel m
+unfolding topLevel
+level-top m l v e h z = by (eqb m 0) refl
+  where
+    by : (t : Bool) → eqb m 0 ≡ t → l ≤ cond t 0 maxLevel
+    by true k = omega (arith, z (eqb-true m 0 k))
+    by false k = omega arith
+
+row-passes : (p : ℕ) (b : Book) (i : ℕ) → SoundBook p b → i < length (b .identities)
+    → rowSound (getD (b .identities) i 0) (getD (b .groups) i 0) (getD (b .marks) i 0) (take p (drop (i * p) (b .levels))) ≡ true
+unfolding rowSound
+row-passes p b i s h =
+    let r = s .row i h in
+    let x = getD (b .identities) i 0 in
+    let g = getD (b .groups) i 0 in
+    let m = getD (b .marks) i 0 in
+    let part = take p (drop (i * p) (b .levels)) in
+    let wide : length part ≡ p = length-take-le p (drop (i * p) (b .levels)) (omega (arith, length-drop (i * p) (b .levels), room p i (i * p) (length (b .identities)) (length (b .levels)) refl h (s .levels))) in
+    let top : (j : ℕ) → j < length part → getD part j 0 ≤ topLevel m =
+    λ j k. level-top m _ _ (level-at p i (b .levels) j (omega arith)) (r .level j (omega arith)) (λ z. r .bare z j (omega arith)) in
+    rw (head-of x g m (r .identity) (r .group) (r .mark) (r .unused)) (all-within (topLevel m) part top)
+
+-- All rows
+
+rows-pass : (p : ℕ) (xs gs ms ls : List ℕ) → length gs ≡ length xs → length ms ≡ length xs
+    → ((i : ℕ) → i < length xs → rowSound (getD xs i 0) (getD gs i 0) (getD ms i 0) (take p (drop (i * p) ls)) ≡ true)
+    → rowsSound p xs gs ms ls ≡ true
+unfolding rowsSound
+rows-pass p [] gs ms ls hg hm h = refl
+rows-pass p (x ∷ xs) [] ms ls hg hm h = refl
+rows-pass p (x ∷ xs) (g ∷ gs) [] ls hg hm h = refl
+rows-pass p (x ∷ xs) (g ∷ gs) (m ∷ ms) ls hg hm h =
+    let first : rowSound x g m (take p ls) ≡ true = subst (λ n. rowSound x g m (take p (drop n ls)) ≡ true) (zero-mul p) (h 0 (omega arith)) in
+    rw first (rows-pass p xs gs ms (drop p ls) (omega arith) (omega arith) rest)
+  where
+    rest : (i : ℕ) → i < length xs → rowSound (getD xs i 0) (getD gs i 0) (getD ms i 0) (take p (drop (i * p) (drop p ls))) ≡ true
+    rest i k =
+        let q : suc i * p ≡ p + i * p = omega (arith, suc-mul i p) in
+        let row = h (suc i) (omega arith) in
+        rw (drop-drop (i * p) p ls, ← q) row
+
+shape-passes : (p : ℕ) (b : Book) → SoundBook p b → shaped p b ≡ true
+unfolding shaped shapeFits
+shape-passes p b s =
+    let n = length (b .identities) in
+    rw (
+      le-leb 1 p (s .points .0),
+      le-leb p maxPoints (s .points .1),
+      le-leb 1 n (s .rows .0),
+      le-leb n maxRows (s .rows .1),
+      eq-eqb (length (b .groups)) n (s .groups),
+      eq-eqb (length (b .marks)) n (s .marks),
+      eq-eqb (length (b .levels)) (n * p) (s .levels),
+    )
+
+-- The theorem
+
+pub sound-exactly : (p : ℕ) (b : Book) → SoundExactly p b
+unfolding sound
+sound-exactly p b =
+    record {
+      passes = λ s.
+          rw (shape-passes p b s, pairs-rise (b .identities) (s .rising))
+          (rows-pass p (b .identities) (b .groups) (b .marks) (b .levels) (s .groups) (s .marks) (λ i h. row-passes p b i s h));
+      only = λ e.
+          let f = sound-fits p b e in
+          record {
+            points = (f .some, f .points);
+            rows = (f .rows≥, f .rows≤);
+            groups = f .groups=;
+            marks = f .marks=;
+            levels = f .levels=;
+            rising = λ i j l h. rise-pairs (b .identities) i j (sound-rises p b e) l h;
+            row = λ i h. row-words p b i e h;
+          };
+    }
+
+-- a book that is not sound refuses every call
+pub not-sound : (p : ℕ) (b : Book) (c : Call) → (SoundBook p b → ⊥) → refusal p b c ≡ 9
+unfolding refusal
+not-sound p b c h = by (sound p b) refl
+  where
+    by : (t : Bool) → sound p b ≡ t → refusal p b c ≡ 9
+    by true e = absurd (h (sound-exactly p b .only e))
+    by false e = rw e refl
+
+pub sizes-refused : (p : ℕ) (b : Book) (c : Call) → SizesRefused p b c
+sizes-refused p b c =
+    record {
+      no-points = λ e. not-sound p b c (λ s. omega (arith, s .points .0));
+      many-points = λ e. not-sound p b c (λ s. omega (arith, s .points .1));
+      no-rows = λ e. not-sound p b c (λ s. omega (arith, s .rows .0));
+      many-rows = λ e. not-sound p b c (λ s. omega (arith, s .rows .1));
+    }

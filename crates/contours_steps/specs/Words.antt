@@ -1,0 +1,57 @@
+-- The arguments of the program contours: one contour level or more, each as the rules write a level.
+-- Assumes nothing.
+use Prim.Native.Nat.{ℕ, _-_, _≤_, _<_}
+use mathlib.Core.Path.{_≡_}
+use mathlib.Core.Bool.{Bool, true, _&&_}
+use mathlib.Core.List.{List, map}
+use lib.ListN.{length, set, take}
+use lib.Dec.{leb}
+use Rattle.refusal.specs.Refuse.{refuse}
+use Rattle.text.specs.Number.{levelOf, isGot, valueOf}
+use Rattle.network.specs.Limits.{leastContour, mostContour}
+use Rattle.network.specs.Refusals.{between}
+use Rattle.grid.specs.Row.{all}
+use Rattle.contours_steps.specs.declared.words.Given.{Given}
+
+-- the level that a word spells, and whether it is a contour's: from 0.01 to 150.00
+abbrev pub wordLevel : List ℕ → ℕ
+wordLevel w = valueOf (levelOf w)
+
+unfoldable pub isContour : List ℕ → Bool
+isContour w = isGot (levelOf w) && between leastContour (wordLevel w) mostContour
+
+-- the program has room for as many levels as there are
+abbrev pub mostLevels : ℕ
+mostLevels = mostContour
+
+-- 15 where there is no level, or a word is none; 14 for more words than there are levels
+unfoldable pub wordsRefusal : List (List ℕ) → ℕ
+wordsRefusal words =
+    refuse 15 (leb 1 (length words) && all isContour words) (refuse 14 (leb (length words) mostLevels) 0)
+
+unfoldable pub givenRefusal : Given → ℕ
+givenRefusal g = refuse 15 (leb 1 (g .count) && g .fit) (refuse 14 (leb (g .count) mostLevels) 0)
+
+-- the levels in the order of the words
+abbrev pub levelsIn : List (List ℕ) → List ℕ
+levelsIn words = map wordLevel words
+
+-- What the steps promise
+
+-- one word more: its level stands at its place, where there is room
+pub record WordTaken (asked : List ℕ) (place : ℕ) (word : List ℕ) (r : Bool) (asked′ : List ℕ) : Type 0 where
+  pub fit : r ≡ isContour word
+  pub stored : r ≡ true → place < length asked → asked′ ≡ set asked place (wordLevel word)
+  pub long : length asked′ ≡ length asked
+
+-- all words: as an argument is handed over, one that is longer than any level as an empty one
+pub record Gathered (g : Given) (asked : List ℕ) : Type 0 where
+  pub words : List (List ℕ)
+  pub count : g .count ≡ length words
+  pub fit : g .fit ≡ all isContour words
+  pub stored : g .fit ≡ true → length words ≤ length asked → take (length words) asked ≡ levelsIn words
+
+-- argument number i, counted from 1: `word` is what was handed over
+pub record ArgumentTaken (asked : List ℕ) (i : ℕ) (r : Bool) (asked′ : List ℕ) : Type 0 where
+  pub word : List ℕ
+  pub taken : WordTaken asked (i - 1) word r asked′

@@ -1,0 +1,40 @@
+// What stands around the texts of contours, put into a lent buffer that has room. A writer writes from a place on and
+// answers the place past its text.
+use text::core::put_byte;
+use text::core::put_level;
+use text::core::put_text;
+ghost use Prim.Native.Nat.{_+_, _≤_, _<_};
+ghost use lib.ListN.{length};
+ghost use Rattle.text.specs.Put.{Wrote};
+ghost use Rattle.contours_steps.specs.Sheet.{lineStart, showCount, refusedLine};
+
+// A level and its semicolon.
+pub fn put_start(out: &mut [u8], v: u32) -> usize
+    requires { ⌜ (v < 100000) × (7 ≤ length (now out)) ⌝ }
+    ensures { λ r. ⌜ Wrote (now (out .entry)) 0 (lineStart v) (now (out .exit)) r ⌝ }
+{
+    let next = put_level(out, 0, v);
+    put_byte(out, next, 59)
+}
+
+// A count.
+fn put_count(out: &mut [u8], at: usize, n: u64) -> usize
+    requires { ⌜ at + 20 ≤ length (now out) ⌝ }
+    ensures { λ r. ⌜ Wrote (now (out .entry)) at (showCount n) (now (out .exit)) r ⌝ }
+{
+    let mut digits = [0u8; 20];
+    let k = io::decimal(n, &mut digits);
+    put_text(out, at, &digits[..k])
+}
+
+// The line of a refusal.
+pub fn put_refused(out: &mut [u8], number: u32, line: u64) -> usize
+    requires { ⌜ 51 ≤ length (now out) ⌝ }
+    ensures { λ r. ⌜ Wrote (now (out .entry)) 0 (refusedLine number line) (now (out .exit)) r ⌝ }
+{
+    let word = put_text(out, 0, b"refused,");
+    let first = put_count(out, word, number as u64);
+    let comma = put_byte(out, first, 44);
+    let second = put_count(out, comma, line);
+    put_text(out, second, b"\r\n")
+}

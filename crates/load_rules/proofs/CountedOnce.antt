@@ -1,0 +1,229 @@
+-- Demand 3: after any calls on an empty book, refused ones included, the load at each point is the one worked afresh from the list of movements,
+-- and where one is computed it is answered and counts every movement once.
+-- Assumes nothing.
+use mathlib.Core.Path.{_≡_, refl, sym, ap, subst, _∙_}
+use mathlib.Core.Bool.{Bool, true, false, cond, not, _&&_}
+use mathlib.Core.List.{List, [], _∷_}
+use Prim.Native.Nat.{ℕ, zero, suc, _+_, _*_, _^_, _≤_, _<_}
+use mathlib.Core.Logic.{_↔_}
+use native.Mathlib.Nat.{zero-div}
+use native.Mathlib.Omega.{arith}
+use lib.ListN.{length, getD, replicate}
+use lib.Dec.{eqb, ltb, lit<}
+use borrow.Author.Tests.{eqb-true, eqb-false, ltb-true, lt-ltb}
+use Rattle.level.specs.Energy.{meanOf}
+use Rattle.level.specs.Level.{levelOf}
+use Rattle.level.proofs.Promises.{below-zero}
+use Rattle.movement.specs.Limits.{groupCount}
+use Rattle.refusal.specs.Refuse.{refuse}
+use Rattle.book_rules.specs.Columns.{Book, sound}
+use Rattle.book_rules.specs.History.{Movement, sizesFit, emptyBook, Made, booked, movements}
+use Rattle.book_rules.proofs.Standing.{AllGood}
+use Rattle.book_rules.proofs.History.{told-all, history-sound}
+use Rattle.load_rules.specs.declared.Group.{Group}
+use Rattle.load_rules.specs.declared.Counts.{Counts}
+use Rattle.load_rules.specs.declared.Load.{Load}
+use Rattle.load_rules.specs.declared.Judged.{Judged}
+use Rattle.load_rules.specs.Shares.{Share, anyComputed, sharesOf, bookShares}
+use Rattle.load_rules.specs.Tally.{sumOf, tally, listFrom}
+use Rattle.load_rules.specs.Factors.{sumTo, scaledBy, known, unknown, knownSum, unknownSum, groupFactor, generalFactor}
+use Rattle.load_rules.specs.Load.{countsOf, scaledEnergy, scaledSum, totalOf, daysFit, noneComputed, loadRefusal, answer, refusedLoad, loadOf, bookLoad}
+use Rattle.load_rules.specs.Verdict.{verdictRefusal, refusalNumber, judged, judgedOf, bookVerdict}
+use Rattle.load_rules.specs.Refusals.{InRange, DaysInRange, LimitInRange, NoneComputed, LoadNumbers, VerdictNumbers}
+use Rattle.load_rules.specs.Afresh.{listLoad, listVerdict, someComputed, computedIn, missingIn, energyOfGroup, countsAt, TotalHolds, CountsEach, Alone, EachCountedOnce}
+use Rattle.load_rules.proofs.SumLaws.{sum-ext}
+use Rattle.load_rules.proofs.FactorLaws.{never-divided, known-same, general-same, weights-all}
+use Rattle.load_rules.proofs.TallyLaws.{counts, AllGrouped, counted-all, all-standing, some-known}
+use Rattle.load_rules.proofs.ListLaws.{shares-count, shares-computed, list-computed, list-missing, list-energy}
+use Rattle.load_rules.proofs.HistoryLaws.{history-shares, history-grouped}
+use Rattle.load_rules.proofs.Determined.{over-exactly-when}
+use Rattle.load_rules.proofs.RefusalLaws.{range-exactly, days-exactly, limit-exactly, ten-exactly, load-numbers, verdict-numbers}
+use Rattle.load_rules.proofs.Formulas.{formulas}
+use Rattle.load_rules.proofs.TotalBound.{energy-small, total-small, mean-small}
+
+-- The counts of an answer
+
+from-at : {A : Type 0} (f : ℕ → A) (d : A) (i n g : ℕ) → g < n → getD (listFrom f i n) g d ≡ f (i + g)
+from-at f d i zero g h = absurd (omega arith)
+from-at f d i (suc n) zero h = ap f (omega arith)
+from-at f d i (suc n) (suc g) h =
+    let e : suc i + g ≡ i + suc g = omega arith in
+    from-at f d (suc i) n g (omega arith) ∙ ap f e
+
+pub counts-at : (f : ℕ → Group) (days g : ℕ) → g < groupCount → countsAt (answer f days) g ≡ countsOf (f g)
+unfolding answer
+counts-at f days g h =
+    let e : 0 + g ≡ g = omega arith in
+    from-at (λ i. countsOf (f i)) _ 0 groupCount g h ∙ ap (λ i. countsOf (f i)) e
+
+-- An answer counts each movement of its list once
+
+module _ (pt : ℕ) (ms : List Movement) (days : ℕ) (grouped : AllGrouped (sharesOf pt ms)) where
+  abbrev ss : List Share
+  ss = sharesOf pt ms
+
+  abbrev a : Load
+  a = answer (tally (sharesOf pt ms)) days
+
+  standing : sumTo (λ g. countsAt a g .computed + countsAt a g .missing) groupCount ≡ length ms
+  standing =
+      sum-ext _ (λ g. tally ss g .computed + tally ss g .missing) groupCount (λ g h. ap (λ (c : Counts). c .computed + c .missing) (counts-at (tally ss) days g h))
+      ∙ counted-all ss grouped ∙ shares-count pt ms
+
+  energy : a .total
+      ≡ scaledBy (generalFactor (countsAt a)) (sumTo (λ g. scaledBy (groupFactor (countsAt a g)) (energyOfGroup pt g ms)) groupCount)
+  unfolding answer totalOf scaledSum scaledEnergy
+  energy =
+      rw (general-same (countsAt a) (counts ss) (counts-at (tally ss) days))
+      (ap (scaledBy (generalFactor (counts ss)))
+      (sum-ext _ _ groupCount (λ g h. rw (counts-at (tally ss) days g h, list-energy pt g ms) refl)))
+
+  by-formulas : TotalHolds (λ g. countsAt a g .computed) (λ g. countsAt a g .missing) (λ g. energyOfGroup pt g ms) (a .total)
+  by-formulas = rw energy (formulas (countsAt a) (λ g. energyOfGroup pt g ms))
+
+  level : a .level ≡ levelOf (meanOf (a .total) days)
+  unfolding answer
+  level = refl
+
+  none-known : length ms ≡ 0 → knownSum (countsAt a) ≡ 0
+  none-known z =
+      omega (arith, known-same (countsAt a) (counts ss) (counts-at (tally ss) days) .0, all-standing ss grouped, shares-count pt ms)
+
+  no-total : length ms ≡ 0 → a .total ≡ 0
+  unfolding generalFactor
+  no-total z = energy ∙ never-divided (generalFactor (countsAt a)) _ (none-known z)
+
+  fits : (p : ℕ) → AllGood p ms → length ms ≤ 50000 → meanOf (a .total) days < 2 ^ 64
+  fits p good few =
+      let t = total-small (countsAt a) (λ g. energyOfGroup pt g ms) (λ g h. rw (counts-at (tally ss) days g h, list-computed pt g ms) (energy-small p pt g ms good)) in
+      let same = known-same (countsAt a) (counts ss) (counts-at (tally ss) days) in
+      omega (arith, mean-small (a .total) days, energy, same .0, same .1, all-standing ss grouped, shares-count pt ms)
+
+  pub answer-counts : (p : ℕ) → AllGood p ms → length ms ≤ 50000 → CountsEach (answer (tally (sharesOf pt ms)) days) pt ms days
+  answer-counts p good few =
+      record {
+        computed = λ g h. ap (λ (c : Counts). c .computed) (counts-at (tally ss) days g h) ∙ list-computed pt g ms;
+        missing = λ g h. ap (λ (c : Counts). c .missing) (counts-at (tally ss) days g h) ∙ list-missing pt g ms;
+        standing = standing;
+        weighed = λ e.
+            let same = known-same (countsAt a) (counts ss) (counts-at (tally ss) days) in
+            let some = some-known ss grouped (shares-computed pt ms ∙ e) in
+            let n : knownSum (countsAt a) + unknownSum (countsAt a) ≡ length ms = omega (arith, same .0, same .1, all-standing ss grouped, shares-count pt ms) in
+            rw (← n) (weights-all (countsAt a) (omega (arith, same .0)));
+        energy = energy;
+        formulas = by-formulas;
+        level = level;
+        fits = fits p good few;
+        no-movement = λ z. (no-total z, rw (level, no-total z, zero-div (86400 * days)) (below-zero 0 (lit< tt)));
+      }
+
+-- a load that is not refused is an answer
+load-answered : (fits : Bool) (ss : List Share) (days : ℕ) → loadOf fits ss days .refused ≡ 0 → loadOf fits ss days ≡ answer (tally ss) days
+unfolding loadOf refusedLoad
+load-answered fits ss days = go (eqb n 0) refl
+  where
+    n : ℕ
+    n = loadRefusal fits ss days
+
+    go : (t : Bool) → eqb n 0 ≡ t → cond t (answer (tally ss) days) (refusedLoad n) .refused ≡ 0
+        → cond t (answer (tally ss) days) (refusedLoad n) ≡ answer (tally ss) days
+    go true e z = refl
+    go false e z = absurd (eqb-false n 0 e z)
+
+-- and one that is refused has its number alone
+repeated-at : {A : Type 0} (n g : ℕ) (d : A) → getD (replicate n d) g d ≡ d
+repeated-at zero g d = refl
+repeated-at (suc n) zero d = refl
+repeated-at (suc n) (suc g) d = repeated-at n g d
+
+load-alone : (fits : Bool) (shares : List Share) (days : ℕ) → ¬ (loadOf fits shares days .refused ≡ 0) → Alone (loadOf fits shares days)
+unfolding loadOf answer refusedLoad
+load-alone fits shares days = go (eqb n 0) refl
+  where
+    n : ℕ
+    n = loadRefusal fits shares days
+
+    go : (t : Bool) → eqb n 0 ≡ t → ¬ (cond t (answer (tally shares) days) (refusedLoad n) .refused ≡ 0)
+        → Alone (cond t (answer (tally shares) days) (refusedLoad n))
+    go true e z = absurd (z refl)
+    go false e z =
+        record {
+          total = refl;
+          level = refl;
+          counts = λ g h. let c = repeated-at {A = Counts} groupCount g (record { computed = 0; missing = 0 }) in (ap (λ (x : Counts). x .computed) c, ap (λ (x : Counts). x .missing) c);
+        }
+
+-- After any calls on an empty book of n rows and p points
+
+module _ (p pt n : ℕ) (cs : List Made) where
+  abbrev book : Book
+  book = booked (emptyBook p n) cs
+
+  -- what is worked from the rows is worked from the list, where it is the same of every book that does not fit
+  afresh : {A : Type 0} (k : Bool → List Share → A) → ((xs ys : List Share) → k false xs ≡ k false ys)
+      → k (sound p book && ltb pt p) (bookShares p pt book) ≡ k (sizesFit p n && ltb pt p) (sharesOf pt (movements p n cs))
+  afresh k same = rw (history-sound p n cs) (go (sizesFit p n) (ltb pt p) refl)
+    where
+      go : (z t : Bool) → ltb pt p ≡ t → k (z && t) (bookShares p pt book) ≡ k (z && t) (sharesOf pt (movements p n cs))
+      go false t e = same _ _
+      go true false e = same _ _
+      go true true e = ap (k true) (history-shares p pt n cs (ltb-true pt p e))
+
+  load-afresh : (days : ℕ) → bookLoad p pt book days ≡ listLoad p n pt (movements p n cs) days
+  unfolding bookLoad listLoad loadOf loadRefusal
+  load-afresh days = afresh (λ t ss. loadOf t ss days) (λ xs ys. refl)
+
+  verdict-afresh : (days limit : ℕ) → bookVerdict p pt book days limit ≡ listVerdict p n pt (movements p n cs) days limit
+  unfolding bookVerdict listVerdict judgedOf judged verdictRefusal
+  verdict-afresh days limit = afresh (λ t ss. judgedOf t ss days limit) (λ xs ys. refl)
+
+  refusals : (days : ℕ) → LoadNumbers (InRange p n pt) (DaysInRange days) (NoneComputed (movements p n cs)) (bookLoad p pt book days .refused)
+  unfolding listLoad
+  refusals days =
+      rw (load-afresh days)
+      (load-numbers (sizesFit p n && ltb pt p) (sharesOf pt (movements p n cs)) days (range-exactly p n pt) (days-exactly days) (ten-exactly pt (movements p n cs)))
+
+  counts-each : (days : ℕ) → bookLoad p pt book days .refused ≡ 0 → CountsEach (bookLoad p pt book days) pt (movements p n cs) days
+  unfolding listLoad
+  counts-each days z =
+      let ss = sharesOf pt (movements p n cs) in
+      let fits = sizesFit p n && ltb pt p in
+      let e = load-afresh days ∙ load-answered fits ss days (rw (load-afresh days) at z) in
+      let room : length (movements p n cs) ≤ 50000 = omega (arith, told-all p n cs .same, refusals days .answered .0 z .0 .rows .1) in
+      subst (λ (a : Load). CountsEach a pt (movements p n cs) days) (sym e)
+      (answer-counts pt (movements p n cs) days (history-grouped p pt n cs) p (told-all p n cs .good) room)
+
+  never-refused : (days : ℕ) → sizesFit p n ≡ true → pt < p → daysFit days ≡ true → someComputed (movements p n cs) ≡ true
+      → bookLoad p pt book days .refused ≡ 0
+  unfolding listLoad loadOf loadRefusal noneComputed answer
+  never-refused days sizes there fit some =
+      rw (load-afresh days, sizes, lt-ltb pt p there, fit, shares-computed pt (movements p n cs), some) refl
+
+  verdict-refusals : (days limit : ℕ)
+      → VerdictNumbers (InRange p n pt) (DaysInRange days) (LimitInRange limit) (NoneComputed (movements p n cs)) (refusalNumber (bookVerdict p pt book days limit))
+  unfolding listVerdict
+  verdict-refusals days limit =
+      rw (verdict-afresh days limit)
+      (verdict-numbers (sizesFit p n && ltb pt p) (sharesOf pt (movements p n cs)) days (range-exactly p n pt) (days-exactly days) (ten-exactly pt (movements p n cs)) limit (limit-exactly limit))
+
+  alone : (days : ℕ) → ¬ (bookLoad p pt book days .refused ≡ 0) → Alone (bookLoad p pt book days)
+  unfolding bookLoad
+  alone days = load-alone (sound p book && ltb pt p) (bookShares p pt book) days
+
+  pub counted-once : (days : ℕ) → EachCountedOnce p n pt cs days
+  counted-once days =
+      record {
+        afresh = load-afresh days;
+        verdict = verdict-afresh days;
+        answered = never-refused days;
+        counts = counts-each days;
+        refusals = refusals days;
+        alone = alone days;
+        verdict-refusals = verdict-refusals days;
+        over = λ limit. over-exactly-when p pt book days limit;
+      }
+
+-- a book with no movement: total 0, and below zero
+pub no-movement : (days : ℕ) → daysFit days ≡ true → loadOf true [] days ≡ refusedLoad 0
+unfolding loadOf loadRefusal noneComputed anyComputed answer refusedLoad totalOf generalFactor scaledBy knownSum sumTo known tally sumOf levelOf
+no-movement days fit = rw (fit, zero-div (86400 * days)) refl

@@ -1,0 +1,102 @@
+-- The number of a verdict's answer; and two outcomes that meet the contract of a load, or of a verdict, are equal.
+-- Assumes nothing.
+use mathlib.Core.Path.{_≡_, refl, sym, ap, _∙_}
+use mathlib.Core.Bool.{Bool, true, false, cond, not, _&&_}
+use mathlib.Core.List.{List}
+use Prim.Native.Nat.{ℕ, _<_}
+use mathlib.Core.Logic.{_↔_}
+use native.Mathlib.Omega.{arith}
+use lib.Dec.{eqb, ltb}
+use borrow.Author.Tests.{eqb-true, eqb-false}
+use Rattle.level.specs.declared.Level.{Level}
+use Rattle.level.specs.declared.Verdict.{Verdict}
+use Rattle.level.specs.Level.{levelGiven, levelValue, verdictOf, verdictNumber}
+use Rattle.level.proofs.Neighbours.{by-neighbours}
+use Rattle.refusal.specs.Refuse.{refuse}
+use Rattle.book_rules.specs.Columns.{Book, sound}
+use Rattle.load_rules.specs.declared.Load.{Load}
+use Rattle.load_rules.specs.declared.Judged.{Judged}
+use Rattle.load_rules.specs.Shares.{Share, bookShares}
+use Rattle.load_rules.specs.Tally.{tally}
+use Rattle.load_rules.specs.Load.{daysFit, noneComputed, loadRefusal, answer, refusedLoad, loadOf, bookLoad}
+use Rattle.load_rules.specs.declared.Judged.the-variants.{Refused, Given}
+use Rattle.load_rules.specs.Verdict.{limitFits, verdictRefusal, refusalNumber, overNumber, judged, judgedOf, bookVerdict, Judging}
+
+-- the answer of a verdict has the number that the rules give
+pub number-of : (n : ℕ) (v : Verdict) → refusalNumber (judged n v) ≡ n
+unfolding judged
+number-of n v = go (eqb n 0) refl
+  where
+    go : (t : Bool) → eqb n 0 ≡ t → refusalNumber (cond t (Given v) (Refused n)) ≡ n
+    go true e = sym (eqb-true n 0 e)
+    go false e = refl
+
+over-of : (n : ℕ) (v : Verdict) → overNumber (judged n v) ≡ cond (eqb n 0) (verdictNumber v) 0
+unfolding judged
+over-of n v = go (eqb n 0)
+  where
+    go : (t : Bool) → overNumber (cond t (Given v) (Refused n)) ≡ cond t (verdictNumber v) 0
+    go true = refl
+    go false = refl
+
+-- where a verdict is given, so is the load
+level-of : (fits : Bool) (ss : List Share) (days limit : ℕ) → verdictRefusal fits ss days limit ≡ 0 → loadOf fits ss days .level ≡ answer (tally ss) days .level
+unfolding verdictRefusal loadOf loadRefusal
+level-of false ss days limit z = absurd (omega arith)
+level-of true ss days limit z = go (daysFit days) (limitFits limit) (noneComputed ss) z
+  where
+    go : (d l t : Bool) → refuse 11 d (refuse 15 l (refuse 10 (not t) 0)) ≡ 0
+        → cond (eqb (refuse 11 d (refuse 10 (not t) 0)) 0) (answer (tally ss) days) (refusedLoad (refuse 11 d (refuse 10 (not t) 0))) .level
+        ≡ answer (tally ss) days .level
+    go false l t e = absurd (omega arith)
+    go true false t e = absurd (omega arith)
+    go true true true e = absurd (omega arith)
+    go true true false e = refl
+
+over-level : (fits : Bool) (ss : List Share) (days limit : ℕ)
+    → overNumber (judgedOf fits ss days limit) ≡ cond (eqb (refusalNumber (judgedOf fits ss days limit)) 0) (verdictNumber (verdictOf (loadOf fits ss days .level) limit)) 0
+unfolding judgedOf
+over-level fits ss days limit =
+    over-of n (verdictOf (answer (tally ss) days .level) limit) ∙ rw (number-of n (verdictOf (answer (tally ss) days .level) limit)) (go (eqb n 0) refl)
+  where
+    n : ℕ
+    n = verdictRefusal fits ss days limit
+
+    go : (t : Bool) → eqb n 0 ≡ t
+        → cond t (verdictNumber (verdictOf (answer (tally ss) days .level) limit)) 0 ≡ cond t (verdictNumber (verdictOf (loadOf fits ss days .level) limit)) 0
+    go true e = rw (level-of fits ss days limit (eqb-true n 0 e)) refl
+    go false e = refl
+
+pub judging : {p pt : ℕ} {b : Book} {days limit : ℕ} {r : Judged} → r ≡ bookVerdict p pt b days limit → Judging p pt b days limit r
+unfolding bookVerdict bookLoad judgedOf
+judging {p} {pt} {b} {days} {limit} {r} e =
+    record {
+      number = ap refusalNumber e ∙ number-of _ _;
+      over = rw e (over-level (sound p b && ltb pt p) (bookShares p pt b) days limit);
+      answer = e;
+    }
+
+-- over exactly if a verdict is given and the load's level is, and is greater than the limit
+pub over-exactly-when : (p pt : ℕ) (b : Book) (days limit : ℕ)
+    → overNumber (bookVerdict p pt b days limit) ≡ 1
+    ↔ (refusalNumber (bookVerdict p pt b days limit) ≡ 0) × (levelGiven (bookLoad p pt b days .level) ≡ 1) × (limit < levelValue (bookLoad p pt b days .level))
+over-exactly-when p pt b days limit = go (eqb (refusalNumber r) 0) refl (judging {r = r} refl .over)
+  where
+    r : Judged
+    r = bookVerdict p pt b days limit
+
+    l : Level
+    l = bookLoad p pt b days .level
+
+    go : (t : Bool) → eqb (refusalNumber r) 0 ≡ t → overNumber r ≡ cond t (verdictNumber (verdictOf l limit)) 0
+        → overNumber r ≡ 1 ↔ (refusalNumber r ≡ 0) × (levelGiven l ≡ 1) × (limit < levelValue l)
+    go true e o =
+        let w = by-neighbours .over l limit in
+        (λ h. let h' = w .0 (sym o ∙ h) in (eqb-true _ 0 e, h' .0, h' .1), λ h. o ∙ w .1 (h .1, h .2))
+    go false e o = (λ h. absurd (omega arith), λ h. absurd (eqb-false _ 0 e (h .0)))
+
+pub same-load : (p pt : ℕ) (b : Book) (days : ℕ) (r s : Load) → r ≡ bookLoad p pt b days → s ≡ bookLoad p pt b days → r ≡ s
+same-load p pt b days r s e f = e ∙ sym f
+
+pub same-verdict : (p pt : ℕ) (b : Book) (days limit : ℕ) (r s : Judged) → Judging p pt b days limit r → Judging p pt b days limit s → r ≡ s
+same-verdict p pt b days limit r s e f = e .answer ∙ sym (f .answer)

@@ -1,0 +1,101 @@
+-- The refusals of a load and of a verdict on any book, by its rows.
+-- Assumes nothing.
+use mathlib.Core.Path.{_≡_, refl, sym, ap, _∙_, subst}
+use mathlib.Core.Bool.{Bool, true, false, cond, not, _&&_, _||_, false≢true}
+use mathlib.Core.List.{List, [], _∷_, _++_}
+use mathlib.Core.Logic.{_↔_, Iff·trans, Iff·and, Iff·not, ⊎-elim}
+use Prim.Native.Nat.{ℕ, zero, suc, _+_, _*_, _≤_, _<_}
+use native.Mathlib.Nat.{eq-or-lt-of-le}
+use native.Mathlib.Omega.{arith}
+use lib.ListN.{length, getD, length-append}
+use lib.Dec.{eqb, ltb}
+use borrow.Author.Tests.{eqb-true, eqb-false}
+use Rattle.movement.proofs.Exactly.{less, both, opposite}
+use Rattle.book_rules.specs.Columns.{Book, sound}
+use Rattle.load_rules.specs.Shares.{Share, energyIn, anyComputed, rowShare, sharesTo, bookShares}
+use Rattle.load_rules.specs.Shares.Share.{has, lacks}
+use Rattle.load_rules.specs.Load.{noneComputed, bookLoad}
+use Rattle.load_rules.specs.Verdict.{bookVerdict}
+use Rattle.load_rules.specs.Refusals.{NoneMarked, BookRefusals}
+use Rattle.load_rules.proofs.RefusalLaws.{days-exactly, limit-exactly, load-numbers, verdict-numbers}
+
+-- what holds of each number below k, and of k
+below-suc : {P : ℕ → Type 0} (k : ℕ) → ((i : ℕ) → i < k → P i) × P k ↔ ((i : ℕ) → i < suc k → P i)
+below-suc {P} k = (
+  λ b i h. ⊎-elim (λ (e : i ≡ k). subst P (sym e) (b .1)) (b .0 i) (eq-or-lt-of-le {n = i} {m = k} (omega arith)),
+  λ f. (λ i h. f i (omega arith), f k (omega arith)),
+)
+
+neither : (a b : Bool) → (a || b) ≡ false ↔ (a ≡ false) × (b ≡ false)
+neither true b = (λ e. absurd (false≢true (sym e)), λ h. absurd (false≢true (sym (h .0))))
+neither false b = (λ e. (refl, e), λ h. h .1)
+
+any-append : (a b : List Share) → anyComputed (a ++ b) ≡ (anyComputed a || anyComputed b)
+unfolding anyComputed
+any-append [] b = refl
+any-append (has g e ∷ a) b = refl
+any-append (lacks g ∷ a) b = any-append a b
+
+-- One row
+
+row-any : (x g m l : ℕ) → anyComputed (rowShare x g m l) ≡ false ↔ (¬ (x ≡ 0) → m ≡ 0)
+unfolding rowShare anyComputed
+row-any x g m l = go (eqb x 0) refl (eqb m 0) refl
+  where
+    go : (s : Bool) → eqb x 0 ≡ s → (t : Bool) → eqb m 0 ≡ t
+        → anyComputed (cond s [] (cond t (lacks g) (has g (energyIn g l)) ∷ [])) ≡ false ↔ (¬ (x ≡ 0) → m ≡ 0)
+    go true e t f = (λ h used. absurd (used (eqb-true x 0 e)), λ h. refl)
+    go false e true f = (λ h used. eqb-true m 0 f, λ h. refl)
+    go false e false f = (λ h. absurd (false≢true (sym h)), λ h. absurd (eqb-false m 0 f (h (eqb-false x 0 e))))
+
+row-length : (x g m l : ℕ) → length (rowShare x g m l) ≡ 0 ↔ x ≡ 0
+unfolding rowShare
+row-length x g m l = go (eqb x 0) refl
+  where
+    go : (s : Bool) → eqb x 0 ≡ s → length (cond s [] (cond (eqb m 0) (lacks g) (has g (energyIn g l)) ∷ [])) ≡ 0 ↔ x ≡ 0
+    go true e = (λ h. eqb-true x 0 e, λ h. refl)
+    go false e = (λ h. absurd (omega arith), λ h. absurd (eqb-false x 0 e h))
+
+-- The rows below k
+
+module _ (p pt : ℕ) (b : Book) where
+  rows-any : (k : ℕ) → anyComputed (sharesTo p pt b k) ≡ false
+      ↔ ((i : ℕ) → i < k → ¬ (getD (b .identities) i 0 ≡ 0) → getD (b .marks) i 0 ≡ 0)
+  unfolding sharesTo anyComputed
+  rows-any zero = (λ e i h. absurd (omega arith), λ f. refl)
+  rows-any (suc k) =
+      rw any-append
+      (Iff·trans (neither _ _) (Iff·trans (Iff·and (rows-any k) (row-any (getD (b .identities) k 0) (getD (b .groups) k 0) (getD (b .marks) k 0) (getD (b .levels) (k * p + pt) 0)))
+      (below-suc {P = λ i. ¬ (getD (b .identities) i 0 ≡ 0) → getD (b .marks) i 0 ≡ 0} k)))
+
+  rows-length : (k : ℕ) → length (sharesTo p pt b k) ≡ 0 ↔ ((i : ℕ) → i < k → getD (b .identities) i 0 ≡ 0)
+  unfolding sharesTo
+  rows-length zero = (λ e i h. absurd (omega arith), λ f. refl)
+  rows-length (suc k) =
+      rw length-append
+      (Iff·trans no-sum (Iff·trans (Iff·and (rows-length k) (row-length (getD (b .identities) k 0) (getD (b .groups) k 0) (getD (b .marks) k 0) (getD (b .levels) (k * p + pt) 0)))
+      (below-suc {P = λ i. getD (b .identities) i 0 ≡ 0} k)))
+    where
+      no-sum : {x y : ℕ} → x + y ≡ 0 ↔ (x ≡ 0) × (y ≡ 0)
+      no-sum = (λ e. (omega arith, omega arith), λ h. omega arith)
+
+  marked-exactly : noneComputed (bookShares p pt b) ≡ true ↔ NoneMarked b
+  unfolding noneComputed bookShares
+  marked-exactly =
+      let n = length (b .identities) in
+      let ss = sharesTo p pt b n in
+      let a = both (not (anyComputed ss)) (ltb 0 (length ss)) (Iff·trans (opposite (anyComputed ss)) (rows-any n)) (Iff·trans (less 0 (length ss)) (Iff·trans (above (length ss)) (Iff·not (rows-length n)))) in
+      (λ e. record { stand = a .0 e .1; none-marked = a .0 e .0 }, λ r. a .1 (r .none-marked, r .stand))
+    where
+      above : (n : ℕ) → 0 < n ↔ ¬ (n ≡ 0)
+      above zero = (λ h e. omega arith, λ h. absurd (h refl))
+      above (suc n) = (λ h e. omega arith, λ h. omega arith)
+
+  pub book-refusals : (days : ℕ) → BookRefusals p pt b days
+  unfolding bookLoad bookVerdict
+  book-refusals days =
+      let f = both (sound p b) (ltb pt p) (λ e. e, λ e. e) (less pt p) in
+      record {
+        load = load-numbers (sound p b && ltb pt p) (bookShares p pt b) days f (days-exactly days) marked-exactly;
+        verdict = λ limit. verdict-numbers (sound p b && ltb pt p) (bookShares p pt b) days f (days-exactly days) marked-exactly limit (limit-exactly limit);
+      }

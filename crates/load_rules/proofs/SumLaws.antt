@@ -1,0 +1,57 @@
+-- Laws of sums over numbers.
+-- Assumes nothing.
+use mathlib.Core.Path.{_≡_, refl, sym}
+use mathlib.Core.Bool.{Bool, true, false, cond}
+use Prim.Native.Nat.{ℕ, zero, suc, _+_, _*_, _≤_, _<_}
+use native.Mathlib.Nat.{mul-add, mul-zero, zero-add, suc-add}
+use native.Mathlib.Omega.{arith}
+use lib.Dec.{eqb, ltb}
+use borrow.Author.Tests.{eqb-true, eqb-false, ltb-true, ltb-false, lt-ltb, le-ltb}
+use Rattle.load_rules.specs.Factors.{sumTo}
+
+pub sum-add : (f g : ℕ → ℕ) (n : ℕ) → sumTo (λ i. f i + g i) n ≡ sumTo f n + sumTo g n
+unfolding sumTo
+sum-add f g zero = refl
+sum-add f g (suc n) = omega (arith, sum-add f g n)
+
+pub sum-zero : (n : ℕ) → sumTo (λ i. 0) n ≡ 0
+unfolding sumTo
+sum-zero zero = refl
+sum-zero (suc n) = omega (arith, sum-zero n)
+
+pub sum-ext : (f g : ℕ → ℕ) (n : ℕ) → ((i : ℕ) → i < n → f i ≡ g i) → sumTo f n ≡ sumTo g n
+unfolding sumTo
+sum-ext f g zero e = refl
+sum-ext f g (suc n) e = omega (arith, sum-ext f g n (λ i h. e i (omega arith)), e n (omega arith))
+
+pub sum-le : (f g : ℕ → ℕ) (n : ℕ) → ((i : ℕ) → i < n → f i ≤ g i) → sumTo f n ≤ sumTo g n
+unfolding sumTo
+sum-le f g zero e = omega arith
+sum-le f g (suc n) e = omega (arith, sum-le f g n (λ i h. e i (omega arith)), e n (omega arith))
+
+-- fewer summands, no larger sum
+pub sum-more : (f : ℕ → ℕ) (n m : ℕ) → sumTo f n ≤ sumTo f (m + n)
+unfolding sumTo
+sum-more f n zero = rw zero-add (omega arith)
+sum-more f n (suc m) = rw suc-add (omega (arith, sum-more f n m))
+
+pub sum-times : (k : ℕ) (f : ℕ → ℕ) (n : ℕ) → sumTo (λ i. k * f i) n ≡ k * sumTo f n
+unfolding sumTo
+sum-times k f zero = sym (mul-zero k)
+sum-times k f (suc n) = rw (mul-add k (sumTo f n) (f n)) (omega (arith, sum-times k f n))
+
+-- 1 at the number h, and 0 at all others
+pub sum-one : (h n : ℕ) → sumTo (λ g. cond (eqb h g) 1 0) n ≡ cond (ltb h n) 1 0
+unfolding sumTo
+sum-one h zero = rw (le-ltb h 0 (omega arith)) refl
+sum-one h (suc n) = go (eqb h n) refl (ltb h n) refl (sum-one h n)
+  where
+    go : (b : Bool) → eqb h n ≡ b → (t : Bool) → ltb h n ≡ t → sumTo (λ g. cond (eqb h g) 1 0) n ≡ cond t 1 0
+        → sumTo (λ g. cond (eqb h g) 1 0) n + cond b 1 0 ≡ cond (ltb h (suc n)) 1 0
+    go true e true l i = let q = eqb-true h n e in let w = ltb-true h n l in absurd (omega arith)
+    go true e false l i = let q = eqb-true h n e in rw (lt-ltb h (suc n) (omega arith)) (omega arith)
+    go false e true l i = let w = ltb-true h n l in rw (lt-ltb h (suc n) (omega arith)) (omega arith)
+    go false e false l i =
+        let q = eqb-false h n e in
+        let w = ltb-false h n l in
+        rw (le-ltb h (suc n) (omega arith)) (omega arith)

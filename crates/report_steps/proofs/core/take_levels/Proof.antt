@@ -1,0 +1,32 @@
+-- `report_steps::core::take_levels` meets its contract: *supply* with the row's levels.
+-- Assumes nothing.
+use mathlib.Core.Path.{sym}
+use native.Mathlib.Omega.{arith}
+use lib.Seq.{length-take-le}
+use borrow.Author.Needs.{needs}
+use Rattle.report_steps.proofs.Intakes.{levels-refused, levels-entered}
+use Rattle.report_steps.proofs.core.take_levels.Statement.{statement}
+use Rattle.report_steps.proofs.core.take_levels.Tie as tie
+
+slice-aggregate-supply : tie.Need-slice-aggregate-supply
+slice-aggregate-supply c = sym (length-take-le _ _ (omega arith))
+
+refused : tie.Need-returns
+refused c = levels-refused (c .before .before .before .before .before .supply .ensures) (c .if1 .taken)
+
+entered : tie.Need-returns-2
+entered c = levels-entered (c .before .before .before .before .before .supply .ensures) (c .if1 .left)
+
+pub take-levels-spec : {M : Type 1} → statement M
+take-levels-spec =
+    tie.close
+    (tie.spec
+    (λ c. search needs)
+    slice-aggregate-supply
+    (λ c κs. search needs)
+    (λ c. search needs)
+    (λ c. search needs)
+    refused
+    (λ c. search needs)
+    (λ c. search needs)
+    entered)

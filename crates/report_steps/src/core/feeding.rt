@@ -1,0 +1,224 @@
+// A register's bytes as they come: its lines, one after another, into the book. What is read of all pieces is what is read of the whole.
+use crate::core::take_row;
+use register::header::register_points;
+use text::core::line_end;
+use text::number::Number;
+ghost use mathlib.Core.Path.{_≡_};
+ghost use mathlib.Core.Bool.{true};
+ghost use Prim.Native.Nat.{_+_, _^_, _≤_, _<_};
+ghost use lib.ListN.{length, take, drop};
+ghost use Rattle.book_rules.specs.Columns.{bookOf, sound};
+ghost use Rattle.register.specs.Header.{headerOf, registerHeader};
+ghost use Rattle.report_steps.specs.Reading.{pointsRefusal, readingAt, arrivedOf, LineTaken, LinesTaken, LastTaken, PieceTaken, Unended};
+
+// The longest line of a register on its layout, with its CRLF.
+const LONGEST_LINE: usize = 86;
+
+// Where the reading stands: the bytes before `at` are read; `line` is the number of the next line, or of the one that is refused.
+pub struct Feed {
+    pub at: usize,
+    pub line: u64,
+    pub refusal: u32,
+}
+
+// What a read answered.
+pub enum Arrived {
+    Bytes(usize),
+    End,
+    Failed,
+}
+
+// The same once a piece is taken: `left` bytes of the next line wait at the front of the buffer. Where a line is refused none was moved, and it begins at `at`.
+pub struct Piece {
+    pub at: usize,
+    pub left: usize,
+    pub line: u64,
+    pub refusal: u32,
+}
+
+// The refusal of a first line: it is the header of a register with as many levels as there are points.
+fn header_refusal(line: &[u8], points: usize) -> u32
+    ensures { λ r. ⌜ r ≡ pointsRefusal points (headerOf registerHeader 22 (now (line .entry))) ⌝ }
+{
+    match register_points(line) {
+        Number::Got(n) => {
+            if n as usize == points {
+                return 0;
+            }
+            16
+        }
+        Number::Off => 16,
+    }
+}
+
+// Takes line `number`, the header first and then rows, and answers its refusal.
+pub fn take_line(
+    ids: &mut [u32],
+    groups: &mut [u32],
+    marks: &mut [u32],
+    levels: &mut [u32],
+    points: usize,
+    line: &[u8],
+    number: u64,
+) -> u32
+    requires { ⌜ sound points (bookOf (now ids) (now groups) (now marks) (now levels)) ≡ true ⌝ }
+    ensures { λ r. ⌜ LineTaken points number (bookOf (now (ids .entry)) (now (groups .entry)) (now (marks .entry)) (now (levels .entry))) (now (line .entry)) r (bookOf (now (ids .exit)) (now (groups .exit)) (now (marks .exit)) (now (levels .exit))) ⌝ }
+{
+    if number == 1 {
+        return header_refusal(line, points);
+    }
+    take_row(ids, groups, marks, levels, points, line).number()
+}
+
+// Takes every line that the bytes end, up to the first that is refused.
+pub fn take_lines(
+    ids: &mut [u32],
+    groups: &mut [u32],
+    marks: &mut [u32],
+    levels: &mut [u32],
+    points: usize,
+    bytes: &[u8],
+    line: u64,
+) -> Feed
+    requires { ⌜ sound points (bookOf (now ids) (now groups) (now marks) (now levels)) ≡ true ⌝ }
+    requires { ⌜ line + length (now bytes) < 2 ^ 64 ⌝ }
+    ensures { λ r. ⌜ LinesTaken points (readingAt 0 line (bookOf (now (ids .entry)) (now (groups .entry)) (now (marks .entry)) (now (levels .entry)))) (now (bytes .entry)) (r .at) (readingAt (r .refusal) (r .line) (bookOf (now (ids .exit)) (now (groups .exit)) (now (marks .exit)) (now (levels .exit)))) ⌝ }
+{
+    let mut at = 0;
+    let mut number = line;
+    let mut end = line_end(bytes, 0);
+    while 2 <= bytes.len() - end {
+        let refusal = take_line(ids, groups, marks, levels, points, &bytes[at..end], number);
+        if refusal != 0 {
+            return Feed {
+                at,
+                line: number,
+                refusal,
+            };
+        }
+        at = end + 2;
+        number += 1;
+        end = line_end(bytes, at);
+    }
+    Feed {
+        at,
+        line: number,
+        refusal: 0,
+    }
+}
+
+// The end of a register: the last bytes are a line that no CRLF ends, or there are none.
+pub fn take_last(
+    ids: &mut [u32],
+    groups: &mut [u32],
+    marks: &mut [u32],
+    levels: &mut [u32],
+    points: usize,
+    bytes: &[u8],
+    line: u64,
+) -> Feed
+    requires { ⌜ sound points (bookOf (now ids) (now groups) (now marks) (now levels)) ≡ true ⌝ }
+    requires { ⌜ Unended (now bytes) ⌝ }
+    requires { ⌜ 1 ≤ line ⌝ }
+    requires { ⌜ line + length (now bytes) < 2 ^ 64 ⌝ }
+    ensures { λ r. ⌜ LastTaken points (readingAt 0 line (bookOf (now (ids .entry)) (now (groups .entry)) (now (marks .entry)) (now (levels .entry)))) (now (bytes .entry)) (readingAt (r .refusal) (r .line) (bookOf (now (ids .exit)) (now (groups .exit)) (now (marks .exit)) (now (levels .exit)))) ⌝ }
+{
+    if bytes.len() == 0 {
+        if line == 1 {
+            return Feed {
+                at: 0,
+                line,
+                refusal: 16,
+            };
+        }
+        return Feed {
+            at: 0,
+            line,
+            refusal: 0,
+        };
+    }
+    let refusal = take_line(ids, groups, marks, levels, points, bytes, line);
+    if refusal != 0 {
+        return Feed {
+            at: 0,
+            line,
+            refusal,
+        };
+    }
+    Feed {
+        at: bytes.len(),
+        line: line + 1,
+        refusal: 0,
+    }
+}
+
+// Moves `n` bytes from `from` on to the front.
+pub fn to_front(bytes: &mut [u8], from: usize, n: usize)
+    requires { ⌜ from + n ≤ length (now bytes) ⌝ }
+    ensures { λ r. ⌜ take n (now (bytes .exit)) ≡ take n (drop from (now (bytes .entry))) ⌝ }
+{
+    let mut i = 0;
+    while i < n {
+        bytes[i] = bytes[from + i];
+        i += 1;
+    }
+}
+
+// Takes a piece of a register: the first `len` bytes of the buffer, those that waited and those that came.
+pub fn take_piece(
+    ids: &mut [u32],
+    groups: &mut [u32],
+    marks: &mut [u32],
+    levels: &mut [u32],
+    points: usize,
+    bytes: &mut [u8],
+    len: usize,
+    line: u64,
+) -> Piece
+    requires { ⌜ sound points (bookOf (now ids) (now groups) (now marks) (now levels)) ≡ true ⌝ }
+    requires { ⌜ len ≤ length (now bytes) ⌝ }
+    requires { ⌜ line + len < 2 ^ 64 ⌝ }
+    ensures { λ r. ⌜ PieceTaken points (readingAt 0 line (bookOf (now (ids .entry)) (now (groups .entry)) (now (marks .entry)) (now (levels .entry)))) (take len (now (bytes .entry))) (readingAt (r .refusal) (r .line) (bookOf (now (ids .exit)) (now (groups .exit)) (now (marks .exit)) (now (levels .exit)))) (take (r .left) (now (bytes .exit))) ⌝ }
+{
+    let feed = take_lines(ids, groups, marks, levels, points, &bytes[..len], line);
+    let at = feed.at;
+    let left = len - at;
+    let refusal = feed.refusal;
+    if refusal != 0 {
+        return Piece {
+            at,
+            left,
+            line: feed.line,
+            refusal,
+        };
+    }
+    if LONGEST_LINE < left {
+        return Piece {
+            at,
+            left,
+            line: feed.line,
+            refusal: 16,
+        };
+    }
+    to_front(bytes, at, left);
+    Piece {
+        at: 0,
+        left,
+        line: feed.line,
+        refusal,
+    }
+}
+
+// What a read into `room` bytes answered.
+pub fn what_came(got: isize, room: &[u8]) -> Arrived
+    ensures { λ r. ⌜ r ≡ arrivedOf got (length (now (room .entry))) ⌝ }
+{
+    if got < 0 {
+        return Arrived::Failed;
+    }
+    let n = io::count(got, room);
+    if n == 0 {
+        return Arrived::End;
+    }
+    Arrived::Bytes(n)
+}

@@ -1,0 +1,24 @@
+-- `soundness::row_sound` meets its contract. Assumes nothing.
+use mathlib.Core.Bool.{true, false}
+use mathlib.Core.Path.{_≡_, refl, sym, _∙_}
+use borrow.Author.Needs.{needs}
+use Rattle.book_rules.specs.Columns.{headSound, rowSound}
+use Rattle.soundness.proofs.row_sound.Statement.{statement}
+use Rattle.soundness.proofs.row_sound.Tie as tie
+
+returns : tie.Need-returns
+unfolding rowSound
+returns c = let s = c .before .before .before .before .before in
+    let h : headSound (s .args .x) (s .args .g) (s .args .m) ≡ true = sym (c .before .before .before .head-sound .ensures) ∙ c .before .before .if1 .taken in
+    c .row-within .ensures ∙ rw (h, ← (c .before .top-level .ensures)) refl
+
+returns-2 : tie.Need-returns-2
+unfolding rowSound
+returns-2 c = let s = c .before .before .before in
+    let h : headSound (s .args .x) (s .args .g) (s .args .m) ≡ false = sym (c .before .head-sound .ensures) ∙ c .if1 .left in
+    rw h refl
+
+pub row-sound-spec : {M : Type 1} → statement M
+row-sound-spec =
+    tie.close
+    (tie.spec (λ c κs. search needs) (λ c κs. search needs) (λ c κs. search needs) returns returns-2)

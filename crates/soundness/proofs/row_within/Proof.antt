@@ -1,0 +1,52 @@
+-- `soundness::row_within` meets its contract. Assumes nothing.
+use mathlib.Core.Path.{_≡_, sym, ap, _∙_}
+use mathlib.Core.Bool.{Bool, true, false, _&&_, and-true}
+use mathlib.Core.Logic.{⊎-elim}
+use Prim.Native.Nat.{_+_, _-_, _≤_}
+use native.Mathlib.Omega.{arith}
+use lib.ListN.{length, drop, getD}
+use lib.Dec.{leb}
+use borrow.Author.Tests.{le-leb, lt-leb}
+use borrow.Author.Needs.{needs}
+use Rattle.refusal.specs.Range.{allWithin}
+use Rattle.refusal.proofs.Ranges.{within-more, within-end}
+use Rattle.book_rules.proofs.Scans.{flag-falls}
+use Rattle.soundness.proofs.row_within.Statement.{statement}
+use Rattle.soundness.proofs.row_within.Tie as tie
+
+abbrev Inv-loop : tie.InvT-loop
+Inv-loop levels top within₀ i₀ within i = (i ≤ length levels) × (allWithin top levels ≡ (within && allWithin top (drop i levels)))
+
+abbrev μ-loop : tie.MeasureT-loop
+μ-loop levels top within₀ i₀ within i = length levels - i
+
+loop-again : tie.Need-loop-again Inv-loop μ-loop
+loop-again c =
+    let s = c .before .before .before .loop in
+    let z = c .before .before .before .before .args in
+    let rest = allWithin (z .top) (drop (s .i + 1) (z .levels .now)) in
+    let read : (t : Bool) → leb (getD (z .levels .now) (s .i) 0) (z .top) ≡ t → allWithin (z .top) (z .levels .now) ≡ (s .within && (t && rest)) =
+    λ t e. s .inv .1 ∙ ap (λ (k : Bool). s .within && k) (within-more (z .top) (z .levels .now) (s .i) (c .before .before .loop-test .taken) e) in (
+      omega arith,
+      ⊎-elim
+          (λ w. read false (lt-leb _ _ (w .0 .taken)) ∙ flag-falls (s .within) rest ∙ ap (λ (k : Bool). k && rest) (sym (w .1)))
+          (λ w. read true (le-leb _ _ (w .0 .left)) ∙ ap (λ (k : Bool). k && rest) (sym (w .1)))
+          (c .if1 .came),
+    )
+
+returns : tie.Need-returns Inv-loop μ-loop
+returns c = sym (c .before .loop .inv .1 ∙ rw (within-end (c .before .before .args .top) (c .before .before .args .levels .now) (c .before .loop .i) (c .loop-test .left)) (and-true (c .before .loop .within)))
+
+pub row-within-spec : {M : Type 1} → statement M
+row-within-spec =
+    tie.close
+    (tie.spec
+    Inv-loop
+    μ-loop
+    (λ c. search needs)
+    (λ c. search needs)
+    (λ c. search needs)
+    (λ c. search needs)
+    (λ c. search needs)
+    loop-again
+    returns)

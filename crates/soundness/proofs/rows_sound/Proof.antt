@@ -1,0 +1,93 @@
+-- `soundness::rows_sound` meets its contract. Assumes nothing.
+use mathlib.Core.Path.{_≡_, sym, _∙_}
+use mathlib.Core.Bool.{Bool, _&&_}
+use Prim.Native.Nat.{_+_, _-_, _*_, _≤_}
+use native.Mathlib.Omega.{arith}
+use lib.ListN.{length, drop}
+use borrow.Author.Tests.{not-true, not-false}
+use borrow.Author.Needs.{needs}
+use Rattle.book_rules.specs.Columns.{rowsSound}
+use Rattle.book_rules.proofs.Scans.{room, room-next, rows-more, rows-end}
+use Rattle.soundness.proofs.rows_sound.Statement.{statement}
+use Rattle.soundness.proofs.rows_sound.Tie as tie
+
+abbrev Inv-loop : tie.InvT-loop
+Inv-loop ids groups marks levels points i₀ at₀ i at = (i ≤ length ids) × ((at ≡ i * points) × (rowsSound points ids groups marks levels ≡ rowsSound points (drop i ids) (drop i groups) (drop i marks) (drop at levels)))
+
+abbrev μ-loop : tie.MeasureT-loop
+μ-loop ids groups marks levels points i₀ at₀ i at = length ids - i
+
+-- a row's levels end within the column
+space : (c : tie.In-loop Inv-loop μ-loop) → c .before .loop .at + c .before .before .before .before .before .before .args .points ≤ length (c .before .before .before .before .before .before .args .levels .now)
+space c =
+    let s = c .before .before .before .before .before .before in
+    room (s .args .points) (c .before .loop .i) (c .before .loop .at) (length (s .args .ids .now)) (length (s .args .levels .now)) (c .before .loop .inv .1 .0)
+    (c .loop-test .taken)
+    (s .pre .1 .1)
+
+add-end : tie.Need-add-end Inv-loop μ-loop
+add-end c = omega (arith, space c)
+
+mul-row-sound-4 : tie.Need-mul-row-sound-4 Inv-loop μ-loop
+mul-row-sound-4 c = omega (arith, space (c .before .before .before), c .before .before .before .before .before .before .before .before .before .good .1 .1 .1 .0 .1)
+
+part-row-sound-end : tie.Need-part-row-sound-end Inv-loop μ-loop
+part-row-sound-end c = space (c .before .before .before)
+
+-- what the rows after row i say
+abbrev rest : tie.After-row-sound Inv-loop μ-loop → Bool
+rest c =
+    let i = c .before .before .before .before .before .before .loop .i in
+    let z = c .before .before .before .before .before .before .before .before .before .before .before .args in
+    rowsSound (z .points) (drop (i + 1) (z .ids .now)) (drop (i + 1) (z .groups .now)) (drop (i + 1) (z .marks .now)) (drop (c .before .before .before .before .before .before .loop .at + z .points) (z .levels .now))
+
+-- what the rows say from here on, where row i's test gave t
+next : (c : tie.After-row-sound Inv-loop μ-loop) {t : Bool} → c .row-sound .result ≡ t
+    → rowsSound (c .before .before .before .before .before .before .before .before .before .before .before .args .points) (c .before .before .before .before .before .before .before .before .before .before .before .args .ids .now) (c .before .before .before .before .before .before .before .before .before .before .before .args .groups .now) (c .before .before .before .before .before .before .before .before .before .before .before .args .marks .now) (c .before .before .before .before .before .before .before .before .before .before .before .args .levels .now)
+    ≡ (t && rest c)
+next c e =
+    let s = c .before .before .before .before .before .before in
+    let z = c .before .before .before .before .before .before .before .before .before .before .before in
+    s .loop .inv .1 .1
+    ∙ rows-more (z .args .points) (z .args .ids .now) (z .args .groups .now) (z .args .marks .now) (z .args .levels .now) (s .loop .i) (s .loop .at)
+    (c .before .before .before .before .before .loop-test .taken)
+    (z .pre .0)
+    (z .pre .1 .0)
+    (sym e ∙ c .row-sound .ensures)
+
+returns : tie.Need-returns Inv-loop μ-loop
+returns c = sym (next (c .before) (not-true _ (c .if1 .taken)))
+
+loop-again : tie.Need-loop-again Inv-loop μ-loop
+loop-again c =
+    let s = c .before .before .before .before .before .before .before in
+    (omega arith, (room-next (c .before .before .before .before .before .before .before .before .before .before .before .before .args .points) (s .loop .i) (s .loop .at) (s .loop .inv .1 .0), next (c .before) (not-false _ (c .if1 .left))))
+
+returns-2 : tie.Need-returns-2 Inv-loop μ-loop
+returns-2 c = let z = c .before .before .before .before .before .before in
+    sym (c .before .loop .inv .1 .1 ∙ rows-end (z .args .points) (z .args .ids .now) _ _ _ (c .before .loop .i) (c .loop-test .left))
+
+pub rows-sound-spec : {M : Type 1} → statement M
+rows-sound-spec =
+    tie.close
+    (tie.spec
+    Inv-loop
+    μ-loop
+    (λ c. search needs)
+    add-end
+    (λ c. search needs)
+    (λ c. search needs)
+    (λ c. search needs)
+    (λ c. search needs)
+    (λ c. search needs)
+    (λ c. search needs)
+    mul-row-sound-4
+    (λ c. search needs)
+    (λ c. search needs)
+    part-row-sound-end
+    (λ c κs. search needs)
+    returns
+    (λ c. search needs)
+    (λ c. search needs)
+    loop-again
+    returns-2)
