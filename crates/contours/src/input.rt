@@ -1,10 +1,10 @@
 // What the program is given: the network's bytes and the contour levels among its arguments.
-use libc::STDIN_FILENO;
 use contours_steps::core::intake::READING;
 use contours_steps::core::intake::Turn;
 use contours_steps::core::intake::next_turn;
 use contours_steps::words::Given;
 use contours_steps::words::take_word;
+use libc::STDIN_FILENO;
 ghost use mathlib.Core.Path.{_≡_};
 ghost use mathlib.Core.Bool.{_&&_};
 ghost use Prim.Native.Nat.{_<_};

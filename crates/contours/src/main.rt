@@ -6,7 +6,6 @@ mod input;
 mod print;
 mod say;
 
-use network::Frame;
 use contours_steps::core::intake::FAILED;
 use contours_steps::core::intake::Turn;
 use contours_steps::core::intake::WHOLE;
@@ -15,6 +14,7 @@ use contours_steps::core::intake::overlong_line;
 use contours_steps::words::Given;
 use contours_steps::words::MOST_LEVELS;
 use contours_steps::words::words_refusal;
+use network::Frame;
 ghost use mathlib.Core.Path.{_≡_};
 ghost use lib.ListN.{length};
 ghost use Rattle.contours_steps.specs.Answer.{ReadWhole, ReadFailed, ReadFull};

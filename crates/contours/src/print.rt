@@ -2,12 +2,12 @@
 // the part before it. The text of a level's contours goes out in parts of up to 4,096 bytes, so it may have any length.
 use contour::core::MOST_EDGES;
 use contour::core::Progress;
-use libc::STDOUT_FILENO;
-use network::Frame;
 use contours_steps::core::intake::Turn;
 use contours_steps::core::put::put_refused;
 use contours_steps::core::put::put_start;
 use contours_steps::words::Given;
+use libc::STDOUT_FILENO;
+use network::Frame;
 use wkt::core::first;
 use wkt::core::print_part;
 ghost use mathlib.Core.Path.{_≡_};

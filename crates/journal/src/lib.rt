@@ -2,11 +2,11 @@
 mod making;
 mod numbers;
 
-use soundness::is_sound;
 use making::make_call;
 use numbers::count_calls;
 use numbers::is_laid_out;
 use numbers::width_of;
+use soundness::is_sound;
 ghost use mathlib.Core.Path.{_≡_};
 ghost use mathlib.Core.Bool.{true};
 ghost use Prim.Native.Nat.{_≤_};

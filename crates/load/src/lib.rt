@@ -2,11 +2,11 @@
 mod sums;
 mod tally;
 
+use level::Level;
 use load_rules::Counts;
 use load_rules::Groups;
 use load_rules::Judged;
 use load_rules::Load;
-use level::Level;
 use movement::limits::MAX_DAYS;
 use movement::limits::MAX_LIMIT;
 use sums::counts_of;

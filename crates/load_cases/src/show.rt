@@ -1,6 +1,6 @@
 // A load or a verdict, each number beside what it should be.
-use load_rules::Judged;
 use libc::STDOUT_FILENO;
+use load_rules::Judged;
 
 // What a load should answer: its refusal, its total, 1 and the level or 0 and 0 for below zero, and V and U of the first and the last group.
 pub struct Want {

@@ -1,7 +1,7 @@
 // The load and the verdict at a point of a book.
+use level::Level;
 use load_rules::Counts;
 use load_rules::Judged;
-use level::Level;
 ghost use mathlib.Core.Path.{_≡_};
 ghost use mathlib.Core.List.{_∷_, []};
 ghost use Prim.Native.Nat.{_≤_, _<_};

@@ -1,10 +1,10 @@
 // The report's text, put into a buffer that has room for the longest.
 use crate::totals::added_up;
-use load_rules::Counts;
-use load_rules::Load;
 use level::Level;
 use level::Verdict;
 use load::load_at;
+use load_rules::Counts;
+use load_rules::Load;
 use register::limits::Limits;
 use text::core::put_byte;
 use text::core::put_level;
