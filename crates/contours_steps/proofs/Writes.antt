@@ -3,8 +3,8 @@ use Prim.Native.Nat.{ℕ, _+_, _≤_}
 use mathlib.Core.List.{List, _++_}
 use native.Mathlib.Omega.{arith}
 use lib.ListN.{length, length-append}
-use Rattle.text.specs.Put.{Wrote}
-use Rattle.text.proofs.Puts.{wrote-then, length-wrote}
+use Rattle.room.specs.Room.{Wrote}
+use Rattle.room.proofs.Laws.{wrote-then, length-wrote}
 
 -- five of them
 module _ {s s₁ s₂ s₃ s₄ s₅ a b c d e : List ℕ} {i₁ i₂ i₃ i₄ i₅ : ℕ}

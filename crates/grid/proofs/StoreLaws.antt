@@ -9,7 +9,7 @@ use borrow.Author.Tests.{eqb-true}
 use lib.ListN.{length, getD, take, drop, length-append, length-drop, length-map}
 use lib.Seq.{drop-drop, getD-drop, drop-at, length-take-le}
 use Rattle.text.specs.Field.{upTo}
-use Rattle.text.specs.Put.{put}
+use Rattle.room.specs.Room.{put}
 use Rattle.refusal.proofs.Laws.{and-left, and-right}
 use Rattle.grid.specs.Row.{all, valuesOf, hasValues, levelIn, rowLevels, levelsOf}
 use Rattle.grid.specs.Read.{over}

@@ -11,9 +11,9 @@ use lib.ListN.{length, getD, take, drop, set, length-append, length-drop, drop-o
 use lib.Seq.{take-add, take-all, length-take-le, drop-cons, getD-take, getD-drop}
 use Rattle.text.specs.Number.{showWhole, showTwo, showLevel}
 use Rattle.text.specs.Field.{joinedBy}
-use Rattle.text.specs.Put.{put, Wrote}
+use Rattle.room.specs.Room.{put, Wrote}
 use Rattle.text.proofs.Digits.{either}
-use Rattle.text.proofs.Puts.{wrote-then, wrote-none, length-wrote}
+use Rattle.room.proofs.Laws.{wrote-then, wrote-none, length-wrote}
 use Rattle.text.proofs.Shown.{whole-one, whole-longer, shown-width, level-most}
 use Rattle.network.specs.Edges.{Checked, Sized}
 use Rattle.network.specs.Limits.{mostLevel, mostOrigin}

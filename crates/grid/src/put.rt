@@ -8,7 +8,7 @@ ghost use mathlib.Core.List.{[], _∷_};
 ghost use Prim.Native.Nat.{_+_, _≤_};
 ghost use lib.ListN.{length};
 ghost use Rattle.text.specs.Number.{showLevel};
-ghost use Rattle.text.specs.Put.{Wrote};
+ghost use Rattle.room.specs.Room.{Wrote};
 ghost use Rattle.network.specs.Edges.{Checked, Sized};
 ghost use Rattle.network.specs.Limits.{mostLevel, mostOrigin};
 ghost use Rattle.grid.specs.Write.{keyLine, rowLine, rowLines, textOf, showNetwork};

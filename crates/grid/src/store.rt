@@ -7,7 +7,7 @@ use text::number::level;
 ghost use mathlib.Core.Path.{_≡_};
 ghost use Prim.Native.Nat.{_+_, _-_, _*_, _≤_};
 ghost use lib.ListN.{length};
-ghost use Rattle.text.specs.Put.{put};
+ghost use Rattle.room.specs.Room.{put};
 ghost use Rattle.grid.specs.Row.{valuesOf, levelIn, rowLevels, levelsOf};
 ghost use Rattle.grid.specs.Read.{numbersOf, over};
 ghost use Rattle.grid.specs.Steps.{linesAt, Rows};

@@ -9,7 +9,7 @@ use borrow.Author.Tests.{le-leb, lt-leb, ne-eqb, eqb-true}
 use lib.Dec.{leb, eqb, leb·zero}
 use lib.ListN.{length, drop}
 use lib.Seq.{sets, sets-eq}
-use Rattle.text.specs.Put.{put}
+use Rattle.room.specs.Room.{put}
 use Rattle.text.proofs.Digits.{either}
 use Rattle.register.proofs.Rows.{first-none}
 use Rattle.mapping.specs.Many.{over}

@@ -6,8 +6,7 @@ use mathlib.Core.Bool.{Bool, cond, _&&_}
 use mathlib.Core.List.{List}
 use lib.ListN.{length}
 use lib.Dec.{eqb, leb}
-use Rattle.refusal.specs.Refuse.{refuse}
-use Rattle.register.specs.Row.{first}
+use Rattle.refusal.specs.Refuse.{refuse, first}
 use Rattle.mapping.specs.Many.{over}
 
 -- the room is no shorter than the answer

@@ -16,7 +16,7 @@ use Rattle.text.specs.Number.{isGot, valueOf}
 use Rattle.text.specs.Field.{countOf, fieldOf, joinedBy}
 use Rattle.text.specs.Index.{every, many, listing}
 use Rattle.text.specs.Line.{bareLine}
-use Rattle.text.specs.Put.{put}
+use Rattle.room.specs.Room.{put}
 use Rattle.text.specs.declared.number.Number.{Number}
 use Rattle.text.specs.declared.number.Number.the-variants.{Got, Off}
 use Rattle.text.proofs.Digits.{either}

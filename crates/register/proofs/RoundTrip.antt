@@ -14,7 +14,7 @@ use Rattle.refusal.proofs.Ranges.{within-at}
 use Rattle.text.specs.Number.{isGot, valueOf}
 use Rattle.text.specs.Field.{countOf, fieldOf}
 use Rattle.text.specs.Index.{many, listing}
-use Rattle.text.specs.Put.{put}
+use Rattle.room.specs.Room.{put}
 use Rattle.text.specs.declared.number.Number.the-variants.{Got}
 use Rattle.text.proofs.Digits.{either}
 use Rattle.text.proofs.Fields.{Free, join-field, join-count-all}

@@ -7,7 +7,7 @@ use native.Mathlib.Omega.{arith}
 use borrow.Author.Tests.{leb-true, ltb-true, eqb-true, eqb-false}
 use lib.ListN.{length, take}
 use lib.Dec.{leb, ltb, eqb}
-use Rattle.refusal.specs.Refuse.{refuse}
+use Rattle.refusal.specs.Refuse.{refuse, first}
 use Rattle.refusal.specs.Range.{allWithin}
 use Rattle.refusal.proofs.Laws.{and-left, and-right, refuse-none}
 use Rattle.text.specs.Field.{countOf}
@@ -15,7 +15,7 @@ use Rattle.text.specs.Same.{sameText}
 use Rattle.text.specs.declared.number.Number.the-variants.{Got}
 use Rattle.text.proofs.Digits.{either, passed}
 use Rattle.register.specs.Cell.{cellsOf}
-use Rattle.register.specs.Row.{pointsFit, layoutOf, faultOf, first, rowRefusal}
+use Rattle.register.specs.Row.{pointsFit, layoutOf, faultOf, rowRefusal}
 use Rattle.register.specs.Header.{headerOf}
 use Rattle.register.specs.declared.cell.Table.{Table}
 use Rattle.register.specs.declared.row.Layout.{Layout}

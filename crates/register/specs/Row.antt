@@ -5,13 +5,13 @@ use mathlib.Core.List.{List, [], _∷_}
 use mathlib.Core.Bool.{Bool, cond, _&&_}
 use lib.ListN.{length, getD, take, replicate}
 use lib.Dec.{leb, eqb}
-use Rattle.refusal.specs.Refuse.{refuse}
+use Rattle.refusal.specs.Refuse.{refuse, first}
 use Rattle.refusal.specs.Range.{allWithin}
 use Rattle.movement.specs.Limits.{maxPoints, maxLevel}
 use Rattle.movement.specs.Rules.{fieldsFit, identityFits}
 use Rattle.text.specs.Line.{bareLine}
 use Rattle.text.specs.Index.{listing}
-use Rattle.text.specs.Put.{put}
+use Rattle.room.specs.Room.{put}
 use Rattle.register.specs.Cell.{cellsOf}
 use Rattle.register.specs.declared.cell.Table.the-variants.{Register}
 use Rattle.register.specs.declared.cell.Cells.{Cells}
@@ -59,10 +59,6 @@ layoutOf n s = cond (pointsFit n) (cellsLayout n (cellsOf Register (5 + n) (bare
 unfoldable pub faultOf : Fields → Bool → ℕ
 faultOf f levelsFit =
     refuse 1 (fieldsFit (f .ty) (f .kind) (f .time) (f .mass)) (refuse 3 (identityFits (f .identity)) (refuse 7 levelsFit 0))
-
--- a refusal, or what follows where there is none
-abbrev pub first : ℕ → ℕ → ℕ
-first refusal next = cond (eqb refusal 0) next refusal
 
 -- the refusal of a row read into `room` levels: 16, 1, 3, 7, 14
 unfoldable pub rowRefusal : ℕ → Layout → ℕ → ℕ

@@ -5,14 +5,14 @@ use mathlib.Core.List.{List, [], _∷_, _++_}
 use mathlib.Core.Bool.{Bool, true, cond, _&&_}
 use lib.ListN.{length, getD}
 use lib.Dec.{leb, eqb}
-use Rattle.refusal.specs.Refuse.{refuse}
+use Rattle.refusal.specs.Refuse.{refuse, first}
 use Rattle.refusal.specs.Range.{allWithin}
 use Rattle.movement.specs.Rules.{levelsFit}
 use Rattle.text.specs.Field.{joinedBy}
 use Rattle.text.specs.Index.{listing}
-use Rattle.text.specs.Put.{put}
+use Rattle.room.specs.Room.{put}
 use Rattle.register.specs.Cell.{cellText, topOf}
-use Rattle.register.specs.Row.{pointsFit, faultOf, first}
+use Rattle.register.specs.Row.{pointsFit, faultOf}
 use Rattle.register.specs.declared.row.Fields.{Fields}
 use Rattle.register.specs.declared.write.Written.{Written}
 use Rattle.register.specs.declared.write.Written.the-variants.{Size, Refused}

@@ -6,7 +6,7 @@ use text::number::Number;
 ghost use mathlib.Core.Path.{_≡_};
 ghost use Prim.Native.Nat.{_+_, _≤_, _<_};
 ghost use lib.ListN.{length};
-ghost use Rattle.text.specs.Put.{Wrote};
+ghost use Rattle.room.specs.Room.{Wrote};
 ghost use Rattle.register.specs.Clock.{twoAt, timeOf, showTime};
 
 // Two digits at a place, for a number under `bound`.

@@ -10,7 +10,7 @@ use text::line::bare_length;
 ghost use mathlib.Core.Path.{_≡_};
 ghost use Prim.Native.Nat.{_≤_};
 ghost use lib.ListN.{length, take};
-ghost use Rattle.text.specs.Put.{put};
+ghost use Rattle.room.specs.Room.{put};
 ghost use Rattle.register.specs.Row.{eightFrom, offLayout, rowLayout, cellsLayout, layoutOf, faultOf, rowRefusal, RowRead};
 
 // The fields of a row: type 0 large, 1 small, 2 helicopter; kind 0 start, 1 landing; time a second of the day; computed 1 or 0.

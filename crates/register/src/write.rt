@@ -13,7 +13,7 @@ ghost use mathlib.Core.Path.{_≡_};
 ghost use mathlib.Core.List.{_++_};
 ghost use Prim.Native.Nat.{_+_, _≤_, _<_};
 ghost use lib.ListN.{length, getD, take};
-ghost use Rattle.text.specs.Put.{put, Wrote};
+ghost use Rattle.room.specs.Room.{put, Wrote};
 ghost use Rattle.register.specs.Cell.{cellText, topOf};
 ghost use Rattle.register.specs.Write.{columns, commaAt, Writable, showLine, showRow, rowLevelsFit, writeFault, RowWritten};
 

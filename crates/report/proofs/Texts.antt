@@ -8,8 +8,8 @@ use native.Mathlib.Omega.{arith}
 use lib.Dec.{eqb}
 use lib.ListN.{length, take}
 use borrow.Author.Tests.{eqb-true, eqb-false}
-use Rattle.text.specs.Put.{Wrote}
-use Rattle.text.proofs.Puts.{wrote-front, wrote-fits}
+use Rattle.room.specs.Room.{Wrote}
+use Rattle.room.proofs.Laws.{wrote-front, wrote-fits}
 use Rattle.text.proofs.Digits.{either}
 use Rattle.book_rules.specs.Columns.{Book}
 use Rattle.book_rules.specs.History.{emptyBook}

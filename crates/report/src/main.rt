@@ -18,7 +18,7 @@ ghost use Rattle.book_rules.specs.Columns.{bookOf};
 ghost use Rattle.book_rules.specs.History.{emptyBook};
 ghost use Rattle.report_text.specs.Text.{refusedText, bookText};
 ghost use Rattle.report_text.specs.Room.{longestReport, WroteWithin, LimitsFit};
-ghost use Rattle.text.specs.Put.{Wrote};
+ghost use Rattle.room.specs.Room.{Wrote};
 ghost use Rattle.report_rules.specs.Report.{bookRows, Written};
 ghost use Rattle.report.specs.Steps.{Cleared, Sized, AnsweredIn, WrittenIn};
 

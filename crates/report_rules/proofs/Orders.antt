@@ -10,7 +10,7 @@ use lib.Dec.{eqb, leb}
 use lib.ListN.{length, getD}
 use borrow.Author.Tests.{eq-eqb, ne-eqb, eqb-true, eqb-false, le-leb, lt-leb, leb-true, leb-false}
 use Rattle.refusal.specs.Range.{allWithin}
-use Rattle.refusal.specs.Refuse.{refuse}
+use Rattle.refusal.specs.Refuse.{refuse, first}
 use Rattle.refusal.proofs.Laws.{and-left, and-right}
 use Rattle.refusal.proofs.Ranges.{within-at}
 use Rattle.movement.specs.Limits.{maxPoints, maxLevel}
@@ -20,7 +20,7 @@ use Rattle.text.proofs.Digits.{either}
 use Rattle.book_rules.specs.Order.{Given}
 use Rattle.book_rules.proofs.Order.{Decides, decides, given-by}
 use Rattle.register.specs.declared.row.Fields.{Fields}
-use Rattle.register.specs.Row.{pointsFit, layoutOf, faultOf, first, rowRefusal}
+use Rattle.register.specs.Row.{pointsFit, layoutOf, faultOf, rowRefusal}
 use Rattle.register.specs.Write.{showRow, zeroWhereBlank, rowLevelsFit, writeFault, writeRefusal}
 use Rattle.report_rules.specs.RowOrders.{Ranged, Identified, InReadOrder, Written, InWriteOrder}
 use Rattle.report_rules.proofs.LimitsExact.{within-all}

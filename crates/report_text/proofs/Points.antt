@@ -10,8 +10,8 @@ use Rattle.book_rules.specs.Columns.{Book}
 use Rattle.load_rules.specs.declared.Load.{Load}
 use Rattle.load_rules.specs.Load.{bookLoad}
 use Rattle.text.specs.Index.{listing}
-use Rattle.text.specs.Put.{Wrote}
-use Rattle.text.proofs.Puts.{wrote-then, wrote-none}
+use Rattle.room.specs.Room.{Wrote}
+use Rattle.room.proofs.Laws.{wrote-then, wrote-none}
 use Rattle.register.specs.declared.limits.Limits.{Limits}
 use Rattle.report_text.specs.Text.{headerLine, lineEnd, ended, line, pointFields, pointLine, refusedText, pointsText, bookRefusal, bookText}
 use Rattle.report_text.specs.Room.{WroteWithin}

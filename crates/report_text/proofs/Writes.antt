@@ -6,8 +6,8 @@ use Prim.Native.Nat.{ℕ, _+_, _^_, _≤_, _<_}
 use native.Mathlib.Omega.{arith}
 use lib.ListN.{length, length-append}
 use Rattle.text.specs.Number.{showNumber, showLevel}
-use Rattle.text.specs.Put.{Wrote}
-use Rattle.text.proofs.Puts.{wrote-then}
+use Rattle.room.specs.Room.{Wrote}
+use Rattle.room.proofs.Laws.{wrote-then}
 use Rattle.text.proofs.Shown.{shown-width, level-most}
 use Rattle.report_text.specs.Room.{WroteWithin}
 

@@ -4,7 +4,7 @@ use Prim.Native.Nat.{ℕ, _+_, _≤_, _<_}
 use mathlib.Core.Path.{_≡_}
 use mathlib.Core.List.{List}
 use lib.ListN.{length, getD}
-use Rattle.text.specs.Put.{Wrote}
+use Rattle.room.specs.Room.{Wrote}
 use Rattle.register.specs.declared.limits.Limits.{Limits}
 use Rattle.report_text.specs.declared.core.Report.{Report}
 use Rattle.book_rules.specs.Columns.{Book}

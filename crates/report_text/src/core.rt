@@ -16,7 +16,7 @@ ghost use Prim.Native.Nat.{_+_, _≤_, _<_};
 ghost use lib.ListN.{length};
 ghost use Rattle.level.specs.Level.{levelValue, verdictOf};
 ghost use Rattle.book_rules.specs.Columns.{bookOf};
-ghost use Rattle.text.specs.Put.{Wrote};
+ghost use Rattle.room.specs.Room.{Wrote};
 ghost use Rattle.text.specs.Number.{showNumber, showLevel};
 ghost use Rattle.report_text.specs.Totals.{computedIn, missingIn};
 ghost use Rattle.report_text.specs.Text.{lineEnd, line, levelText, verdictText, pointFields, headerLine, refusedText, pointsText};

@@ -3,5 +3,4 @@ pub mod Field
 pub mod Line
 pub mod Same
 pub mod Index
-pub mod Put
 pub mod Spelled

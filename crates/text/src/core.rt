@@ -8,7 +8,7 @@ ghost use lib.ListN.{length, drop};
 ghost use Rattle.text.specs.Number.{digitsOf, showNumber, showWhole, showTwo, showLevel};
 ghost use Rattle.text.specs.Field.{upTo};
 ghost use Rattle.text.specs.Line.{endAt, firstLine};
-ghost use Rattle.text.specs.Put.{Wrote};
+ghost use Rattle.room.specs.Room.{Wrote};
 
 // The value of a run of at most seven digits.
 pub fn digits(s: &[u8]) -> Number

@@ -8,8 +8,8 @@ use borrow.Author.Tests.{ltb-true, ltb-false}
 use lib.Dec.{ltb}
 use lib.ListN.{length, take, drop, length-append}
 use lib.Seq.{take-at, drop-at, drop-drop, length-take-le}
-use Rattle.text.specs.Put.{put, Wrote}
-use Rattle.text.proofs.Puts.{length-wrote}
+use Rattle.room.specs.Room.{put, Wrote}
+use Rattle.room.proofs.Laws.{length-wrote}
 use Rattle.network.specs.declared.Frame.{Frame}
 use Rattle.wkt.specs.declared.Cursor.{Cursor}
 use Rattle.wkt.specs.Parts.{Reached, leftOf, pieceOf, nextOf, walk, pieces}

@@ -4,7 +4,7 @@ ghost use mathlib.Core.Bool.{true, cond};
 ghost use Prim.Native.Nat.{_+_, _-_, _≤_, _<_};
 ghost use lib.Dec.{ltb};
 ghost use lib.ListN.{length};
-ghost use Rattle.text.specs.Put.{Wrote};
+ghost use Rattle.room.specs.Room.{Wrote};
 ghost use Rattle.network.specs.Edges.{edges, Checked};
 ghost use Rattle.network.specs.Crossed.{crossedAt};
 ghost use Rattle.wkt.specs.Text.{showThree, showMetres, showSpot, placeText};

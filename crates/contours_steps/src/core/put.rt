@@ -5,7 +5,7 @@ use text::core::put_level;
 use text::core::put_text;
 ghost use Prim.Native.Nat.{_+_, _≤_, _<_};
 ghost use lib.ListN.{length};
-ghost use Rattle.text.specs.Put.{Wrote};
+ghost use Rattle.room.specs.Room.{Wrote};
 ghost use Rattle.contours_steps.specs.Sheet.{lineStart, showCount, refusedLine};
 
 // A level and its semicolon.

@@ -2,7 +2,7 @@
 use mathlib.Core.Path.{sym}
 use native.Mathlib.Omega.{arith}
 use lib.Seq.{length-take-le}
-use Rattle.text.proofs.Puts.{wrote-front, wrote-fits}
+use Rattle.room.proofs.Laws.{wrote-front, wrote-fits}
 use borrow.Author.Needs.{needs}
 use Rattle.contours.proofs.print.refused.Statement.{statement}
 use Rattle.contours.proofs.print.refused.Tie as tie

@@ -5,7 +5,7 @@ use Prim.Native.Nat.{ℕ, _+_}
 use native.Mathlib.Omega.{arith}
 use lib.ListN.{length}
 use lib.Seq.{length-take-le}
-use Rattle.text.proofs.Puts.{wrote-front, wrote-fits}
+use Rattle.room.proofs.Laws.{wrote-front, wrote-fits}
 use borrow.Author.Needs.{needs}
 use Rattle.contours.proofs.print.start.Statement.{statement}
 use Rattle.contours.proofs.print.start.Tie as tie

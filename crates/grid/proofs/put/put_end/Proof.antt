@@ -1,5 +1,5 @@
 -- `grid::put::put_end` meets its contract. Assumes nothing.
-use Rattle.text.proofs.Puts.{wrote-then}
+use Rattle.room.proofs.Laws.{wrote-then}
 use borrow.Author.Needs.{needs}
 use Rattle.grid.proofs.put.put_end.Statement.{statement}
 use Rattle.grid.proofs.put.put_end.Tie as tie

@@ -3,7 +3,7 @@ use Prim.Native.Nat.{_+_, _≤_}
 use native.Mathlib.Omega.{arith}
 use lib.ListN.{length}
 use Rattle.text.specs.Number.{showWhole}
-use Rattle.text.proofs.Puts.{wrote-then}
+use Rattle.room.proofs.Laws.{wrote-then}
 use Rattle.grid.specs.Write.{keyLine}
 use Rattle.grid.proofs.WriteLaws.{ended-length, key-length}
 use borrow.Author.Needs.{needs}

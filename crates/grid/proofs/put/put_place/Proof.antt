@@ -3,7 +3,7 @@ use Prim.Native.Nat.{_+_, _≤_}
 use native.Mathlib.Omega.{arith}
 use lib.ListN.{length, length-append}
 use mathlib.Core.List.{_++_}
-use Rattle.text.proofs.Puts.{wrote-then}
+use Rattle.room.proofs.Laws.{wrote-then}
 use Rattle.grid.specs.File.{xllcenter, yllcenter, cellsize}
 use Rattle.grid.specs.Write.{keyLine}
 use Rattle.grid.specs.Steps.{ended}

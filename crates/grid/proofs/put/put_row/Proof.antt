@@ -1,6 +1,6 @@
 -- `grid::put::put_row` meets its contract. Assumes nothing.
 use native.Mathlib.Omega.{arith}
-use Rattle.text.proofs.Puts.{wrote-then}
+use Rattle.room.proofs.Laws.{wrote-then}
 use Rattle.grid.specs.Write.{rowLine}
 use Rattle.grid.proofs.WriteLaws.{ended-length}
 use borrow.Author.Needs.{needs}

@@ -2,7 +2,7 @@
 use mathlib.Core.Path.{_≡_, refl, sym, subst, ap, _∙_}
 use mathlib.Core.List.{_++_}
 use lib.ListN.{length, drop, length-append, length-drop}
-use Rattle.text.specs.Put.{Wrote}
+use Rattle.room.specs.Room.{Wrote}
 use Rattle.grid.specs.Steps.{ended, Quiet}
 use Rattle.grid.proofs.WriteLaws.{Writing, writing-start, writing-room, writing-more, writing-end, row-inside, part-row, quiet-part, rows-more, rows-none}
 use Prim.Native.Nat.{_+_, _-_, _*_, _≤_}

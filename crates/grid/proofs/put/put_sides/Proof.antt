@@ -2,7 +2,7 @@
 use Prim.Native.Nat.{_+_, _≤_}
 use native.Mathlib.Omega.{arith}
 use lib.ListN.{length, length-append}
-use Rattle.text.proofs.Puts.{wrote-then}
+use Rattle.room.proofs.Laws.{wrote-then}
 use Rattle.grid.specs.File.{ncols, nrows}
 use Rattle.grid.specs.Write.{keyLine}
 use Rattle.grid.specs.Steps.{ended}

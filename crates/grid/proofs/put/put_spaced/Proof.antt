@@ -1,5 +1,5 @@
 -- `grid::put::put_spaced` meets its contract. Assumes nothing.
-use Rattle.text.proofs.Puts.{wrote-then}
+use Rattle.room.proofs.Laws.{wrote-then}
 use borrow.Author.Needs.{needs}
 use Rattle.grid.proofs.put.put_spaced.Statement.{statement}
 use Rattle.grid.proofs.put.put_spaced.Tie as tie

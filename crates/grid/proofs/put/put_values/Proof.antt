@@ -6,7 +6,7 @@ use native.Mathlib.Omega.{arith}
 use borrow.Author.Needs.{needs}
 use lib.ListN.{length, getD, drop, length-append}
 use Rattle.text.specs.Number.{showLevel}
-use Rattle.text.proofs.Puts.{wrote-then}
+use Rattle.room.proofs.Laws.{wrote-then}
 use Rattle.grid.proofs.WriteLaws.{Writing, writing-start, writing-room, writing-more, writing-end, spacedOf, spaced-more, spaced-none, row-first}
 use Rattle.grid.proofs.put.put_values.Statement.{statement}
 use Rattle.grid.proofs.put.put_values.Tie as tie

@@ -5,8 +5,8 @@ use native.Mathlib.Omega.{arith}
 use borrow.Author.Needs.{needs}
 use lib.ListN.{length, take, set, length-set}
 use lib.Seq.{take-length}
-use Rattle.text.specs.Put.{put}
-use Rattle.text.proofs.Puts.{put-step, wrote-none}
+use Rattle.room.specs.Room.{put}
+use Rattle.room.proofs.Laws.{put-step, wrote-none}
 use Rattle.grid.specs.Row.{rowLevels}
 use Rattle.grid.proofs.ValueLaws.{end-within}
 use Rattle.grid.proofs.StoreLaws.{StoreAt, store-start, store-here, store-room, store-next, store-last, length-levels}

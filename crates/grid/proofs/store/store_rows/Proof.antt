@@ -4,7 +4,7 @@ use Prim.Native.Nat.{_+_, _-_, _*_, _≤_}
 use mathlib.Core.Path.{_≡_, refl, sym, ap, _∙_}
 use native.Mathlib.Omega.{arith}
 use lib.ListN.{length}
-use Rattle.text.specs.Put.{put}
+use Rattle.room.specs.Room.{put}
 use Rattle.grid.specs.Row.{valuesOf, rowLevels, levelsOf}
 use Rattle.grid.specs.Read.{over}
 use Rattle.grid.specs.Steps.{linesAt, lineFrom, Rows}

@@ -1,6 +1,6 @@
 -- `register::clock::put_time` meets its contract: five writes, each past the one before. Assumes nothing.
 use native.Mathlib.Omega.{arith}
-use Rattle.text.proofs.Puts.{wrote-then}
+use Rattle.room.proofs.Laws.{wrote-then}
 use borrow.Author.Needs.{needs}
 use Rattle.register.proofs.clock.put_time.Statement.{statement}
 use Rattle.register.proofs.clock.put_time.Tie as tie

@@ -3,8 +3,8 @@ use Prim.Native.Nat.{_+_, _-_, _≤_}
 use mathlib.Core.Path.{_≡_, refl, _∙_}
 use native.Mathlib.Omega.{arith}
 use lib.ListN.{length, take, length-set}
-use Rattle.text.specs.Put.{put}
-use Rattle.text.proofs.Puts.{put-step, wrote-none}
+use Rattle.room.specs.Room.{put}
+use Rattle.room.proofs.Laws.{put-step, wrote-none}
 use borrow.Author.Needs.{needs}
 use Rattle.register.proofs.row.put_levels.Statement.{statement}
 use Rattle.register.proofs.row.put_levels.Tie as tie

@@ -2,7 +2,7 @@
 use mathlib.Core.Path.{_≡_, sym, ap, _∙_}
 use borrow.Author.Tests.{eq-eqb, ne-eqb}
 use lib.ListN.{length, take}
-use Rattle.text.specs.Put.{put}
+use Rattle.room.specs.Room.{put}
 use Rattle.register.specs.Row.{layoutOf, rowRefusal, fieldList}
 use Rattle.register.proofs.Rows.{row-none, layout-points}
 use borrow.Author.Needs.{needs}

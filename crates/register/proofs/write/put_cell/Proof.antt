@@ -1,7 +1,7 @@
 -- `register::write::put_cell` meets its contract: each column by its own writer. Assumes nothing.
 use Prim.Native.Nat.{_<_}
 use native.Mathlib.Omega.{arith}
-use Rattle.text.proofs.Puts.{wrote-none}
+use Rattle.room.proofs.Laws.{wrote-none}
 use Rattle.text.proofs.Shown.{level-most, shown-width}
 use Rattle.register.specs.Cell.{shownCell, topOf}
 use Rattle.register.proofs.Columns.{text-blank, text-marked, text-head, shown-level, top-level}

@@ -1,7 +1,7 @@
 -- `register::write::put_field` meets its contract: the comma, and past it the column. Assumes nothing.
 use native.Mathlib.Omega.{arith}
 use borrow.Author.Tests.{eq-eqb, ne-eqb}
-use Rattle.text.proofs.Puts.{wrote-then}
+use Rattle.room.proofs.Laws.{wrote-then}
 use Rattle.register.proofs.Columns.{text-most}
 use borrow.Author.Needs.{needs}
 use Rattle.register.proofs.write.put_field.Statement.{statement}

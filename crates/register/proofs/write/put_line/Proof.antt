@@ -6,8 +6,8 @@ use native.Mathlib.Omega.{arith}
 use lib.ListN.{length, length-append}
 use Rattle.text.specs.Field.{joinedBy}
 use Rattle.text.specs.Index.{listing}
-use Rattle.text.specs.Put.{Wrote}
-use Rattle.text.proofs.Puts.{wrote-then, wrote-none}
+use Rattle.room.specs.Room.{Wrote}
+use Rattle.room.proofs.Laws.{wrote-then, wrote-none}
 use Rattle.register.specs.Cell.{cellText, topOf}
 use Rattle.register.specs.Write.{commaAt, textAt, showLine}
 use Rattle.register.proofs.Columns.{text-most}

@@ -4,7 +4,7 @@ use mathlib.Core.Path.{_∙_}
 use mathlib.Core.List.{[], _∷_, _++_, append-assoc}
 use native.Mathlib.Omega.{arith}
 use lib.ListN.{length-append}
-use Rattle.text.proofs.Puts.{wrote-then}
+use Rattle.room.proofs.Laws.{wrote-then}
 use Rattle.register.specs.Write.{showLine}
 use Rattle.register.proofs.write.put_row.Statement.{statement}
 use Rattle.register.proofs.write.put_row.Tie as tie

@@ -4,8 +4,8 @@ use mathlib.Core.List.{[], _∷_}
 use native.Mathlib.Omega.{arith}
 use borrow.Author.Tests.{le-leb, lt-leb, eq-eqb, ne-eqb}
 use lib.ListN.{length}
-use Rattle.text.specs.Put.{put}
-use Rattle.text.proofs.Puts.{wrote-front, wrote-fits}
+use Rattle.room.specs.Room.{put}
+use Rattle.room.proofs.Laws.{wrote-front, wrote-fits}
 use Rattle.register.specs.Write.{showRow, writeFault, writeRefusal}
 use Rattle.register.proofs.Writes.{fault-fine, fine-writable}
 use borrow.Author.Needs.{needs}

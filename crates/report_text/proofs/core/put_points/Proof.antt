@@ -7,7 +7,7 @@ use native.Mathlib.Omega.{arith}
 use lib.ListN.{length, getD}
 use borrow.Author.Needs.{needs}
 use Rattle.book_rules.specs.Columns.{Book, bookOf}
-use Rattle.text.specs.Put.{Wrote}
+use Rattle.room.specs.Room.{Wrote}
 use Rattle.report_text.proofs.Points.{Passed, points-none, points-more, points-all}
 use Rattle.report_text.proofs.Levels.{load-level}
 use Rattle.report_text.proofs.core.put_points.Statement.{statement}

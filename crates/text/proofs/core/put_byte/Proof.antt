@@ -1,6 +1,6 @@
 -- `text::core::put_byte` meets its contract: a store is text of one byte. Assumes nothing.
 use mathlib.Core.Path.{refl}
-use Rattle.text.proofs.Puts.{put-one}
+use Rattle.room.proofs.Laws.{put-one}
 use borrow.Author.Needs.{needs}
 use Rattle.text.proofs.core.put_byte.Statement.{statement}
 use Rattle.text.proofs.core.put_byte.Tie as tie

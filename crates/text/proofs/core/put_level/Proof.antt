@@ -4,7 +4,7 @@ use mathlib.Core.List.{_∷_}
 use native.Mathlib.Omega.{arith}
 use lib.ListN.{length, length-append}
 use Rattle.text.specs.Number.{showWhole, showTwo}
-use Rattle.text.proofs.Puts.{wrote-then}
+use Rattle.room.proofs.Laws.{wrote-then}
 use borrow.Author.Needs.{needs}
 use Rattle.text.proofs.core.put_level.Statement.{statement}
 use Rattle.text.proofs.core.put_level.Tie as tie

@@ -4,8 +4,8 @@ use mathlib.Core.Path.{_≡_, refl, _∙_}
 use native.Mathlib.Omega.{arith}
 use lib.ListN.{length, take, length-set}
 use lib.Seq.{take-length}
-use Rattle.text.specs.Put.{put}
-use Rattle.text.proofs.Puts.{put-step, wrote-none}
+use Rattle.room.specs.Room.{put}
+use Rattle.room.proofs.Laws.{put-step, wrote-none}
 use borrow.Author.Needs.{needs}
 use Rattle.text.proofs.core.put_text.Statement.{statement}
 use Rattle.text.proofs.core.put_text.Tie as tie

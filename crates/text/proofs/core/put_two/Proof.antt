@@ -1,6 +1,6 @@
 -- `text::core::put_two` meets its contract: one byte and one past it. Assumes nothing.
 use native.Mathlib.Omega.{arith}
-use Rattle.text.proofs.Puts.{wrote-then}
+use Rattle.room.proofs.Laws.{wrote-then}
 use borrow.Author.Needs.{needs}
 use Rattle.text.proofs.core.put_two.Statement.{statement}
 use Rattle.text.proofs.core.put_two.Tie as tie

@@ -8,8 +8,8 @@ use lib.ListN.{length}
 use lib.Seq.{length-take-le}
 use denote.Ref.{now}
 use borrow.Author.Needs.{needs}
-use Rattle.text.specs.Put.{Wrote}
-use Rattle.text.proofs.Puts.{length-wrote, wrote-front, wrote-fits}
+use Rattle.room.specs.Room.{Wrote}
+use Rattle.room.proofs.Laws.{length-wrote, wrote-front, wrote-fits}
 use Rattle.wkt.specs.declared.Cursor.{Cursor}
 use Rattle.wkt.specs.Parts.{Reached, leftOf, pieceOf, nextOf}
 use Rattle.wkt.proofs.Lengths.{piece-short}

@@ -4,7 +4,7 @@ use mathlib.Core.List.{_∷_}
 use native.Mathlib.Omega.{arith}
 use lib.ListN.{length, length-append}
 use Rattle.text.specs.Number.{showWhole}
-use Rattle.text.proofs.Puts.{wrote-then}
+use Rattle.room.proofs.Laws.{wrote-then}
 use Rattle.wkt.specs.Text.{showThree}
 use borrow.Author.Needs.{needs}
 use Rattle.wkt.proofs.put.put_metres.Statement.{statement}

@@ -3,7 +3,7 @@ use Prim.Native.Nat.{_+_, _≤_}
 use mathlib.Core.List.{_∷_}
 use native.Mathlib.Omega.{arith}
 use lib.ListN.{length, length-append}
-use Rattle.text.proofs.Puts.{wrote-then}
+use Rattle.room.proofs.Laws.{wrote-then}
 use Rattle.wkt.specs.Text.{showMetres}
 use borrow.Author.Needs.{needs}
 use Rattle.wkt.proofs.put.put_spot.Statement.{statement}

@@ -7,8 +7,8 @@ use native.Mathlib.Omega.{arith}
 use borrow.Author.Tests.{eq-eqb, ne-eqb}
 use denote.Ref.{now}
 use lib.ListN.{length, getD, length-append}
-use Rattle.text.specs.Put.{Wrote}
-use Rattle.text.proofs.Puts.{wrote-then}
+use Rattle.room.specs.Room.{Wrote}
+use Rattle.room.proofs.Laws.{wrote-then}
 use Rattle.wkt.specs.Text.{placeText}
 use Rattle.wkt.specs.Parts.{lineAt, pointsAt, beforeText, pieceOf}
 use Rattle.wkt.proofs.Lengths.{before-short, place-short}

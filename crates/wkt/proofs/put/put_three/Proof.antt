@@ -1,6 +1,6 @@
 -- `wkt::put::put_three` meets its contract. Assumes nothing.
 use native.Mathlib.Omega.{arith}
-use Rattle.text.proofs.Puts.{wrote-then}
+use Rattle.room.proofs.Laws.{wrote-then}
 use borrow.Author.Needs.{needs}
 use Rattle.wkt.proofs.put.put_three.Statement.{statement}
 use Rattle.wkt.proofs.put.put_three.Tie as tie

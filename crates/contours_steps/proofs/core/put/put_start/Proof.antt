@@ -3,7 +3,7 @@ use native.Mathlib.Omega.{arith}
 use mathlib.Core.List.{[], _∷_}
 use lib.ListN.{length-append}
 use Rattle.text.specs.Number.{showLevel}
-use Rattle.text.proofs.Puts.{wrote-then}
+use Rattle.room.proofs.Laws.{wrote-then}
 use Rattle.text.proofs.Shown.{level-most}
 use borrow.Author.Needs.{needs}
 use Rattle.contours_steps.proofs.core.put.put_start.Statement.{statement}
