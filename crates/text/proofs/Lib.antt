@@ -7,4 +7,3 @@ pub mod Fields
 pub mod Lines
 pub mod Sames
 pub mod Indices
-pub mod Puts
