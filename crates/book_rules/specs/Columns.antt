@@ -4,6 +4,8 @@ use mathlib.Core.Bool.{Bool, true, cond, _&&_, _||_}
 use mathlib.Core.List.{List, [], _∷_, _++_}
 use lib.ListN.{length, take, drop, replicate}
 use lib.Dec.{eqb, leb, ltb}
+use denote.Ref.{RefT, now}
+use denote.Triple.Both.{Both}
 use Rattle.refusal.specs.Range.{allWithin}
 use Rattle.movement.specs.Limits.{maxRows, maxPoints, maxIdentity, maxLevel, groupCount}
 
@@ -16,6 +18,19 @@ pub record Book : Type 0 where
 
 abbrev pub bookOf : List ℕ → List ℕ → List ℕ → List ℕ → Book
 bookOf ids gs ms ls = record { identities = ids; groups = gs; marks = ms; levels = ls }
+
+-- a column that is lent, at entry and at exit; and the book of four lent columns: now, before the call and after it
+abbrev pub Lent : Type 0
+Lent = Both (RefT (List ℕ)) (RefT (List ℕ))
+
+abbrev pub bookNow : (ids groups marks levels : RefT (List ℕ)) → Book
+bookNow ids gs ms ls = bookOf (now ids) (now gs) (now ms) (now ls)
+
+abbrev pub bookBefore : (ids groups marks levels : Lent) → Book
+bookBefore ids gs ms ls = bookOf (now (ids .entry)) (now (gs .entry)) (now (ms .entry)) (now (ls .entry))
+
+abbrev pub bookAfter : (ids groups marks levels : Lent) → Book
+bookAfter ids gs ms ls = bookOf (now (ids .exit)) (now (gs .exit)) (now (ms .exit)) (now (ls .exit))
 
 -- Soundness
 

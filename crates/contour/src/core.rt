@@ -10,7 +10,7 @@ use crate::fill;
 use crate::sweep;
 
 // The most edges that a network has: 256 by 256 points.
-pub const MOST_EDGES: usize = 130_560;
+pub const MAX_EDGES: usize = 130_560;
 
 // How many edges are listed, and how many contours.
 pub struct Progress {
@@ -74,6 +74,6 @@ pub fn list_contours(
     ensures { λ r. ⌜ Listed (contoursOf (picture (now (levels .entry)) nx ny v)) (now (edges .entry)) (now (counts .entry)) (now (closed .entry))
         (now (edges .exit)) (now (counts .exit)) (now (closed .exit)) (r .edges) (r .contours) ⌝ }
 {
-    let mut list = [0u8; MOST_EDGES];
+    let mut list = [0u8; MAX_EDGES];
     list_with(levels, nx, ny, v, &mut list, edges, counts, closed)
 }

@@ -9,7 +9,7 @@ ghost use Rattle.network.specs.Edges.{Sized, edges as edgeCount};
 ghost use Rattle.contour_rules.specs.Picture.{picture};
 ghost use Rattle.contour_rules.specs.Contours.{contoursOf};
 ghost use Rattle.contour.specs.Answers.{front, handedOut, contoursOut, outcome, Leaves};
-use crate::core::MOST_EDGES;
+use crate::core::MAX_EDGES;
 use crate::core::Progress;
 use network::Frame;
 
@@ -91,9 +91,9 @@ fn list_apart(
     ensures { λ r. ⌜ Leaves (contoursOut (contoursOf (picture (now (levels .entry)) nx ny v)) (now (edges .entry)) (now (counts .entry)) (now (closed .entry)) (now (sizes .entry)))
         r (now (edges .exit)) (now (counts .exit)) (now (closed .exit)) (now (sizes .exit)) ⌝ }
 {
-    let mut all_edges = [0u32; MOST_EDGES];
-    let mut all_counts = [0u32; MOST_EDGES];
-    let mut all_closed = [0u32; MOST_EDGES];
+    let mut all_edges = [0u32; MAX_EDGES];
+    let mut all_counts = [0u32; MAX_EDGES];
+    let mut all_closed = [0u32; MAX_EDGES];
     let got = core::list_contours(
         levels,
         nx,

@@ -12,24 +12,24 @@ use contours_steps::core::intake::WHOLE;
 use contours_steps::core::intake::line_begun;
 use contours_steps::core::intake::overlong_line;
 use contours_steps::words::Given;
-use contours_steps::words::MOST_LEVELS;
+use contours_steps::words::MAX_CONTOUR_LEVELS;
 use contours_steps::words::words_refusal;
 use network::Frame;
 ghost use mathlib.Core.Path.{_≡_};
 ghost use lib.ListN.{length};
 ghost use Rattle.contours_steps.specs.Answer.{ReadWhole, ReadFailed, ReadFull};
 ghost use Rattle.contours_steps.specs.Intake.{TextRead};
-ghost use Rattle.contours_steps.specs.Sheet.{textRefusal, refusedAt, mostText};
-ghost use Rattle.contours_steps.specs.Words.{Gathered, mostLevels, givenRefusal};
+ghost use Rattle.contours_steps.specs.Sheet.{textRefusal, refusedAt, maxText};
+ghost use Rattle.contours_steps.specs.Words.{Gathered, maxContourLevels, givenRefusal};
 ghost use Rattle.contours_steps.specs.Drawing.{Stored};
 
 // Room for any network that is not refused, and more: 65,536 values of up to 8 bytes, each with the space or line end
 // behind it, and the header.
-const MOST_TEXT: usize = 600_000;
+const MAX_TEXT: usize = 600_000;
 
 fn main() {
-    let mut text = [0u8; MOST_TEXT];
-    let mut asked = [0u32; MOST_LEVELS];
+    let mut text = [0u8; MAX_TEXT];
+    let mut asked = [0u32; MAX_CONTOUR_LEVELS];
     let read = input::read_text(&mut text);
     let given = input::gather(&mut asked);
     answer(&text, read, &asked, given);
@@ -38,8 +38,8 @@ fn main() {
 // What the reading came to: only a network that was read to its end is judged.
 fn answer(text: &[u8], read: Turn, asked: &[u32], given: Given)
     requires { ⌜ TextRead read (now text) ⌝ }
-    requires { ⌜ length (now text) ≡ mostText ⌝ }
-    requires { ⌜ length (now asked) ≡ mostLevels ⌝ }
+    requires { ⌜ length (now text) ≡ maxText ⌝ }
+    requires { ⌜ length (now asked) ≡ maxContourLevels ⌝ }
     requires { ⌜ Gathered given (now asked) ⌝ }
 {
     let size = read.size;
@@ -79,7 +79,7 @@ fn overlong(text: &[u8], read: Turn, asked: &[u32], given: Given)
 fn judged(text: &[u8], read: Turn, asked: &[u32], given: Given)
     requires { ⌜ ReadWhole read (now text) ⌝ }
     requires { ⌜ Gathered given (now asked) ⌝ }
-    requires { ⌜ length (now asked) ≡ mostLevels ⌝ }
+    requires { ⌜ length (now asked) ≡ maxContourLevels ⌝ }
 {
     let mut header = [0u32; 5];
     let mut levels = [0u32; 65536];
@@ -116,7 +116,7 @@ fn refused_line(text: &[u8], why: u32) -> u64
 fn with_words(text: &[u8], read: Turn, header: &[u32], levels: &[u32], asked: &[u32], given: Given)
     requires { ⌜ ReadWhole read (now text) ⌝ }
     requires { ⌜ Gathered given (now asked) ⌝ }
-    requires { ⌜ length (now asked) ≡ mostLevels ⌝ }
+    requires { ⌜ length (now asked) ≡ maxContourLevels ⌝ }
     requires { ⌜ textRefusal (now text) ≡ 0 ⌝ }
     requires { ⌜ Stored (now text) (now header) (now levels) ⌝ }
 {
@@ -133,7 +133,7 @@ fn with_words(text: &[u8], read: Turn, header: &[u32], levels: &[u32], asked: &[
 fn draw(text: &[u8], read: Turn, header: &[u32], levels: &[u32], asked: &[u32], given: Given)
     requires { ⌜ ReadWhole read (now text) ⌝ }
     requires { ⌜ Gathered given (now asked) ⌝ }
-    requires { ⌜ length (now asked) ≡ mostLevels ⌝ }
+    requires { ⌜ length (now asked) ≡ maxContourLevels ⌝ }
     requires { ⌜ textRefusal (now text) ≡ 0 ⌝ }
     requires { ⌜ Stored (now text) (now header) (now levels) ⌝ }
     requires { ⌜ givenRefusal given ≡ 0 ⌝ }

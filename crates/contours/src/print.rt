@@ -1,6 +1,6 @@
 // The sheet on standard output. Each part is put together in a buffer and handed to one write, where it is due: behind
 // the part before it. The text of a level's contours goes out in parts of up to 4,096 bytes, so it may have any length.
-use contour::core::MOST_EDGES;
+use contour::core::MAX_EDGES;
 use contour::core::Progress;
 use contours_steps::core::intake::Turn;
 use contours_steps::core::put::put_refused;
@@ -103,9 +103,9 @@ fn contours(levels: &[u32], frame: Frame, asked: &[u32], v: u32, sent: &mut usiz
     requires { ⌜ Due (sheetOf (now levels) frame (now asked)) (now sent) (networkText (now levels) frame v) ⌝ }
     ensures { λ _. ⌜ now (sent .exit) ≡ now (sent .entry) + length (networkText (now (levels .entry)) frame v) ⌝ }
 {
-    let mut edges = [0u32; MOST_EDGES];
-    let mut counts = [0u32; MOST_EDGES];
-    let mut closed = [0u32; MOST_EDGES];
+    let mut edges = [0u32; MAX_EDGES];
+    let mut counts = [0u32; MAX_EDGES];
+    let mut closed = [0u32; MAX_EDGES];
     let nx = frame.columns as usize;
     let ny = frame.rows as usize;
     let got = contour::core::list_contours(levels, nx, ny, v, &mut edges, &mut counts, &mut closed);

@@ -10,14 +10,14 @@ use Rattle.contours_steps.specs.declared.core.intake.Turn.{Turn}
 use Rattle.contours_steps.specs.declared.words.Given.{Given}
 use Rattle.contours_steps.specs.Intake.{reading, whole, failed, TextRead}
 use Rattle.contours_steps.specs.Words.{Gathered}
-use Rattle.contours_steps.specs.Sheet.{refusedLine, lineBegun, mostText, overlongLine, overlongOf}
+use Rattle.contours_steps.specs.Sheet.{refusedLine, lineBegun, maxText, overlongLine, overlongOf}
 use Rattle.contours_steps.specs.Drawing.{Refused}
 use Rattle.contours_steps.specs.Answer.{Came, ReadWhole, ReadFailed, ReadFull, Answered}
 use Rattle.contours_steps.proofs.Drawings.{refused-written}
 
 -- ---- what a reading came to
 
-module _ {t : Turn} {room : List ℕ} (r : TextRead t room) (long : length room ≡ mostText) where
+module _ {t : Turn} {room : List ℕ} (r : TextRead t room) (long : length room ≡ maxText) where
   pub came : {state : ℕ} → t .state ≡ state → Came state t (take (t .size) room)
   came e = record { room = room; long = long; read = r; front = refl; is = e }
 

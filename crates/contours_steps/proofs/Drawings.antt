@@ -15,7 +15,7 @@ use Rattle.text.specs.Number.{levelOf, isGot}
 use Rattle.text.proofs.Digits.{either}
 use Rattle.network.specs.declared.Frame.{Frame}
 use Rattle.network.specs.Edges.{Checked}
-use Rattle.network.specs.Limits.{mostLevel, leastContour, mostContour}
+use Rattle.network.specs.Limits.{maxNetworkLevel, leastContour, maxContour}
 use Rattle.network.specs.Refusals.{sided, placed, filled}
 use Rattle.network.proofs.Refusals.{is-checked, in-between}
 use Rattle.grid.specs.Row.{all, rowGiven, levelsOf}
@@ -26,8 +26,8 @@ use Rattle.grid.proofs.ValueLaws.{all-cons}
 use Rattle.contours_steps.proofs.Levels.{word-range}
 use Rattle.contours_steps.specs.declared.words.Given.{Given}
 use Rattle.contours_steps.proofs.Gathering.{words-given}
-use Rattle.contours_steps.specs.Words.{wordLevel, isContour, mostLevels, wordsRefusal, givenRefusal, levelsIn, Gathered}
-use Rattle.contours_steps.specs.Sheet.{mostPoints, textRefusal, refusalOf, refusedAt, refusedLine, sheetOf, writtenOf}
+use Rattle.contours_steps.specs.Words.{wordLevel, isContour, maxContourLevels, wordsRefusal, givenRefusal, levelsIn, Gathered}
+use Rattle.contours_steps.specs.Sheet.{maxPointsDrawn, textRefusal, refusalOf, refusedAt, refusedLine, sheetOf, writtenOf}
 use Rattle.contours_steps.specs.Drawing.{Accepted, Refused, Stored, Drawable}
 
 -- no refusal is none of the text and none of the words
@@ -46,20 +46,20 @@ text-checked text h =
     let a = refuse-none 17 (eqb (faultLine ls) 0) _ (omega arith) h .1 in
     let b = refuse-none 12 (rowsFit (frameOf ls) (rowsOf ls)) _ (omega arith) a .1 in
     let c = refuse-none 12 (sided (frameOf ls) && placed (frameOf ls) && filled (levelsOf (rowsOf ls)) (frameOf ls)) _ (omega arith) b in
-    let d = refuse-none 13 (allWithin mostLevel (levelsOf (rowsOf ls))) _ (omega arith) (c .1) in
+    let d = refuse-none 13 (allWithin maxNetworkLevel (levelsOf (rowsOf ls))) _ (omega arith) (c .1) in
     is-checked (textLevels text) (textFrame text) (c .0) (d .0)
 
-words-range : (words : List (List ℕ)) → all isContour words ≡ true → (i : ℕ) → i < length (levelsIn words) → (leastContour ≤ getD (levelsIn words) i 0) × (getD (levelsIn words) i 0 ≤ mostContour)
+words-range : (words : List (List ℕ)) → all isContour words ≡ true → (i : ℕ) → i < length (levelsIn words) → (leastContour ≤ getD (levelsIn words) i 0) × (getD (levelsIn words) i 0 ≤ maxContour)
 words-range [] h i l = absurd (omega arith)
 words-range (w ∷ words) h zero l = word-range w (and-left (isContour w) (all isContour words) (sym (all-cons isContour w words) ∙ h))
 words-range (w ∷ words) h (suc i) l =
     words-range words (and-right (isContour w) (all isContour words) (sym (all-cons isContour w words) ∙ h)) i (omega arith)
 
-pub words-fine : (words : List (List ℕ)) → wordsRefusal words ≡ 0 → (1 ≤ length words) × ((all isContour words ≡ true) × (length words ≤ mostLevels))
+pub words-fine : (words : List (List ℕ)) → wordsRefusal words ≡ 0 → (1 ≤ length words) × ((all isContour words ≡ true) × (length words ≤ maxContourLevels))
 unfolding wordsRefusal
 words-fine words h =
     let a = refuse-none 15 (leb 1 (length words) && all isContour words) _ (omega arith) h in
-    let b = refuse-none 14 (leb (length words) mostLevels) 0 (omega arith) (a .1) in
+    let b = refuse-none 14 (leb (length words) maxContourLevels) 0 (omega arith) (a .1) in
     (leb-true _ _ (and-left (leb 1 (length words)) (all isContour words) (a .0)), (and-right (leb 1 (length words)) (all isContour words) (a .0), leb-true _ _ (b .0)))
 
 module _ {text room levels asked : List ℕ} {g : Given} {f : Frame} (a : Accepted text g room levels f asked) where
@@ -104,7 +104,7 @@ refused-words {text} {room} {g} {number} k z e ne =
     number-is false c h = omega arith
 
     line : 0 ≡ refusedAt text number
-    line = rw (ne-eqb number 17 (λ q. number-is (leb 1 (g .count) && g .fit) (leb (g .count) mostLevels) (sym e ∙ q))) refl
+    line = rw (ne-eqb number 17 (λ q. number-is (leb 1 (g .count) && g .fit) (leb (g .count) maxContourLevels) (sym e ∙ q))) refl
 
 -- a network and words that are not refused
 pub accepted : {text room levels asked : List ℕ} {g : Given} {f : Frame} (k : Gathered g room) → textRefusal text ≡ 0 → givenRefusal g ≡ 0 → levels ≡ textLevels text → f ≡ textFrame text
@@ -114,15 +114,15 @@ accepted k z w l f a = record { given = k; fine = rw z (words-given k ∙ w); ne
 
 -- ---- what was stored
 
-pub given-fine : (g : Given) → givenRefusal g ≡ 0 → (g .fit ≡ true) × (g .count ≤ mostLevels)
+pub given-fine : (g : Given) → givenRefusal g ≡ 0 → (g .fit ≡ true) × (g .count ≤ maxContourLevels)
 unfolding givenRefusal
 given-fine g h =
     let a = refuse-none 15 (leb 1 (g .count) && g .fit) _ (omega arith) h in
-    let b = refuse-none 14 (leb (g .count) mostLevels) 0 (omega arith) (a .1) in
+    let b = refuse-none 14 (leb (g .count) maxContourLevels) 0 (omega arith) (a .1) in
     (and-right (leb 1 (g .count)) (g .fit) (a .0), leb-true _ _ (b .0))
 
 -- the levels at the front of the words' room
-pub words-front : {g : Given} {room : List ℕ} (k : Gathered g room) → givenRefusal g ≡ 0 → length room ≡ mostLevels → take (g .count) room ≡ levelsIn (k .words)
+pub words-front : {g : Given} {room : List ℕ} (k : Gathered g room) → givenRefusal g ≡ 0 → length room ≡ maxContourLevels → take (g .count) room ≡ levelsIn (k .words)
 words-front {g} {room} k z long =
     let f = given-fine g z in
     rw (k .count) (k .stored (f .0) (omega (arith, k .count, f .1)))
@@ -136,7 +136,7 @@ frame-back header f e = rw e refl
 pub points-are : (text : List ℕ) → textRefusal text ≡ 0 → length (textLevels text) ≡ textFrame text .rows * textFrame text .columns
 points-are text z = text-checked text z .sized .full
 
-pub stored : {text header header′ levels′ : List ℕ} (levels : List ℕ) → textRefusal text ≡ 0 → header ≡ replicate 5 0 → length levels ≡ mostPoints
+pub stored : {text header header′ levels′ : List ℕ} (levels : List ℕ) → textRefusal text ≡ 0 → header ≡ replicate 5 0 → length levels ≡ maxPointsDrawn
     → header′ ≡ headerAfter text header levels → levels′ ≡ levelsAfter text header levels → Stored text header′ levels′
 stored {text} {header} {header′} {levels′} levels z five room h l =
     let k = text-checked text z in

@@ -14,7 +14,7 @@ use Rattle.refusal.proofs.Laws.{and-left}
 use Rattle.grid.specs.Row.{all}
 use Rattle.contours_steps.proofs.Levels.{word-range}
 use Rattle.contours_steps.specs.declared.words.Given.{Given}
-use Rattle.contours_steps.specs.Words.{wordLevel, isContour, mostLevels, levelsIn, wordsRefusal, givenRefusal, WordTaken, Gathered}
+use Rattle.contours_steps.specs.Words.{wordLevel, isContour, maxContourLevels, levelsIn, wordsRefusal, givenRefusal, WordTaken, Gathered}
 
 -- ---- a word's step
 

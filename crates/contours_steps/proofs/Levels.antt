@@ -6,7 +6,7 @@ use mathlib.Core.List.{List}
 use native.Mathlib.Omega.{arith}
 use borrow.Author.Tests.{le-leb, lt-leb}
 use Rattle.refusal.proofs.Laws.{and-right}
-use Rattle.network.specs.Limits.{leastContour, mostContour}
+use Rattle.network.specs.Limits.{leastContour, maxContour}
 use Rattle.network.proofs.Refusals.{in-between}
 use Rattle.text.specs.Number.{levelOf, isGot}
 use Rattle.text.specs.declared.number.Number.{Number}
@@ -31,6 +31,6 @@ module _ (w : List ℕ) {x : Number} (is : x ≡ levelOf w) where
   word-off e = rw (← is, e) refl
 
 -- a word that is a contour's level is in its range
-pub word-range : (w : List ℕ) → isContour w ≡ true → (leastContour ≤ wordLevel w) × (wordLevel w ≤ mostContour)
+pub word-range : (w : List ℕ) → isContour w ≡ true → (leastContour ≤ wordLevel w) × (wordLevel w ≤ maxContour)
 unfolding isContour
-word-range w h = in-between leastContour (wordLevel w) mostContour (and-right (isGot (levelOf w)) _ h)
+word-range w h = in-between leastContour (wordLevel w) maxContour (and-right (isGot (levelOf w)) _ h)

@@ -16,7 +16,7 @@ use Rattle.text.specs.declared.number.Number.{Number}
 use Rattle.text.specs.declared.number.Number.the-variants.{Got, Off}
 use Rattle.text.proofs.Digits.{either}
 use Rattle.network.specs.declared.Frame.{Frame}
-use Rattle.network.specs.Limits.{leastSide, mostSide}
+use Rattle.network.specs.Limits.{leastSide, maxSide}
 use Rattle.network.specs.Refusals.{between, sided, placed, filled}
 use Rattle.network.proofs.Refusals.{in-between}
 use Rattle.grid.specs.Row.{all, valuesOf, isValue, isRow, hasValues, levelsOf}
@@ -25,7 +25,7 @@ use Rattle.grid.specs.Read.{linesRefusal}
 use Rattle.grid.proofs.ReadLaws.{fit-both}
 use Rattle.grid.proofs.ValueLaws.{all-cons}
 use Rattle.grid.proofs.Values.{same-equal}
-use Rattle.contours_steps.specs.Sheet.{textRefusal, mostText}
+use Rattle.contours_steps.specs.Sheet.{textRefusal, maxText}
 
 -- ---- lists of texts, each with `more` bytes behind it
 
@@ -169,8 +169,8 @@ module _ (ls : List (List ℕ)) (on : faultLine ls ≡ 0) (fit : rowsFit (frameO
   most : (frameOf ls .columns ≤ 256) × (frameOf ls .rows ≤ 256)
   most =
       let f = frameOf ls in (
-        in-between leastSide (f .columns) mostSide (and-left (between leastSide (f .columns) mostSide) (between leastSide (f .rows) mostSide) size) .1,
-        in-between leastSide (f .rows) mostSide (and-right (between leastSide (f .columns) mostSide) (between leastSide (f .rows) mostSide) size) .1,
+        in-between leastSide (f .columns) maxSide (and-left (between leastSide (f .columns) maxSide) (between leastSide (f .rows) maxSide) size) .1,
+        in-between leastSide (f .rows) maxSide (and-right (between leastSide (f .columns) maxSide) (between leastSide (f .rows) maxSide) size) .1,
       )
 
   body-total : (nodata : List ℕ) (n : ℕ) (rows : List (List ℕ)) → rowsOf ls ≡ rows → length nodata ≤ 8 → 1 ≤ n → firstOff n (map (isRow nodata) rows) ≡ 0 → total 2 rows ≤ 590080
@@ -196,7 +196,7 @@ module _ (ls : List (List ℕ)) (on : faultLine ls ≡ 0) (fit : rowsFit (frameO
       omega (arith, head .0, head .1, head .2, head .3, head .4, after-head, total-front ls 0, total-front ls 1, total-front ls 2, total-front ls 3, total-front ls 4)
 
 -- Of a text that fills the room and is on its layout the size, spacing, origin or count of values is wrong
-pub overlong-twelve : (text : List ℕ) → mostText ≤ length text → faultLine (linesOf text) ≡ 0 → textRefusal text ≡ 12
+pub overlong-twelve : (text : List ℕ) → maxText ≤ length text → faultLine (linesOf text) ≡ 0 → textRefusal text ≡ 12
 unfolding linesRefusal
 overlong-twelve text long on =
     let ls = linesOf text in

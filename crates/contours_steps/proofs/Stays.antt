@@ -14,7 +14,7 @@ use Rattle.text.proofs.Digits.{either}
 use Rattle.text.proofs.Lines.{lines-step}
 use Rattle.grid.specs.Row.{isRow}
 use Rattle.grid.specs.File.{ncols, nrows, xllcenter, yllcenter, cellsize, unnamed, numberAfter, names, namesWell, sixth, spelledIn, headOn, namedOn, noDataOf, rowsOf, firstOff, faultLine}
-use Rattle.contours_steps.specs.Sheet.{lineBegun, mostText, overlongLine}
+use Rattle.contours_steps.specs.Sheet.{lineBegun, maxText, overlongLine}
 use Rattle.contours_steps.specs.Told.{FillsRoom}
 use Rattle.contours_steps.proofs.Overlong.{overlong-twelve}
 use Rattle.contours_steps.proofs.Begun.{line-room, stream-line, unended}
@@ -137,7 +137,7 @@ overlong-stays text u some ended =
     (λ yes. let o : 1 ≤ f = rw (row, yes) at some in rw (row, yes) (fault-stays text u o (ltb-true f (lineBegun text) yes)))
     (λ no. let z : 1 ≤ 0 = rw (row, no) at some in absurd (omega arith)))
 
-pub fills-room : (front : List ℕ) → mostText ≤ length front → FillsRoom front
+pub fills-room : (front : List ℕ) → maxText ≤ length front → FillsRoom front
 fills-room front long =
     record {
       line = overlong-stays front;

@@ -21,7 +21,7 @@ use Rattle.text.proofs.Free.{shown-free, two-free, byte-free, nil-free, level-f
 use Rattle.text.proofs.Shown.{level-back}
 use Rattle.network.specs.declared.Frame.{Frame}
 use Rattle.network.specs.Edges.{edgeAt}
-use Rattle.network.specs.Limits.{mostLevel}
+use Rattle.network.specs.Limits.{maxNetworkLevel}
 use Rattle.network.specs.Refusals.{sided, placed, filled}
 use Rattle.contour_rules.specs.Contours.{Contour, bit, contoursOf}
 use Rattle.contour_rules.specs.Picture.{picture}
@@ -35,8 +35,8 @@ use Rattle.grid.specs.Write as write
 use Rattle.grid.proofs.WriteLaws.{text-cons, text-none}
 use Rattle.grid.proofs.ValueLaws.{all-cons, all-none}
 use Rattle.grid.proofs.Values.{lines-apart}
-use Rattle.contours_steps.specs.Words.{wordLevel, isContour, mostLevels, wordsRefusal, levelsIn}
-use Rattle.contours_steps.specs.Sheet.{lineStart, levelLines, sheetOf, mostPoints, textRefusal, refusalOf, refusedAt, refusedLine, writtenOf}
+use Rattle.contours_steps.specs.Words.{wordLevel, isContour, maxContourLevels, wordsRefusal, levelsIn}
+use Rattle.contours_steps.specs.Sheet.{lineStart, levelLines, sheetOf, maxPointsDrawn, textRefusal, refusalOf, refusedAt, refusedLine, writtenOf}
 use Rattle.contours_steps.specs.Told.{headingText, Spells, EachWord, Judged}
 use Rattle.contours_steps.proofs.Levels.{word-range}
 use Rattle.contours_steps.proofs.Drawings.{fine-both, words-fine}
@@ -198,8 +198,8 @@ later : (text : List ℕ) → faultLine (linesOf text) ≡ 0 → textRefusal tex
 unfolding linesRefusal
 later text z e =
     let ls = linesOf text in
-    none (rowsFit (frameOf ls) (rowsOf ls)) (sided (frameOf ls) && placed (frameOf ls) && filled (levelsOf (rowsOf ls)) (frameOf ls)) (allWithin mostLevel (levelsOf (rowsOf ls)))
-    (all (rowGiven (noDataOf ls)) (rowsOf ls)) (leb headerSize headerSize && leb (length (levelsOf (rowsOf ls))) mostPoints) (rw (eq-eqb (faultLine ls) 0 z) at e)
+    none (rowsFit (frameOf ls) (rowsOf ls)) (sided (frameOf ls) && placed (frameOf ls) && filled (levelsOf (rowsOf ls)) (frameOf ls)) (allWithin maxNetworkLevel (levelsOf (rowsOf ls)))
+    (all (rowGiven (noDataOf ls)) (rowsOf ls)) (leb headerSize headerSize && leb (length (levelsOf (rowsOf ls))) maxPointsDrawn) (rw (eq-eqb (faultLine ls) 0 z) at e)
   where
     none : (a b c d g : Bool) → _≡_ {A = ℕ} (cond a (cond b (cond c (cond d (cond g 0 14) 13) 13) 12) 12) 17 → ⊥
     none true true true true true h = omega arith
@@ -230,7 +230,7 @@ module _ (text : List ℕ) (words : List (List ℕ)) where
   unfolding wordsRefusal
   unfit h = rw h (none (leb 1 (length words)))
     where
-      none : (b : Bool) → _≡_ {A = ℕ} (cond (b && false) (cond (leb (length words) mostLevels) 0 14) 15) 15
+      none : (b : Bool) → _≡_ {A = ℕ} (cond (b && false) (cond (leb (length words) maxContourLevels) 0 14) 15) 15
       none true = refl
       none false = refl
 

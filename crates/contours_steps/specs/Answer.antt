@@ -8,12 +8,12 @@ use Rattle.contours_steps.specs.declared.core.intake.Turn.{Turn}
 use Rattle.contours_steps.specs.declared.words.Given.{Given}
 use Rattle.contours_steps.specs.Intake.{reading, whole, failed, TextRead}
 use Rattle.contours_steps.specs.Words.{Gathered}
-use Rattle.contours_steps.specs.Sheet.{mostText, writtenOf, failedOf, overlongOf}
+use Rattle.contours_steps.specs.Sheet.{maxText, writtenOf, failedOf, overlongOf}
 
 -- the bytes that a reading came to, at the front of the program's room, and its state
 pub record Came (state : ℕ) (t : Turn) (bytes : List ℕ) : Type 0 where
   pub room : List ℕ
-  pub long : length room ≡ mostText
+  pub long : length room ≡ maxText
   pub read : TextRead t room
   pub front : bytes ≡ take (t .size) room
   pub is : t .state ≡ state
@@ -26,7 +26,7 @@ abbrev pub ReadFailed : Turn → List ℕ → Type 0
 ReadFailed t bytes = Came failed t bytes
 
 abbrev pub ReadFull : Turn → List ℕ → Type 0
-ReadFull t bytes = (Came reading t bytes) × (length bytes ≡ mostText)
+ReadFull t bytes = (Came reading t bytes) × (length bytes ≡ maxText)
 
 -- A text that may be written: that of the whole network and the words, that of a failed read, which is never taken for
 -- the end, or that of a full room; there is no fourth

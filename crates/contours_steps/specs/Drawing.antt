@@ -5,10 +5,10 @@ use mathlib.Core.List.{List}
 use lib.ListN.{length, getD, take}
 use Rattle.network.specs.declared.Frame.{Frame}
 use Rattle.network.specs.Edges.{Checked}
-use Rattle.network.specs.Limits.{leastContour, mostContour}
+use Rattle.network.specs.Limits.{leastContour, maxContour}
 use Rattle.grid.specs.Read.{numbersOf, headerSize, textFrame, textLevels}
 use Rattle.contours_steps.specs.declared.words.Given.{Given}
-use Rattle.contours_steps.specs.Words.{mostLevels, levelsIn, Gathered}
+use Rattle.contours_steps.specs.Words.{maxContourLevels, levelsIn, Gathered}
 use Rattle.contours_steps.specs.Sheet.{refusalOf, refusedAt}
 
 -- the network and the levels of a text and of the words that were given, which are not refused
@@ -36,6 +36,6 @@ pub record Stored (text header levels : List ℕ) : Type 0 where
 -- as the functions behind the checks know it
 pub record Drawable (levels : List ℕ) (f : Frame) (asked : List ℕ) : Type 0 where
   pub checked : Checked levels f
-  pub few : length asked ≤ mostLevels
+  pub few : length asked ≤ maxContourLevels
   pub least : (i : ℕ) → i < length asked → leastContour ≤ getD asked i 0
-  pub most : (i : ℕ) → i < length asked → getD asked i 0 ≤ mostContour
+  pub most : (i : ℕ) → i < length asked → getD asked i 0 ≤ maxContour

@@ -8,7 +8,7 @@ use lib.Dec.{eqb, leb, ltb}
 use Rattle.text.specs.Number.{shown, showLevel}
 use Rattle.text.specs.Line.{linesOf}
 use Rattle.network.specs.declared.Frame.{Frame}
-use Rattle.network.specs.Limits.{mostSide}
+use Rattle.network.specs.Limits.{maxSide}
 use Rattle.grid.specs.File.{faultLine}
 use Rattle.grid.specs.Read.{headerSize, textFrame, textLevels, readRefusal}
 use Rattle.wkt.specs.Calls.{networkText}
@@ -47,11 +47,11 @@ refusedLine number line =
     ++ (showCount number ++ ((44 ∷ []) ++ (showCount line ++ lineEnd)))
 
 -- the network is judged whole, 17, 12 and 13, and then the words
-abbrev pub mostPoints : ℕ
-mostPoints = mostSide * mostSide
+abbrev pub maxPointsDrawn : ℕ
+maxPointsDrawn = maxSide * maxSide
 
 abbrev pub textRefusal : List ℕ → ℕ
-textRefusal text = readRefusal text headerSize mostPoints
+textRefusal text = readRefusal text headerSize maxPointsDrawn
 
 unfoldable pub refusalOf : List ℕ → List (List ℕ) → ℕ
 refusalOf text words = cond (eqb (textRefusal text) 0) (wordsRefusal words) (textRefusal text)
@@ -78,8 +78,8 @@ failedOf text = refusedLine 17 (lineBegun text)
 -- The program has room for any network that is not refused, with the header: 65,536 values of up to 8 bytes and the
 -- byte behind each. Of a text that fills the room the lines that it ends are judged, and the header: the first at fault
 -- is 17, and else the text has too many values
-abbrev pub mostText : ℕ
-mostText = 600000
+abbrev pub maxText : ℕ
+maxText = 600000
 
 unfoldable pub overlongLine : List ℕ → ℕ
 overlongLine text =

@@ -8,7 +8,7 @@ use lib.ListN.{length, set, take}
 use lib.Dec.{leb}
 use Rattle.refusal.specs.Refuse.{refuse}
 use Rattle.text.specs.Number.{levelOf, isGot, valueOf}
-use Rattle.network.specs.Limits.{leastContour, mostContour}
+use Rattle.network.specs.Limits.{leastContour, maxContour}
 use Rattle.network.specs.Refusals.{between}
 use Rattle.grid.specs.Row.{all}
 use Rattle.contours_steps.specs.declared.words.Given.{Given}
@@ -18,19 +18,19 @@ abbrev pub wordLevel : List ℕ → ℕ
 wordLevel w = valueOf (levelOf w)
 
 unfoldable pub isContour : List ℕ → Bool
-isContour w = isGot (levelOf w) && between leastContour (wordLevel w) mostContour
+isContour w = isGot (levelOf w) && between leastContour (wordLevel w) maxContour
 
 -- the program has room for as many levels as there are
-abbrev pub mostLevels : ℕ
-mostLevels = mostContour
+abbrev pub maxContourLevels : ℕ
+maxContourLevels = maxContour
 
 -- 15 where there is no level, or a word is none; 14 for more words than there are levels
 unfoldable pub wordsRefusal : List (List ℕ) → ℕ
 wordsRefusal words =
-    refuse 15 (leb 1 (length words) && all isContour words) (refuse 14 (leb (length words) mostLevels) 0)
+    refuse 15 (leb 1 (length words) && all isContour words) (refuse 14 (leb (length words) maxContourLevels) 0)
 
 unfoldable pub givenRefusal : Given → ℕ
-givenRefusal g = refuse 15 (leb 1 (g .count) && g .fit) (refuse 14 (leb (g .count) mostLevels) 0)
+givenRefusal g = refuse 15 (leb 1 (g .count) && g .fit) (refuse 14 (leb (g .count) maxContourLevels) 0)
 
 -- the levels in the order of the words
 abbrev pub levelsIn : List (List ℕ) → List ℕ

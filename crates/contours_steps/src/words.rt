@@ -1,13 +1,13 @@
 // The contour levels among a program's arguments.
 use network::limits::LEAST_CONTOUR;
-use network::limits::MOST_CONTOUR;
+use network::limits::MAX_CONTOUR;
 use text::number::Number;
 ghost use mathlib.Core.Path.{_≡_};
 ghost use mathlib.Core.Bool.{cond};
 ghost use Rattle.contours_steps.specs.Words.{isContour, wordLevel, givenRefusal, WordTaken};
 
 // The most levels that there is room for: as many as there are.
-pub const MOST_LEVELS: usize = 15000;
+pub const MAX_CONTOUR_LEVELS: usize = 15000;
 
 // The contour level of a word, or 0, which is none, where it is no level or out of range.
 pub fn contour_of(word: &[u8]) -> u32
@@ -18,7 +18,7 @@ pub fn contour_of(word: &[u8]) -> u32
             if v < LEAST_CONTOUR {
                 return 0;
             }
-            if MOST_CONTOUR < v {
+            if MAX_CONTOUR < v {
                 return 0;
             }
             v
@@ -58,7 +58,7 @@ pub fn words_refusal(given: Given) -> u32
     if !fit {
         return 15;
     }
-    if MOST_LEVELS < given.count {
+    if MAX_CONTOUR_LEVELS < given.count {
         return 14;
     }
     0

@@ -22,7 +22,7 @@ use Rattle.text.proofs.Lines.{lines-step}
 use Rattle.text.proofs.Exact.{whole-exact, level-exact}
 use Rattle.refusal.specs.Refuse.{refuse}
 use Rattle.refusal.specs.Range.{allWithin}
-use Rattle.network.specs.Limits.{mostLevel}
+use Rattle.network.specs.Limits.{maxNetworkLevel}
 use Rattle.network.specs.Refusals.{sided, placed, filled, checked}
 use Rattle.grid.specs.Row.{all, valuesOf, given, isValue, isRow, hasValues, rowGiven, levelIn, rowLevels, levelsOf}
 use Rattle.grid.specs.File.{ncols, nrows, xllcenter, yllcenter, cellsize, unnamed, begins, numberAfter, names, sixth, headOn, namedOn, frameOf, noDataOf, rowsOf, firstOff, faultLine, rowsFit}
@@ -230,8 +230,8 @@ module _ (s : List ℕ) (headers room : ℕ) (read : readRefusal s headers room 
       let g = refuse 13 (all (rowGiven (noDataOf lines)) (rowsOf lines)) last in
       let a = refuse-none 17 (eqb (faultLine lines) 0) (refuse 12 (rowsFit f (rowsOf lines)) (checked levels f g)) (omega arith) read in
       let b = refuse-none 12 (rowsFit f (rowsOf lines)) (checked levels f g) (omega arith) (a .1) in
-      let c = refuse-none 12 (sided f && placed f && filled levels f) (refuse 13 (allWithin mostLevel levels) g) (omega arith) (b .1) in
-      let d = refuse-none 13 (allWithin mostLevel levels) g (omega arith) (c .1) in
+      let c = refuse-none 12 (sided f && placed f && filled levels f) (refuse 13 (allWithin maxNetworkLevel levels) g) (omega arith) (b .1) in
+      let d = refuse-none 13 (allWithin maxNetworkLevel levels) g (omega arith) (c .1) in
       let e = refuse-none 13 (all (rowGiven (noDataOf lines)) (rowsOf lines)) last (omega arith) (d .1) in
       (eqb-true (faultLine lines) 0 (a .0), rw rows-plain at (b .0), rw (rows-plain, data-plain) at (e .0))
 

@@ -9,7 +9,7 @@ use borrow.Author.Tests.{eqb-true, eq-eqb, ne-eqb, leb-true, le-leb, lt-leb}
 use lib.Dec.{eqb, leb}
 use lib.ListN.{length}
 use Rattle.refusal.specs.Refuse.{refuse}
-use Rattle.network.specs.Limits.{mostLevel, mostSide, leastSide}
+use Rattle.network.specs.Limits.{maxNetworkLevel, maxSide, leastSide}
 use Rattle.refusal.specs.Range.{allWithin}
 use Rattle.network.specs.Refusals.{between, sided, placed, filled}
 use Rattle.network.specs.declared.Frame.{Frame}
@@ -44,21 +44,21 @@ up-append most (x ∷ a) b = rw (up-append most a b) (both (leb x most) (allWith
     both true q r = refl
     both false q r = refl
 
-values-sound : (nodata : List ℕ) (vs : List (List ℕ)) → all (isSound nodata) vs ≡ (all (given nodata) vs && allWithin mostLevel (map levelIn vs))
+values-sound : (nodata : List ℕ) (vs : List (List ℕ)) → all (isSound nodata) vs ≡ (all (given nodata) vs && allWithin maxNetworkLevel (map levelIn vs))
 unfolding all allWithin
 values-sound nodata [] = refl
 values-sound nodata (t ∷ vs) =
-    rw (values-sound nodata vs) (mid (given nodata t) (leb (levelIn t) mostLevel) (all (given nodata) vs) (allWithin mostLevel (map levelIn vs)))
+    rw (values-sound nodata vs) (mid (given nodata t) (leb (levelIn t) maxNetworkLevel) (all (given nodata) vs) (allWithin maxNetworkLevel (map levelIn vs)))
 
-rows-sound : (nodata : List ℕ) (rows : List (List ℕ)) → all (rowSound nodata) rows ≡ (all (rowGiven nodata) rows && allWithin mostLevel (levelsOf rows))
+rows-sound : (nodata : List ℕ) (rows : List (List ℕ)) → all (rowSound nodata) rows ≡ (all (rowGiven nodata) rows && allWithin maxNetworkLevel (levelsOf rows))
 unfolding all allWithin levelsOf rowLevels
 rows-sound nodata [] = refl
 rows-sound nodata (row ∷ rows) =
     let g = rowGiven nodata row in
-    let u = allWithin mostLevel (rowLevels row) in
+    let u = allWithin maxNetworkLevel (rowLevels row) in
     let gs = all (rowGiven nodata) rows in
-    let us = allWithin mostLevel (levelsOf rows) in
-    rw (values-sound nodata (valuesOf row), rows-sound nodata rows, up-append mostLevel (levelsOf rows) (rowLevels row), and-comm us u) (mid g u gs us)
+    let us = allWithin maxNetworkLevel (levelsOf rows) in
+    rw (values-sound nodata (valuesOf row), rows-sound nodata rows, up-append maxNetworkLevel (levelsOf rows) (rowLevels row), and-comm us u) (mid g u gs us)
 
 -- ---- the tests in the order of a call
 
@@ -106,7 +106,7 @@ module _ (s : List ℕ) (f : Frame) (at : ℕ) (fits sound : Bool) (on : faultLi
       let rows = rowsOf lines in
       let ready = j .levels ∙ rows-sound (noDataOf lines) rows in
       rw (eq-eqb (faultLine lines) 0 on, ← j .frame, ← j .fitted, ready)
-      (decide fits (sided f) (placed f) (filled (levelsOf rows) f) (allWithin mostLevel (levelsOf rows)) (all (rowGiven (noDataOf lines)) rows)
+      (decide fits (sided f) (placed f) (filled (levelsOf rows) f) (allWithin maxNetworkLevel (levelsOf rows)) (all (rowGiven (noDataOf lines)) rows)
       (refuse 14 (roomy s headers room) 0)
       (λ yes. eq-eqb _ _ (fit-length f rows (sym (j .fitted) ∙ yes))))
 
@@ -137,12 +137,12 @@ module _ (s : List ℕ) (f : Frame) (at : ℕ) (fits sound : Bool) (on : faultLi
         let b = fit-both f (rowsOf (linesOf s)) fitted in
         record { inside = j .inside; number = ap length (j .rows) ∙ b .0; each = ap (all (hasValues (f .columns))) (j .rows) ∙ b .1 }
 
-    small : (f .columns ≤ mostSide) × (f .rows ≤ mostSide)
+    small : (f .columns ≤ maxSide) × (f .rows ≤ maxSide)
     small =
         let s = and-right fits (sided f) (and-left (fits && sided f) (placed f) (tests .0)) in
-        let c = and-left (between leastSide (f .columns) mostSide) (between leastSide (f .rows) mostSide) s in
-        let r = and-right (between leastSide (f .columns) mostSide) (between leastSide (f .rows) mostSide) s in
-        (leb-true _ _ (and-right (leb leastSide (f .columns)) (leb (f .columns) mostSide) c), leb-true _ _ (and-right (leb leastSide (f .rows)) (leb (f .rows) mostSide) r))
+        let c = and-left (between leastSide (f .columns) maxSide) (between leastSide (f .rows) maxSide) s in
+        let r = and-right (between leastSide (f .columns) maxSide) (between leastSide (f .rows) maxSide) s in
+        (leb-true _ _ (and-right (leb leastSide (f .columns)) (leb (f .columns) maxSide) c), leb-true _ _ (and-right (leb leastSide (f .rows)) (leb (f .rows) maxSide) r))
 
     pub product-small : f .rows * f .columns ≤ 65536
     product-small = mul-le-mul (small .1) (small .0)

@@ -14,7 +14,7 @@ use Rattle.text.specs.Number.{levelOf, isGot}
 use Rattle.text.specs.Same.{sameText}
 use Rattle.text.specs.declared.number.Number.the-variants as number
 use Rattle.text.specs.declared.number.Number.the-variants.{Got}
-use Rattle.network.specs.Limits.{mostLevel}
+use Rattle.network.specs.Limits.{maxNetworkLevel}
 use Rattle.text.proofs.Digits.{either}
 use Rattle.text.proofs.Fields.{up-take, up-length, after-drop}
 use Rattle.grid.specs.Row.{all, valuesOf, isValue, isRow}
@@ -101,13 +101,13 @@ module _ (nodata t : List ℕ) where
   unfolding valueRefusal
   none-here e = rw e (either (isGot (levelOf t)) (λ y. rw y) (λ n. rw n))
 
-  pub level-here : (v : ℕ) → sameText t nodata ≡ false → levelOf t ≡ Got v → v ≤ mostLevel → valueRefusal nodata t ≡ 0
+  pub level-here : (v : ℕ) → sameText t nodata ≡ false → levelOf t ≡ Got v → v ≤ maxNetworkLevel → valueRefusal nodata t ≡ 0
   unfolding valueRefusal
-  level-here v e l h = rw (e, l, le-leb v mostLevel h)
+  level-here v e l h = rw (e, l, le-leb v maxNetworkLevel h)
 
-  pub high-here : (v : ℕ) → sameText t nodata ≡ false → levelOf t ≡ Got v → mostLevel < v → valueRefusal nodata t ≡ 13
+  pub high-here : (v : ℕ) → sameText t nodata ≡ false → levelOf t ≡ Got v → maxNetworkLevel < v → valueRefusal nodata t ≡ 13
   unfolding valueRefusal
-  high-here v e l h = rw (e, l, lt-leb v mostLevel h)
+  high-here v e l h = rw (e, l, lt-leb v maxNetworkLevel h)
 
   pub neither-here : sameText t nodata ≡ false → levelOf t ≡ number.Off → valueRefusal nodata t ≡ 17
   unfolding valueRefusal

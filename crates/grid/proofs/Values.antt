@@ -18,7 +18,7 @@ use Rattle.text.proofs.Digits.{either}
 use Rattle.text.proofs.Shown.{whole-back, level-back, shown-least}
 use Rattle.text.proofs.Free.{shown-free, level-free}
 use Rattle.text.proofs.Fields.{count-append}
-use Rattle.network.specs.Limits.{mostLevel}
+use Rattle.network.specs.Limits.{maxNetworkLevel}
 use Rattle.grid.specs.Row.{all, valuesOf, given, isValue, levelIn}
 use Rattle.grid.specs.File.{unnamed, begins, numberAfter, names}
 use Rattle.grid.specs.Write.{keyLine, rowLine, textOf}
@@ -100,7 +100,7 @@ unnamed-off : levelOf unnamed ≡ Off
 unfolding levelOf
 unnamed-off = refl
 
-pub level-given : (v : ℕ) → v ≤ mostLevel → given unnamed (showLevel v) ≡ true
+pub level-given : (v : ℕ) → v ≤ maxNetworkLevel → given unnamed (showLevel v) ≡ true
 level-given v h =
     either (sameText (showLevel v) unnamed)
     (λ yes. let z : Off ≡ Got v = sym unnamed-off ∙ ap levelOf (sym (same-equal (showLevel v) unnamed yes)) ∙ level-back v (omega arith) in
@@ -109,7 +109,7 @@ level-given v h =
 
 -- what holds of each level, of a whole row
 abbrev pub Levels : List ℕ → Type 0
-Levels vs = (i : ℕ) → getD vs i 0 ≤ mostLevel
+Levels vs = (i : ℕ) → getD vs i 0 ≤ maxNetworkLevel
 
 pub texts-row : (vs : List ℕ) → Levels vs → all (isValue unnamed) (map showLevel vs) ≡ true
 unfolding all

@@ -16,7 +16,7 @@ use Rattle.text.proofs.Digits.{either}
 use Rattle.room.proofs.Laws.{wrote-then, wrote-none, length-wrote}
 use Rattle.text.proofs.Shown.{whole-one, whole-longer, shown-width, level-most}
 use Rattle.network.specs.Edges.{Checked, Sized}
-use Rattle.network.specs.Limits.{mostLevel, mostOrigin}
+use Rattle.network.specs.Limits.{maxNetworkLevel, maxOrigin}
 use Rattle.network.specs.Refusals.{networkRefusal}
 use Rattle.network.proofs.Refusals.{checked-on, checked-off}
 use Rattle.network.specs.declared.Frame.{Frame}
@@ -86,7 +86,7 @@ level-four v h = omega (arith, level-size v, one-digit (v / 100) (omega arith))
 pub level-five : (v : ℕ) → 1000 ≤ v → v < 10000 → length (showLevel v) ≡ 5
 level-five v l h = omega (arith, level-size v, two-digits (v / 100) (omega arith) (omega arith))
 
-pub level-six : (v : ℕ) → 10000 ≤ v → v ≤ mostLevel → length (showLevel v) ≡ 6
+pub level-six : (v : ℕ) → 10000 ≤ v → v ≤ maxNetworkLevel → length (showLevel v) ≡ 6
 level-six v l h =
     let n = v / 100 in
     omega (arith, level-size v, whole-longer n (omega arith) (omega arith), two-digits (n / 10) (omega arith) (omega arith))
@@ -150,7 +150,7 @@ network-size levels f c =
     ∙ omega (arith, rows, ap sizesOf all)
 
 -- a header number has at most seven digits
-pub whole-most : (n : ℕ) → n ≤ mostOrigin → length (showWhole n) ≤ 7
+pub whole-most : (n : ℕ) → n ≤ maxOrigin → length (showWhole n) ≤ 7
 whole-most n h = shown-width 7 6 n (omega arith)
 
 pub head-length : (f : Frame) → length (textOf (headLines f))

@@ -9,7 +9,7 @@ use Rattle.text.specs.Number.{showLevel}
 use Rattle.text.specs.Line.{linesOf}
 use Rattle.text.specs.declared.number.Number.the-variants as number
 use Rattle.refusal.specs.Refuse.{refuse}
-use Rattle.network.specs.Limits.{mostLevel, mostOrigin}
+use Rattle.network.specs.Limits.{maxNetworkLevel, maxOrigin}
 use Rattle.network.specs.Refusals.{sided, placed}
 use Rattle.network.specs.declared.Frame.{Frame}
 use Rattle.grid.specs.Row.{all, valuesOf, given, isValue, isRow, hasValues, levelIn}
@@ -67,7 +67,7 @@ noDataRead s at nodata.Off = (names (lineFrom s at) ≡ true) × (namesWell (lin
 
 -- one value: 17 where it is none, 13 for no data or too high a level, or 0
 abbrev pub isSound : List ℕ → List ℕ → Bool
-isSound nodata t = given nodata t && leb (levelIn t) mostLevel
+isSound nodata t = given nodata t && leb (levelIn t) maxNetworkLevel
 
 unfoldable pub valueRefusal : List ℕ → List ℕ → ℕ
 valueRefusal nodata t = refuse 17 (isValue nodata t) (refuse 13 (isSound nodata t) 0)
@@ -135,14 +135,14 @@ sizesOf (v ∷ vs) = length (showLevel v) + 1 + sizesOf vs
 
 -- no level is too high, and no header number has more than seven digits
 abbrev pub Quiet : List ℕ → Type 0
-Quiet levels = (i : ℕ) → getD levels i 0 ≤ mostLevel
+Quiet levels = (i : ℕ) → getD levels i 0 ≤ maxNetworkLevel
 
 pub record Near (f : Frame) : Type 0 where
-  pub columns-most : f .columns ≤ mostOrigin
-  pub rows-most : f .rows ≤ mostOrigin
-  pub spacing-most : f .spacing ≤ mostOrigin
-  pub west-most : f .west ≤ mostOrigin
-  pub south-most : f .south ≤ mostOrigin
+  pub columns-most : f .columns ≤ maxOrigin
+  pub rows-most : f .rows ≤ maxOrigin
+  pub spacing-most : f .spacing ≤ maxOrigin
+  pub west-most : f .west ≤ maxOrigin
+  pub south-most : f .south ≤ maxOrigin
 
 -- a line with its end
 abbrev pub ended : List ℕ → List ℕ

@@ -5,7 +5,7 @@ use crate::head::line_at;
 use crate::head::no_data;
 use crate::head::read_head;
 use network::Frame;
-use network::limits::MOST_LEVEL;
+use network::limits::MAX_NETWORK_LEVEL;
 use text::core::field_end;
 use text::number::Number;
 use text::number::level;
@@ -35,7 +35,7 @@ fn value_refusal(s: &[u8], nodata: &[u8]) -> u32
     }
     match level(s) {
         Number::Got(v) => {
-            if v <= MOST_LEVEL {
+            if v <= MAX_NETWORK_LEVEL {
                 return 0;
             }
             13

@@ -10,7 +10,7 @@ ghost use lib.ListN.{length};
 ghost use Rattle.text.specs.Number.{showLevel};
 ghost use Rattle.room.specs.Room.{Wrote};
 ghost use Rattle.network.specs.Edges.{Checked, Sized};
-ghost use Rattle.network.specs.Limits.{mostLevel, mostOrigin};
+ghost use Rattle.network.specs.Limits.{maxNetworkLevel, maxOrigin};
 ghost use Rattle.grid.specs.Write.{keyLine, rowLine, rowLines, textOf, showNetwork};
 ghost use Rattle.grid.specs.Steps.{Quiet, Near, ended, sideLines, placeLines};
 
@@ -25,7 +25,7 @@ fn put_end(out: &mut [u8], at: usize) -> usize
 
 // A header line: its key, its number and its end.
 fn put_line(out: &mut [u8], at: usize, key: &[u8], n: u32) -> usize
-    requires { ⌜ (n ≤ mostOrigin) × (at + length (ended (keyLine (now key) n)) ≤ length (now out)) ⌝ }
+    requires { ⌜ (n ≤ maxOrigin) × (at + length (ended (keyLine (now key) n)) ≤ length (now out)) ⌝ }
     ensures { λ r. ⌜ Wrote (now (out .entry)) at (ended (keyLine (now (key .entry)) n)) (now (out .exit)) r ⌝ }
 {
     let number = put_text(out, at, key);
@@ -54,7 +54,7 @@ fn put_place(out: &mut [u8], at: usize, frame: Frame) -> usize
 
 // A space and a level.
 fn put_spaced(out: &mut [u8], at: usize, v: u32) -> usize
-    requires { ⌜ (v ≤ mostLevel) × (at + length (32 ∷ showLevel v) ≤ length (now out)) ⌝ }
+    requires { ⌜ (v ≤ maxNetworkLevel) × (at + length (32 ∷ showLevel v) ≤ length (now out)) ⌝ }
     ensures { λ r. ⌜ Wrote (now (out .entry)) at (32 ∷ showLevel v) (now (out .exit)) r ⌝ }
 {
     let next = put_byte(out, at, 32);

@@ -5,13 +5,13 @@ ghost use Prim.Native.Nat.{_*_, _≤_};
 ghost use lib.ListN.{length};
 ghost use Rattle.text.specs.Number.{showWhole, showLevel};
 ghost use Rattle.network.specs.Edges.{Checked};
-ghost use Rattle.network.specs.Limits.{mostLevel, mostOrigin, mostSide};
+ghost use Rattle.network.specs.Limits.{maxNetworkLevel, maxOrigin, maxSide};
 ghost use Rattle.grid.specs.Write.{headLines, textOf, showNetwork};
 ghost use Rattle.grid.specs.Steps.{sizesOf, Quiet, Near};
 
 // The bytes of a level: its units, a point and two digits.
 fn level_size(v: u32) -> usize
-    requires { ⌜ v ≤ mostLevel ⌝ }
+    requires { ⌜ v ≤ maxNetworkLevel ⌝ }
     ensures { λ r. ⌜ r ≡ length (showLevel v) ⌝ }
 {
     if v < 1000 {
@@ -25,7 +25,7 @@ fn level_size(v: u32) -> usize
 
 // The bytes of levels, each with the byte that follows it.
 fn levels_size(levels: &[u32]) -> usize
-    requires { ⌜ (length (now levels) ≤ mostSide * mostSide) × Quiet (now levels) ⌝ }
+    requires { ⌜ (length (now levels) ≤ maxSide * maxSide) × Quiet (now levels) ⌝ }
     ensures { λ r. ⌜ r ≡ sizesOf (now (levels .entry)) ⌝ }
 {
     let mut total = 0;
@@ -39,7 +39,7 @@ fn levels_size(levels: &[u32]) -> usize
 
 // The bytes of a whole number.
 fn whole_size(n: u32) -> usize
-    requires { ⌜ n ≤ mostOrigin ⌝ }
+    requires { ⌜ n ≤ maxOrigin ⌝ }
     ensures { λ r. ⌜ r ≡ length (showWhole n) ⌝ }
 {
     let mut left = n;

@@ -17,7 +17,7 @@ use Rattle.text.specs.Same.{sameText}
 use Rattle.text.specs.Spelled.{bytes}
 use Rattle.text.proofs.Digits.{either}
 use Rattle.text.proofs.Shown.{level-back}
-use Rattle.network.specs.Limits.{leastSide, mostSide, leastSpacing, mostSpacing, mostOrigin, mostLevel}
+use Rattle.network.specs.Limits.{leastSide, maxSide, leastSpacing, maxSpacing, maxOrigin, maxNetworkLevel}
 use Rattle.network.specs.Refusals.{between, sided, placed, filled}
 use Rattle.network.specs.declared.Frame.{Frame}
 use Rattle.network.proofs.Refusals.{both, in-between}
@@ -114,15 +114,15 @@ both-true p q e f = rw (e, f) refl
 range-on : (f : Frame) → (sided f && placed f) ≡ true → InRange f
 range-on f h =
     let s = both (sided f) (placed f) h in
-    let p = both (between leastSide (f .columns) mostSide) (between leastSide (f .rows) mostSide) (s .0) in
-    let o = both (between leastSpacing (f .spacing) mostSpacing) (leb (f .west) mostOrigin && leb (f .south) mostOrigin) (s .1) in
-    let w = both (leb (f .west) mostOrigin) (leb (f .south) mostOrigin) (o .1) in
+    let p = both (between leastSide (f .columns) maxSide) (between leastSide (f .rows) maxSide) (s .0) in
+    let o = both (between leastSpacing (f .spacing) maxSpacing) (leb (f .west) maxOrigin && leb (f .south) maxOrigin) (s .1) in
+    let w = both (leb (f .west) maxOrigin) (leb (f .south) maxOrigin) (o .1) in
     record {
-      columns = in-between leastSide (f .columns) mostSide (p .0);
-      rows = in-between leastSide (f .rows) mostSide (p .1);
-      spacing = in-between leastSpacing (f .spacing) mostSpacing (o .0);
-      west = leb-true (f .west) mostOrigin (w .0);
-      south = leb-true (f .south) mostOrigin (w .1);
+      columns = in-between leastSide (f .columns) maxSide (p .0);
+      rows = in-between leastSide (f .rows) maxSide (p .1);
+      spacing = in-between leastSpacing (f .spacing) maxSpacing (o .0);
+      west = leb-true (f .west) maxOrigin (w .0);
+      south = leb-true (f .south) maxOrigin (w .1);
     }
 
 range-passes : (f : Frame) → InRange f → (sided f && placed f) ≡ true
@@ -195,7 +195,7 @@ module _ (text : List ℕ) where
   fitting = rowsFit (textFrame text) (rowsOf (linesOf text)) && (sided (textFrame text) && placed (textFrame text) && filled (levelsOf (rowsOf (linesOf text))) (textFrame text))
 
   abbrev ready : Bool
-  ready = allWithin mostLevel (levelsOf (rowsOf (linesOf text))) && all (rowGiven (noDataOf (linesOf text))) (rowsOf (linesOf text))
+  ready = allWithin maxNetworkLevel (levelsOf (rowsOf (linesOf text))) && all (rowGiven (noDataOf (linesOf text))) (rowsOf (linesOf text))
 
   abbrev enough : ℕ → ℕ → Bool
   enough headers room = leb headerSize headers && leb (length (levelsOf (rowsOf (linesOf text)))) room
@@ -206,7 +206,7 @@ module _ (text : List ℕ) where
   in-order headers room =
       let last : ℕ = cond (enough headers room) 0 14 in
       let g = all (rowGiven (noDataOf lines)) rows in
-      let u = allWithin mostLevel (levelsOf rows) in
+      let u = allWithin maxNetworkLevel (levelsOf rows) in
       let s = sided f && placed f && filled (levelsOf rows) f in
       ap (λ (x : ℕ). cond (eqb (faultLine lines) 0) (cond (rowsFit f rows) (cond s x 12) 12) 17) (one-test u g last 13)
       ∙ ap (λ (x : ℕ). cond (eqb (faultLine lines) 0) x 17) (one-test (rowsFit f rows) s (cond ready last 13) 12)
@@ -248,7 +248,7 @@ module _ (text : List ℕ) where
     -- every value is given
     sound-on : ((k : ℕ) → LineOn text first nodata k) → rowsFit f rows ≡ true → ready ≡ true → AllGiven text first nodata
     sound-on on fits e k c h l in-row =
-        let b = both (allWithin mostLevel (levelsOf rows)) (all (rowGiven (noDataOf lines)) rows) e in
+        let b = both (allWithin maxNetworkLevel (levelsOf rows)) (all (rowGiven (noDataOf lines)) rows) e in
         let j = k - first in
         let inside = row-inside k h l in
         let same = row-place k h in
@@ -266,7 +266,7 @@ module _ (text : List ℕ) where
         record {
           other = other;
           number = level .number;
-          most = omega (arith, within-at mostLevel (levelsOf rows) (r * f .columns + c) (b .0), level-is, level-of t (level .number) (level .most) (level .is));
+          most = omega (arith, within-at maxNetworkLevel (levelsOf rows) (r * f .columns + c) (b .0), level-is, level-of t (level .number) (level .most) (level .is));
           is = level .is;
         }
 
@@ -279,9 +279,9 @@ module _ (text : List ℕ) where
         let in-line : c ≤ countOf 32 (line text (first + i)) = rw same at in-row in
         rw same (all-given (first + i) c (omega arith) inside in-line)
         ) in
-        both-true (allWithin mostLevel (levelsOf rows)) (all (rowGiven (noDataOf lines)) rows)
-        (levels-within mostLevel rows
-        (λ i h. row-within mostLevel (getD rows i [])
+        both-true (allWithin maxNetworkLevel (levelsOf rows)) (all (rowGiven (noDataOf lines)) rows)
+        (levels-within maxNetworkLevel rows
+        (λ i h. row-within maxNetworkLevel (getD rows i [])
         (λ c in-row. let v = value i c h in-row in omega (arith, v .most, level-of _ (v .number) (omega (arith, v .most)) (v .is)))))
         (all-from (rowGiven (noDataOf lines)) rows []
         (λ i h. all-from (given (noDataOf lines)) (valuesOf (getD rows i [])) []

@@ -20,7 +20,7 @@ use Rattle.text.specs.declared.number.Number.{Number}
 use Rattle.text.specs.declared.number.Number.the-variants.{Got, Off}
 use Rattle.text.proofs.Digits.{either, whole-small}
 use Rattle.text.proofs.Exact.{whole-exact, level-exact}
-use Rattle.network.specs.Limits.{mostLevel}
+use Rattle.network.specs.Limits.{maxNetworkLevel}
 use Rattle.network.specs.Refusals.{sided, placed, filled, checked}
 use Rattle.grid.specs.Row.{all, valuesOf, given, isValue, isRow, hasValues, rowGiven, levelIn, levelsOf}
 use Rattle.grid.specs.File.{ncols, nrows, xllcenter, yllcenter, cellsize, begins, numberAfter, numberAt, names, sixth, headOn, namedOn, frameOf, noDataOf, rowsOf, faultLine, rowsFit}
@@ -73,8 +73,8 @@ passed lines headers room read =
     let g = refuse 13 (all (rowGiven (noDataOf lines)) (rowsOf lines)) last in
     let a = refuse-none 17 (eqb (faultLine lines) 0) (refuse 12 (rowsFit f (rowsOf lines)) (checked levels f g)) (omega arith) read in
     let b = refuse-none 12 (rowsFit f (rowsOf lines)) (checked levels f g) (omega arith) (a .1) in
-    let c = refuse-none 12 (sided f && placed f && filled levels f) (refuse 13 (allWithin mostLevel levels) g) (omega arith) (b .1) in
-    let d = refuse-none 13 (allWithin mostLevel levels) g (omega arith) (c .1) in
+    let c = refuse-none 12 (sided f && placed f && filled levels f) (refuse 13 (allWithin maxNetworkLevel levels) g) (omega arith) (b .1) in
+    let d = refuse-none 13 (allWithin maxNetworkLevel levels) g (omega arith) (c .1) in
     let e = refuse-none 13 (all (rowGiven (noDataOf lines)) (rowsOf lines)) last (omega arith) (d .1) in
     record { fault = eqb-true (faultLine lines) 0 (a .0); fits = b .0; given = e .0 }
 

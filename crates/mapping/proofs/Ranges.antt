@@ -12,7 +12,7 @@ use lib.Ieee.{binary64, round, ofInt}
 use Rattle.network.specs.declared.Edge.{Edge}
 use Rattle.network.specs.declared.Edge.the-variants.{Horizontal, Vertical}
 use Rattle.network.specs.declared.Frame.{Frame}
-use Rattle.network.specs.Limits.{mostSide, mostSpacing, mostOrigin}
+use Rattle.network.specs.Limits.{maxSide, maxSpacing, maxOrigin}
 use Rattle.network.specs.Edges.{edges, edgeAt, WithinEdge, Checked}
 use Rattle.network.specs.Crossed.{crossedEdge, crossedAt, distance}
 use Rattle.network.specs.Refusals.{contourRefusal}
@@ -97,7 +97,7 @@ module _ (levels : List ℕ) (f : Frame) (v n : ℕ) where
     is-crossed : (b : Bool) → n < edges (f .columns) (f .rows) → crossedAt levels (f .columns) (f .rows) v n ≡ b → isCrossed levels f v n ≡ b
     is-crossed b l c = rw (lt-ltb _ _ l) c
 
-    exact : (index origin : ℕ) → index < mostSide → origin ≤ mostOrigin → Exactly (whole (index * f .spacing + origin)) (index * f .spacing + origin)
+    exact : (index origin : ℕ) → index < maxSide → origin ≤ maxOrigin → Exactly (whole (index * f .spacing + origin)) (index * f .spacing + origin)
     exact index origin i o = whole-value (index * f .spacing + origin) (omega (arith, mul-le-mul (le-of-lt i) (k .near)))
 
     along-row : (row col : ℕ) → row < f .rows → col + 1 < f .columns → crossedEdge levels (f .columns) v (Horizontal row col) ≡ true

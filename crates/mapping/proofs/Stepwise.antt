@@ -9,7 +9,7 @@ use lib.Ieee.{Float, nan, inf, fin, binary64, up, down, round, add, mul, sum, un
 use lib.Ieee.Fits.{down-pos}
 use lib.Ieee.Exact.{HasValue}
 use lib.Ieee.Scale.{round-same}
-use Rattle.network.specs.Limits.{mostSide, mostSpacing, mostOrigin}
+use Rattle.network.specs.Limits.{maxSide, maxSpacing, maxOrigin}
 use Rattle.mapping.specs.Fractions.{whole}
 use Rattle.mapping.specs.Places.{moving}
 use Rattle.mapping.specs.Ranges.{Value, Moves}
@@ -55,12 +55,12 @@ module _ (a c b d : ℕ) (c-pos : 0 < c) (d-pos : 0 < d) where
       round-same binary64 false (m * up e * (n * up k)) (down e * down k) (a * b) (c * d) (mul-pos (down-pos e) (down-pos k)) (mul-pos c-pos d-pos)
       (mul-mul-mul-comm (m * up e) (n * up k) c d ∙ rw (p .1, q .1) (mul-mul-mul-comm a (down e) b (down k)))
 
-pub moves : (index num den spacing origin : ℕ) → index < mostSide → 0 < den → num ≤ den → spacing ≤ mostSpacing → origin ≤ mostOrigin
+pub moves : (index num den spacing origin : ℕ) → index < maxSide → 0 < den → num ≤ den → spacing ≤ maxSpacing → origin ≤ maxOrigin
     → Moves index (round binary64 false num den) spacing origin (moving index (round binary64 false num den) spacing origin)
 moves index num den spacing origin i z n s o =
-    let more : index + 1 ≤ mostSide = omega arith in
-    let small : (index + 1) * spacing ≤ mostSide * mostSpacing = mul-le-mul more s in
-    let less : index * spacing ≤ mostSide * mostSpacing = mul-le-mul (le-of-lt i) s in
+    let more : index + 1 ≤ maxSide = omega arith in
+    let small : (index + 1) * spacing ≤ maxSide * maxSpacing = mul-le-mul more s in
+    let less : index * spacing ≤ maxSide * maxSpacing = mul-le-mul (le-of-lt i) s in
     let f : Ranged (round binary64 false num den) 0 1 = quotient-ranged num den z n in
     let a = rw (add-zero index) at (add-ranged (whole index) (round binary64 false num den) index index 0 1 (whole-ranged index (omega arith)) f (omega arith) (omega arith)) in
     let b = mul-ranged (add binary64 (whole index) (round binary64 false num den)) (whole spacing) index (index + 1) spacing spacing a (whole-ranged spacing (omega arith)) (omega arith) (omega arith) in

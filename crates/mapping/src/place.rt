@@ -1,7 +1,7 @@
 // The map point of a crossing: coordinates in a fixed order of operations, each step rounded once.
 ghost use mathlib.Core.Path.{_≡_};
 ghost use Prim.Native.Nat.{_<_, _≤_};
-ghost use Rattle.network.specs.Limits.{mostSide, mostSpacing, mostOrigin};
+ghost use Rattle.network.specs.Limits.{maxSide, maxSpacing, maxOrigin};
 ghost use Rattle.network.specs.Edges.{Checked};
 ghost use Rattle.mapping.specs.Places.{moving, still, rowOf, colOf, locate, locatedOf};
 use crate::Crossing;
@@ -20,7 +20,7 @@ fn move_along(index: u32, f: f64, spacing: u32, origin: u32) -> f64
 
 // The coordinate that an edge keeps.
 fn stay(index: u32, spacing: u32, origin: u32) -> f64
-    requires { ⌜ (index < mostSide) × ((spacing ≤ mostSpacing) × (origin ≤ mostOrigin)) ⌝ }
+    requires { ⌜ (index < maxSide) × ((spacing ≤ maxSpacing) × (origin ≤ maxOrigin)) ⌝ }
     ensures { λ r. ⌜ r ≡ still index spacing origin ⌝ }
 {
     (index * spacing + origin) as f64
@@ -28,7 +28,7 @@ fn stay(index: u32, spacing: u32, origin: u32) -> f64
 
 // The map point of a crossing on the edge whose west or south end is at that row and column.
 fn locate_crossing(c: Crossing, row: u32, col: u32, frame: Frame) -> Located
-    requires { ⌜ ((row < mostSide) × (col < mostSide)) × ((frame .spacing ≤ mostSpacing) × ((frame .west ≤ mostOrigin) × (frame .south ≤ mostOrigin))) ⌝ }
+    requires { ⌜ ((row < maxSide) × (col < maxSide)) × ((frame .spacing ≤ maxSpacing) × ((frame .west ≤ maxOrigin) × (frame .south ≤ maxOrigin))) ⌝ }
     ensures { λ r. ⌜ r ≡ locate c row col frame ⌝ }
 {
     let spacing = frame.spacing;

@@ -10,7 +10,7 @@ use Rattle.refusal.specs.Range.{allWithin}
 use Rattle.refusal.proofs.Laws.{and-left, and-right}
 use Rattle.refusal.proofs.Ranges.{within-at}
 use Rattle.network.specs.declared.Frame.{Frame}
-use Rattle.network.specs.Limits.{leastSide, mostSide, leastSpacing, mostSpacing, mostOrigin, mostLevel, leastContour, mostContour}
+use Rattle.network.specs.Limits.{leastSide, maxSide, leastSpacing, maxSpacing, maxOrigin, maxNetworkLevel, leastContour, maxContour}
 use Rattle.network.specs.Edges.{Sides, Sized, Checked}
 use Rattle.network.specs.Refusals.{between, sided, placed, filled, checked, networkRefusal, contourChecked, contourRefusal}
 
@@ -24,39 +24,39 @@ in-between low x high h = (leb-true _ _ (and-left (leb low x) (leb x high) h), l
 
 sides-of : (f : Frame) → sided f ≡ true → Sides (f .columns) (f .rows)
 sides-of f h =
-    let p = both (between leastSide (f .columns) mostSide) (between leastSide (f .rows) mostSide) h in
-    let x = in-between leastSide (f .columns) mostSide (p .0) in
-    let y = in-between leastSide (f .rows) mostSide (p .1) in
+    let p = both (between leastSide (f .columns) maxSide) (between leastSide (f .rows) maxSide) h in
+    let x = in-between leastSide (f .columns) maxSide (p .0) in
+    let y = in-between leastSide (f .rows) maxSide (p .1) in
     record { wide = x .0; narrow = x .1; tall = y .0; low = y .1 }
 
-pub is-checked : (levels : List ℕ) (f : Frame) → (sided f && placed f && filled levels f) ≡ true → allWithin mostLevel levels ≡ true → Checked levels f
+pub is-checked : (levels : List ℕ) (f : Frame) → (sided f && placed f && filled levels f) ≡ true → allWithin maxNetworkLevel levels ≡ true → Checked levels f
 is-checked levels f h q =
     let p = both (sided f && placed f) (filled levels f) h in
     let s = both (sided f) (placed f) (p .0) in
-    let o = both (between leastSpacing (f .spacing) mostSpacing) (leb (f .west) mostOrigin && leb (f .south) mostOrigin) (s .1) in
-    let w = both (leb (f .west) mostOrigin) (leb (f .south) mostOrigin) (o .1) in
+    let o = both (between leastSpacing (f .spacing) maxSpacing) (leb (f .west) maxOrigin && leb (f .south) maxOrigin) (s .1) in
+    let w = both (leb (f .west) maxOrigin) (leb (f .south) maxOrigin) (o .1) in
     record {
       sized = record { sides = sides-of f (s .0); full = eqb-true _ _ (p .1) };
-      near = in-between leastSpacing (f .spacing) mostSpacing (o .0) .1;
+      near = in-between leastSpacing (f .spacing) maxSpacing (o .0) .1;
       west = leb-true _ _ (w .0);
       south = leb-true _ _ (w .1);
-      quiet = λ i. within-at mostLevel levels i q;
+      quiet = λ i. within-at maxNetworkLevel levels i q;
     }
 
 -- a call whose refusal is 0 has a checked network, and a contour level in its range
 pub not-refused : (levels : List ℕ) (f : Frame) → networkRefusal levels f ≡ 0 → Checked levels f
-not-refused levels f h = go (sided f && placed f && filled levels f) (allWithin mostLevel levels) refl refl h
+not-refused levels f h = go (sided f && placed f && filled levels f) (allWithin maxNetworkLevel levels) refl refl h
   where
-    go : (a b : Bool) → (sided f && placed f && filled levels f) ≡ a → allWithin mostLevel levels ≡ b → _≡_ {A = ℕ} (cond a (cond b 0 13) 12) 0 → Checked levels f
+    go : (a b : Bool) → (sided f && placed f && filled levels f) ≡ a → allWithin maxNetworkLevel levels ≡ b → _≡_ {A = ℕ} (cond a (cond b 0 13) 12) 0 → Checked levels f
     go true true p q e = is-checked levels f p q
     go true false p q e = absurd (omega arith)
     go false b p q e = absurd (omega arith)
 
-pub contour-not-refused : (levels : List ℕ) (f : Frame) (v : ℕ) → contourRefusal levels f v ≡ 0 → Checked levels f × ((leastContour ≤ v) × (v ≤ mostContour))
-contour-not-refused levels f v h = go (sided f && placed f && filled levels f) (allWithin mostLevel levels) (between leastContour v mostContour) refl refl refl h
+pub contour-not-refused : (levels : List ℕ) (f : Frame) (v : ℕ) → contourRefusal levels f v ≡ 0 → Checked levels f × ((leastContour ≤ v) × (v ≤ maxContour))
+contour-not-refused levels f v h = go (sided f && placed f && filled levels f) (allWithin maxNetworkLevel levels) (between leastContour v maxContour) refl refl refl h
   where
-    go : (a b c : Bool) → (sided f && placed f && filled levels f) ≡ a → allWithin mostLevel levels ≡ b → between leastContour v mostContour ≡ c → _≡_ {A = ℕ} (cond a (cond b (cond c 0 15) 13) 12) 0 → Checked levels f × ((leastContour ≤ v) × (v ≤ mostContour))
-    go true true true p q r e = (is-checked levels f p q, in-between leastContour v mostContour r)
+    go : (a b c : Bool) → (sided f && placed f && filled levels f) ≡ a → allWithin maxNetworkLevel levels ≡ b → between leastContour v maxContour ≡ c → _≡_ {A = ℕ} (cond a (cond b (cond c 0 15) 13) 12) 0 → Checked levels f × ((leastContour ≤ v) × (v ≤ maxContour))
+    go true true true p q r e = (is-checked levels f p q, in-between leastContour v maxContour r)
     go true true false p q r e = absurd (omega arith)
     go true false c p q r e = absurd (omega arith)
     go false b c p q r e = absurd (omega arith)
@@ -65,7 +65,7 @@ contour-not-refused levels f v h = go (sided f && placed f && filled levels f) (
 
 -- where the network is not refused the rest decides, and else its refusal stands
 pub checked-on : (levels : List ℕ) (f : Frame) (rest : ℕ) → networkRefusal levels f ≡ 0 → checked levels f rest ≡ rest
-checked-on levels f rest h = go (sided f && placed f && filled levels f) (allWithin mostLevel levels) h
+checked-on levels f rest h = go (sided f && placed f && filled levels f) (allWithin maxNetworkLevel levels) h
   where
     go : (a b : Bool) → _≡_ {A = ℕ} (cond a (cond b 0 13) 12) 0 → cond a (cond b rest 13) 12 ≡ rest
     go true true e = refl
@@ -73,7 +73,7 @@ checked-on levels f rest h = go (sided f && placed f && filled levels f) (allWit
     go false b e = absurd (omega arith)
 
 pub checked-off : (levels : List ℕ) (f : Frame) (rest : ℕ) → (networkRefusal levels f ≡ 0 → ⊥) → checked levels f rest ≡ networkRefusal levels f
-checked-off levels f rest h = go (sided f && placed f && filled levels f) (allWithin mostLevel levels) h
+checked-off levels f rest h = go (sided f && placed f && filled levels f) (allWithin maxNetworkLevel levels) h
   where
     go : (a b : Bool) → (_≡_ {A = ℕ} (cond a (cond b 0 13) 12) 0 → ⊥) → _≡_ {A = ℕ} (cond a (cond b rest 13) 12) (cond a (cond b 0 13) 12)
     go true true e = absurd (e refl)
@@ -82,7 +82,7 @@ checked-off levels f rest h = go (sided f && placed f && filled levels f) (allWi
 
 -- the same with a contour level
 pub contour-on : (levels : List ℕ) (f : Frame) (v rest : ℕ) → contourRefusal levels f v ≡ 0 → contourChecked levels f v rest ≡ rest
-contour-on levels f v rest h = go (sided f && placed f && filled levels f) (allWithin mostLevel levels) (between leastContour v mostContour) h
+contour-on levels f v rest h = go (sided f && placed f && filled levels f) (allWithin maxNetworkLevel levels) (between leastContour v maxContour) h
   where
     go : (a b c : Bool) → _≡_ {A = ℕ} (cond a (cond b (cond c 0 15) 13) 12) 0 → cond a (cond b (cond c rest 15) 13) 12 ≡ rest
     go true true true e = refl
@@ -91,7 +91,7 @@ contour-on levels f v rest h = go (sided f && placed f && filled levels f) (allW
     go false b c e = absurd (omega arith)
 
 pub contour-off : (levels : List ℕ) (f : Frame) (v rest : ℕ) → (contourRefusal levels f v ≡ 0 → ⊥) → contourChecked levels f v rest ≡ contourRefusal levels f v
-contour-off levels f v rest h = go (sided f && placed f && filled levels f) (allWithin mostLevel levels) (between leastContour v mostContour) h
+contour-off levels f v rest h = go (sided f && placed f && filled levels f) (allWithin maxNetworkLevel levels) (between leastContour v maxContour) h
   where
     go : (a b c : Bool) → (_≡_ {A = ℕ} (cond a (cond b (cond c 0 15) 13) 12) 0 → ⊥) → _≡_ {A = ℕ} (cond a (cond b (cond c rest 15) 13) 12) (cond a (cond b (cond c 0 15) 13) 12)
     go true true true e = absurd (e refl)

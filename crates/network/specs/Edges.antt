@@ -8,14 +8,14 @@ use lib.ListN.{length, getD}
 use Rattle.network.specs.declared.Edge.{Edge}
 use Rattle.network.specs.declared.Edge.the-variants.{Horizontal, Vertical}
 use Rattle.network.specs.declared.Frame.{Frame}
-use Rattle.network.specs.Limits.{leastSide, mostSide, mostSpacing, mostOrigin, mostLevel}
+use Rattle.network.specs.Limits.{leastSide, maxSide, maxSpacing, maxOrigin, maxNetworkLevel}
 
 -- nx columns and ny rows of points, each in its range
 pub record Sides (nx ny : ℕ) : Type 0 where
   pub wide : leastSide ≤ nx
-  pub narrow : nx ≤ mostSide
+  pub narrow : nx ≤ maxSide
   pub tall : leastSide ≤ ny
-  pub low : ny ≤ mostSide
+  pub low : ny ≤ maxSide
 
 -- a network of that size, with one level for each point
 pub record Sized (levels : List ℕ) (nx ny : ℕ) : Type 0 where
@@ -25,10 +25,10 @@ pub record Sized (levels : List ℕ) (nx ny : ℕ) : Type 0 where
 -- a network that is not refused, as the functions behind the check know it
 pub record Checked (levels : List ℕ) (f : Frame) : Type 0 where
   pub sized : Sized levels (f .columns) (f .rows)
-  pub near : f .spacing ≤ mostSpacing
-  pub west : f .west ≤ mostOrigin
-  pub south : f .south ≤ mostOrigin
-  pub quiet : (i : ℕ) → getD levels i 0 ≤ mostLevel
+  pub near : f .spacing ≤ maxSpacing
+  pub west : f .west ≤ maxOrigin
+  pub south : f .south ≤ maxOrigin
+  pub quiet : (i : ℕ) → getD levels i 0 ≤ maxNetworkLevel
 
 -- points are numbered from the south row, west to east
 abbrev pub levelAt : List ℕ → ℕ → ℕ → ℕ → ℕ

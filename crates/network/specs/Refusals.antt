@@ -7,7 +7,7 @@ use lib.ListN.{length}
 use Rattle.refusal.specs.Range.{allWithin}
 use Rattle.refusal.specs.Refuse.{refuse}
 use Rattle.network.specs.declared.Frame.{Frame}
-use Rattle.network.specs.Limits.{leastSide, mostSide, leastSpacing, mostSpacing, mostOrigin, mostLevel, leastContour, mostContour}
+use Rattle.network.specs.Limits.{leastSide, maxSide, leastSpacing, maxSpacing, maxOrigin, maxNetworkLevel, leastContour, maxContour}
 
 -- from `low` to `high`
 abbrev pub between : ℕ → ℕ → ℕ → Bool
@@ -15,11 +15,11 @@ between low x high = leb low x && leb x high
 
 -- 2 to 256 points a side
 abbrev pub sided : Frame → Bool
-sided f = between leastSide (f .columns) mostSide && between leastSide (f .rows) mostSide
+sided f = between leastSide (f .columns) maxSide && between leastSide (f .rows) maxSide
 
 -- spacing 1 to 500 m, and a south-west point 0 to 900,000 m each way
 abbrev pub placed : Frame → Bool
-placed f = between leastSpacing (f .spacing) mostSpacing && (leb (f .west) mostOrigin && leb (f .south) mostOrigin)
+placed f = between leastSpacing (f .spacing) maxSpacing && (leb (f .west) maxOrigin && leb (f .south) maxOrigin)
 
 -- as many values as points
 abbrev pub filled : List ℕ → Frame → Bool
@@ -27,7 +27,7 @@ filled levels f = eqb (length levels) (f .rows * f .columns)
 
 -- 12 for size, spacing, origin or count of values, then 13 for a level, then what the call looks at next
 abbrev pub checked : List ℕ → Frame → ℕ → ℕ
-checked levels f rest = refuse 12 (sided f && placed f && filled levels f) (refuse 13 (allWithin mostLevel levels) rest)
+checked levels f rest = refuse 12 (sided f && placed f && filled levels f) (refuse 13 (allWithin maxNetworkLevel levels) rest)
 
 -- the refusal of a call that takes a network, or 0
 abbrev pub networkRefusal : List ℕ → Frame → ℕ
@@ -35,7 +35,7 @@ networkRefusal levels f = checked levels f 0
 
 -- the same where it takes a contour level too: 15 after these, then what the call looks at next
 abbrev pub contourChecked : List ℕ → Frame → ℕ → ℕ → ℕ
-contourChecked levels f v rest = checked levels f (refuse 15 (between leastContour v mostContour) rest)
+contourChecked levels f v rest = checked levels f (refuse 15 (between leastContour v maxContour) rest)
 
 abbrev pub contourRefusal : List ℕ → Frame → ℕ → ℕ
 contourRefusal levels f v = contourChecked levels f v 0

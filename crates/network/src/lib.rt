@@ -5,11 +5,11 @@ ghost use Rattle.network.specs.Refusals.{between, sided, placed, filled,
 use crate::limits::LEAST_CONTOUR;
 use crate::limits::LEAST_SIDE;
 use crate::limits::LEAST_SPACING;
-use crate::limits::MOST_CONTOUR;
-use crate::limits::MOST_LEVEL;
-use crate::limits::MOST_ORIGIN;
-use crate::limits::MOST_SIDE;
-use crate::limits::MOST_SPACING;
+use crate::limits::MAX_CONTOUR;
+use crate::limits::MAX_NETWORK_LEVEL;
+use crate::limits::MAX_ORIGIN;
+use crate::limits::MAX_SIDE;
+use crate::limits::MAX_SPACING;
 
 pub mod core;
 pub mod limits;
@@ -43,8 +43,8 @@ fn lies_between(low: u32, x: u32, high: u32) -> bool
 pub fn is_sided(frame: Frame) -> bool
     ensures { λ r. ⌜ r ≡ sided frame ⌝ }
 {
-    if lies_between(LEAST_SIDE, frame.columns, MOST_SIDE) {
-        return lies_between(LEAST_SIDE, frame.rows, MOST_SIDE);
+    if lies_between(LEAST_SIDE, frame.columns, MAX_SIDE) {
+        return lies_between(LEAST_SIDE, frame.rows, MAX_SIDE);
     }
     false
 }
@@ -53,9 +53,9 @@ pub fn is_sided(frame: Frame) -> bool
 pub fn is_placed(frame: Frame) -> bool
     ensures { λ r. ⌜ r ≡ placed frame ⌝ }
 {
-    if lies_between(LEAST_SPACING, frame.spacing, MOST_SPACING) {
-        if frame.west <= MOST_ORIGIN {
-            return frame.south <= MOST_ORIGIN;
+    if lies_between(LEAST_SPACING, frame.spacing, MAX_SPACING) {
+        if frame.west <= MAX_ORIGIN {
+            return frame.south <= MAX_ORIGIN;
         }
     }
     false
@@ -85,7 +85,7 @@ pub fn refusal(levels: &[u32], frame: Frame) -> u32
     ensures { λ r. ⌜ r ≡ networkRefusal (now (levels .entry)) frame ⌝ }
 {
     if is_whole(levels, frame) {
-        if refusal::all_within(levels, MOST_LEVEL) {
+        if refusal::all_within(levels, MAX_NETWORK_LEVEL) {
             return 0;
         }
         return 13;
@@ -99,7 +99,7 @@ pub fn contour_refusal(levels: &[u32], frame: Frame, v: u32) -> u32
 {
     let why = refusal(levels, frame);
     if why == 0 {
-        if lies_between(LEAST_CONTOUR, v, MOST_CONTOUR) {
+        if lies_between(LEAST_CONTOUR, v, MAX_CONTOUR) {
             return 0;
         }
         return 15;

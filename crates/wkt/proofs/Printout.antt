@@ -14,7 +14,7 @@ use Rattle.text.proofs.Shown.{whole-back}
 use Rattle.network.specs.declared.Edge.{Edge}
 use Rattle.network.specs.declared.Edge.the-variants.{Horizontal, Vertical}
 use Rattle.network.specs.declared.Frame.{Frame}
-use Rattle.network.specs.Limits.{mostSide, mostSpacing, mostOrigin}
+use Rattle.network.specs.Limits.{maxSide, maxSpacing, maxOrigin}
 use Rattle.network.specs.Edges.{levelAt, edgeAt, Checked}
 use Rattle.network.specs.Crossed.{distance}
 use Rattle.network.specs.Numbering.{OneIn}
@@ -78,7 +78,7 @@ pair s h k = record { x-text = showMetres (s .x); y-text = showMetres (s .y); x-
 
 module _ (levels : List ℕ) (f : Frame) (v : ℕ) (k : Checked levels f) where
   -- the numbers are small, and the origin may be added first
-  stand : (index origin offset : ℕ) → index < mostSide → origin ≤ mostOrigin → offset ≤ 1000 * f .spacing
+  stand : (index origin offset : ℕ) → index < maxSide → origin ≤ maxOrigin → offset ≤ 1000 * f .spacing
       → (standOf index (f .spacing) origin + offset < 10000000000) × (standOf index (f .spacing) origin ≡ 1000 * (origin + index * f .spacing))
   stand index origin offset i o h =
       let s = metres-small index (f .spacing) i (k .near) in
@@ -93,7 +93,7 @@ module _ (levels : List ℕ) (f : Frame) (v : ℕ) (k : Checked levels f) where
   place-of e n h = ap (λ (e : Edge). showSpot (spotOf levels f v e)) h
 
   -- the two coordinates, with an offset on one of them
-  pair-at : (row col dx dy : ℕ) (text : List ℕ) → row < mostSide → col < mostSide → dx ≤ 1000 * f .spacing → dy ≤ 1000 * f .spacing
+  pair-at : (row col dx dy : ℕ) (text : List ℕ) → row < maxSide → col < maxSide → dx ≤ 1000 * f .spacing → dy ≤ 1000 * f .spacing
       → text ≡ showSpot (record { x = standOf col (f .spacing) (f .west) + dx; y = standOf row (f .spacing) (f .south) + dy })
       → Pair (1000 * (f .west + col * f .spacing) + dx) (1000 * (f .south + row * f .spacing) + dy) text
   pair-at row col dx dy text i j p q e =

@@ -6,7 +6,7 @@ ghost use Rattle.network.specs.Edges.{Checked};
 ghost use Rattle.wkt.specs.Text.{textOf};
 ghost use Rattle.wkt.specs.Parts.{linesFrom, Printable};
 ghost use Rattle.wkt.specs.Calls.{networkText, roomFor, printRefusal, Leaves};
-use contour::core::MOST_EDGES;
+use contour::core::MAX_EDGES;
 use contour::core::Progress;
 use network::Frame;
 
@@ -96,9 +96,9 @@ fn print_checked(levels: &[u32], frame: Frame, v: u32, text: &mut [u8], size: &m
     requires { ⌜ Checked (now levels) frame ⌝ }
     ensures { λ r. ⌜ Leaves (roomFor (networkText (now (levels .entry)) frame v) (now (text .entry)) (now (size .entry))) (networkText (now (levels .entry)) frame v) (now (text .entry)) (now (size .entry)) r (now (text .exit)) (now (size .exit)) ⌝ }
 {
-    let mut edges = [0u32; MOST_EDGES];
-    let mut counts = [0u32; MOST_EDGES];
-    let mut closed = [0u32; MOST_EDGES];
+    let mut edges = [0u32; MAX_EDGES];
+    let mut counts = [0u32; MAX_EDGES];
+    let mut closed = [0u32; MAX_EDGES];
     let nx = frame.columns as usize;
     let ny = frame.rows as usize;
     let got = contour::core::list_contours(levels, nx, ny, v, &mut edges, &mut counts, &mut closed);

@@ -3,7 +3,7 @@ ghost use mathlib.Core.Path.{_≡_};
 ghost use mathlib.Core.Bool.{true};
 ghost use mathlib.Core.Logic.{_⊎_};
 ghost use Prim.Native.Nat.{_<_, _≤_};
-ghost use Rattle.network.specs.Limits.{mostSide, mostSpacing, mostOrigin};
+ghost use Rattle.network.specs.Limits.{maxSide, maxSpacing, maxOrigin};
 ghost use Rattle.network.specs.Edges.{Checked, WithinEdge};
 ghost use Rattle.network.specs.Crossed.{crossedEdge};
 ghost use Rattle.wkt.specs.Places.{offsetOf, slideOf, standOf, spotOf};
@@ -13,7 +13,7 @@ use network::Frame;
 
 // The spacing in millimetres times num/den, rounded to nearest, halves up.
 fn offset(spacing: u32, num: u32, den: u32) -> u32
-    requires { ⌜ (spacing ≤ mostSpacing) × ((0 < den) × (num ≤ den)) ⌝ }
+    requires { ⌜ (spacing ≤ maxSpacing) × ((0 < den) × (num ≤ den)) ⌝ }
     ensures { λ r. ⌜ r ≡ offsetOf spacing num den ⌝ }
 {
     let d = den as u64;
@@ -23,7 +23,7 @@ fn offset(spacing: u32, num: u32, den: u32) -> u32
 
 // How far along an edge from level a to level b the level v lies, in millimetres.
 fn slide(v: u32, a: u32, b: u32, spacing: u32) -> u32
-    requires { ⌜ (((a < v) × (v ≤ b)) ⊎ ((b < v) × (v ≤ a))) × (spacing ≤ mostSpacing) ⌝ }
+    requires { ⌜ (((a < v) × (v ≤ b)) ⊎ ((b < v) × (v ≤ a))) × (spacing ≤ maxSpacing) ⌝ }
     ensures { λ r. ⌜ r ≡ slideOf v a b spacing ⌝ }
 {
     offset(
@@ -35,7 +35,7 @@ fn slide(v: u32, a: u32, b: u32, spacing: u32) -> u32
 
 // A point's coordinate in millimetres.
 fn stand(index: usize, spacing: u32, origin: u32) -> u32
-    requires { ⌜ (index < mostSide) × ((spacing ≤ mostSpacing) × (origin ≤ mostOrigin)) ⌝ }
+    requires { ⌜ (index < maxSide) × ((spacing ≤ maxSpacing) × (origin ≤ maxOrigin)) ⌝ }
     ensures { λ r. ⌜ r ≡ standOf index spacing origin ⌝ }
 {
     1000 * ((index as u32) * spacing + origin)

@@ -3,7 +3,7 @@ use mathlib.Core.Path.{sym, subst, _∙_}
 use Prim.Native.Nat.{_<_}
 use native.Mathlib.Omega.{arith}
 use borrow.Author.Tests.{le-ltb}
-use Rattle.network.specs.Limits.{mostSide}
+use Rattle.network.specs.Limits.{maxSide}
 use Rattle.network.specs.Edges.{edges, WithinEdge}
 use Rattle.network.proofs.Numbers.{edge-within}
 use Rattle.mapping.specs.Places.{rowOf, colOf}
@@ -15,7 +15,7 @@ use Rattle.mapping.proofs.place.locate_at.Tie as tie
 abbrev start : tie.After-edge-count → tie.Start
 start c = c .before .before .before .before
 
-small : (c : tie.After-edge-at) → (rowOf (c .edge-at .result) < mostSide) × (colOf (c .edge-at .result) < mostSide)
+small : (c : tie.After-edge-at) → (rowOf (c .edge-at .result) < maxSide) × (colOf (c .edge-at .result) < maxSide)
 small c =
     let s = start (c .before .before .before) in
     let f = s .args .frame in
