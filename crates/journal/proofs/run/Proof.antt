@@ -5,7 +5,7 @@ use native.Mathlib.Omega.{arith}
 use lib.ListN.{length, length-set}
 use denote.Ref.{now}
 use borrow.Author.Needs.{needs}
-use Rattle.book_rules.specs.Columns.{bookOf}
+use Rattle.book_rules.specs.Columns.{bookOf, bookNow}
 use Rattle.journal.specs.Journal.{callsOf}
 use Rattle.journal.proofs.Reading.{Step, step-laid}
 use Rattle.journal.proofs.Replaying.{Replaying, replay-starts, replay-more, replay-ends, next, all, length-all}
@@ -26,13 +26,13 @@ loop-holds c = (replay-starts _ _ _ _ (c .before .before .before .before .before
 mul-width-of : tie.Need-mul-width-of Inv-loop μ-loop
 mul-width-of c = let g = c .before .before .before .before .before .before .before .before .good in omega arith
 
--- the call at `at` is whole
+-- the call at `at` is complete
 step : (c : tie.After-width-of Inv-loop μ-loop) → Step (c .before .before .before .before .before .before .before .before .before .before .args .journal .now) (c .before .before .before .loop .at) (c .width-of .result)
 step c = step-laid _ _ _ (c .width-of .ensures) (c .before .before .loop-test .taken) (c .before .before .before .loop .inv .0 .laid)
 
 -- there is an answer's room for it
-space : (c : tie.After-width-of Inv-loop μ-loop) → length (all (c .before .before .before .before .before .before .before .before .before .before .args .points) (bookOf (now (c .before .before .before .before .before .before .before .before .before .before .args .ids)) (now (c .before .before .before .before .before .before .before .before .before .before .args .groups)) (now (c .before .before .before .before .before .before .before .before .before .before .args .marks)) (now (c .before .before .before .before .before .before .before .before .before .before .args .levels))) (c .before .before .before .before .before .before .before .before .before .before .args .journal .now)) ≤ length (now (c .before .before .before .before .before .before .before .before .before .before .args .answers))
-space c = omega (arith, length-all (c .before .before .before .before .before .before .before .before .before .before .args .points) (bookOf (now (c .before .before .before .before .before .before .before .before .before .before .args .ids)) (now (c .before .before .before .before .before .before .before .before .before .before .args .groups)) (now (c .before .before .before .before .before .before .before .before .before .before .args .marks)) (now (c .before .before .before .before .before .before .before .before .before .before .args .levels))) (callsOf (c .before .before .before .before .before .before .before .before .before .before .args .journal .now)), c .before .before .before .before .before .before .before .before .before .before .pre .1 .1)
+space : (c : tie.After-width-of Inv-loop μ-loop) → length (all (c .before .before .before .before .before .before .before .before .before .before .args .points) (bookNow (c .before .before .before .before .before .before .before .before .before .before .args .ids) (c .before .before .before .before .before .before .before .before .before .before .args .groups) (c .before .before .before .before .before .before .before .before .before .before .args .marks) (c .before .before .before .before .before .before .before .before .before .before .args .levels)) (c .before .before .before .before .before .before .before .before .before .before .args .journal .now)) ≤ length (now (c .before .before .before .before .before .before .before .before .before .before .args .answers))
+space c = omega (arith, length-all (c .before .before .before .before .before .before .before .before .before .before .args .points) (bookNow (c .before .before .before .before .before .before .before .before .before .before .args .ids) (c .before .before .before .before .before .before .before .before .before .before .args .groups) (c .before .before .before .before .before .before .before .before .before .before .args .marks) (c .before .before .before .before .before .before .before .before .before .before .args .levels)) (callsOf (c .before .before .before .before .before .before .before .before .before .before .args .journal .now)), c .before .before .before .before .before .before .before .before .before .before .pre .1 .1)
 
 below : (c : tie.After-width-of Inv-loop μ-loop) → c .before .before .before .loop .made < length (c .before .before .before .loop .answers)
 below c = omega (arith, next (c .before .before .before .loop .inv .0) (step c) .inside, space c, c .before .before .before .loop .inv .1)
@@ -41,7 +41,7 @@ mul-make-call : tie.Need-mul-make-call Inv-loop μ-loop
 mul-make-call c = let g = c .before .before .before .before .before .before .before .before .before .before .before .before .before .before .good in let t = c .before .before .before .before .before .before .loop-test .taken in omega arith
 
 make-call-requires : tie.Need-make-call-requires Inv-loop μ-loop
-make-call-requires c κs = (c .before .before .before .before .before .before .before .before .loop .inv .0 .sound=, step (c .before .before .before .before .before) .whole=)
+make-call-requires c κs = (c .before .before .before .before .before .before .before .before .loop .inv .0 .sound=, step (c .before .before .before .before .before) .complete=)
 
 mul-answers : tie.Need-mul-answers Inv-loop μ-loop
 mul-answers c = let g = c .before .before .before .before .before .before .before .before .before .before .before .before .before .before .before .before .before .before .before .before .before .before .before .before .good in let b = below (c .before .before .before .before .before .before .before .before .before .before .before .before .before .before) in let e = c .before .before .before .before .before .before .before .before .before .before .before .before .before .before .before .before .before .loop .inv .1 in omega arith

@@ -7,10 +7,9 @@ use native.Mathlib.Omega.{arith}
 use lib.Dec.{eqb, ltb}
 use Rattle.level.specs.Limits.{maxTotal}
 use Rattle.level.specs.Level.{levelOf}
-use Rattle.load_rules.specs.Tally.{groupAt}
 use Rattle.load_rules.specs.Factors.{knownSum, unknownSum}
 use Rattle.load_rules.specs.Load.{countsOf}
-use Rattle.load.specs.Steps.{Scalable}
+use Rattle.load.specs.InnerSteps.{groupAt, Scalable}
 use Rattle.load.proofs.BoundLaws.{mean-le}
 use Rattle.load.proofs.SumsLaws.{sums-fit, sums-total, sums-small, sums-none, from-refused, from-answered, some-days}
 use borrow.Author.Needs.{needs}

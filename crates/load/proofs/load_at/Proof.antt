@@ -1,7 +1,7 @@
 -- `load::load_at` meets its contract: 9, 11, and then the load of the rows.
 -- Assumes nothing.
 use Rattle.refusal.proofs.Laws.{passed, failed}
-use Rattle.book_rules.specs.Columns.{Book, bookOf}
+use Rattle.book_rules.specs.Columns.{Book, bookNow}
 use Rattle.load_rules.specs.Load.{loadRefusal, loadOf, bookLoad}
 use Rattle.load.proofs.SumsLaws.{fits-there}
 use borrow.Author.Needs.{needs}
@@ -9,7 +9,7 @@ use Rattle.load.proofs.load_at.Statement.{statement}
 use Rattle.load.proofs.load_at.Tie as tie
 
 abbrev book : tie.Start → Book
-book s = bookOf (s .args .ids .now) (s .args .groups .now) (s .args .marks .now) (s .args .levels .now)
+book s = bookNow (s .args .ids) (s .args .groups) (s .args .marks) (s .args .levels)
 
 returns : tie.Need-returns
 unfolding bookLoad loadOf loadRefusal

@@ -3,10 +3,10 @@
 use mathlib.Core.Path.{ap, _∙_}
 use native.Mathlib.Omega.{arith}
 use lib.ListN.{length}
-use Rattle.book_rules.specs.Columns.{Book, bookOf}
+use Rattle.book_rules.specs.Columns.{Book, bookNow}
 use Rattle.load_rules.specs.Shares.{bookShares}
-use Rattle.load_rules.specs.Tally.{tally, groupAt}
-use Rattle.load.specs.Steps.{loadFrom}
+use Rattle.load_rules.specs.Tally.{tally}
+use Rattle.load.specs.InnerSteps.{groupAt, loadFrom}
 use Rattle.load.proofs.RowLaws.{rows-bounded, rows-grouped}
 use Rattle.load.proofs.SumsLaws.{from-table, from-shares}
 use borrow.Author.Needs.{needs}
@@ -14,7 +14,7 @@ use Rattle.load.proofs.load_of.Statement.{statement}
 use Rattle.load.proofs.load_of.Tie as tie
 
 abbrev book : tie.Start → Book
-book s = bookOf (s .args .ids .now) (s .args .groups .now) (s .args .marks .now) (s .args .levels .now)
+book s = bookNow (s .args .ids) (s .args .groups) (s .args .marks) (s .args .levels)
 
 answer-from-requires : tie.Need-answer-from-requires
 unfolding bookShares

@@ -3,18 +3,18 @@
 use mathlib.Core.Path.{refl, sym, ap, _∙_}
 use borrow.Author.Tests.{le-leb, lt-leb}
 use Rattle.refusal.proofs.Laws.{passed, failed}
-use Rattle.book_rules.specs.Columns.{Book, bookOf}
+use Rattle.book_rules.specs.Columns.{Book, bookNow}
 use Rattle.load_rules.specs.Shares.{bookShares}
 use Rattle.load_rules.specs.Verdict.{limitFits, verdictRefusal, judged, judgedOf, bookVerdict}
 use Rattle.load_rules.proofs.Determined.{judging}
-use Rattle.load.specs.Steps.{judgedBy}
+use Rattle.load.specs.InnerSteps.{judgedBy}
 use Rattle.load.proofs.SumsLaws.{fits-there, judged-load}
 use borrow.Author.Needs.{needs}
 use Rattle.load.proofs.verdict_at.Statement.{statement}
 use Rattle.load.proofs.verdict_at.Tie as tie
 
 abbrev book : tie.Start → Book
-book s = bookOf (s .args .ids .now) (s .args .groups .now) (s .args .marks .now) (s .args .levels .now)
+book s = bookNow (s .args .ids) (s .args .groups) (s .args .marks) (s .args .levels)
 
 returns : tie.Need-returns
 unfolding bookVerdict judgedOf verdictRefusal judged

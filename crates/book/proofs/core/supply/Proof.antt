@@ -3,7 +3,7 @@ use mathlib.Core.Path.{_≡_, refl, sym, _∙_}
 use native.Mathlib.Omega.{arith}
 use denote.Ref.{now}
 use borrow.Author.Needs.{needs}
-use Rattle.book_rules.specs.Columns.{Book, bookOf}
+use Rattle.book_rules.specs.Columns.{Book, bookNow}
 use Rattle.book_rules.specs.Calls.{supplyRefusal, soundRefusal, changed, rowMarked}
 use Rattle.book_rules.proofs.Shapes.{sound-rises}
 use Rattle.book_rules.proofs.Accepted.{supplied, levels-length, keeps, meets}
@@ -12,7 +12,7 @@ use Rattle.book.proofs.core.supply.Statement.{statement}
 use Rattle.book.proofs.core.supply.Tie as tie
 
 abbrev book : tie.Start → Book
-book s = bookOf (now (s .args .ids)) (now (s .args .groups)) (now (s .args .marks)) (now (s .args .levels))
+book s = bookNow (s .args .ids) (s .args .groups) (s .args .marks) (s .args .levels)
 
 -- past the test nothing refuses the call
 ok : (c : tie.Else1) → supplyRefusal (c .before .before .before .before .before .before .before .before .args .points) (now (c .before .before .before .before .before .before .before .before .args .ids)) (c .before .before .before .before .before .before .before .before .args .identity) (now (c .before .before .before .before .before .before .before .before .args .given)) ≡ 0

@@ -1,24 +1,24 @@
 -- `journal::making::make_call` meets its contract: the first number says which call it is. Assumes nothing.
 use native.Mathlib.Omega.{arith}
 use borrow.Author.Needs.{needs}
-use Rattle.journal.proofs.Reading.{whole-two, whole-width, width-enter, width-supply, call-enter, call-supply, call-take-back, call-withdraw}
+use Rattle.journal.proofs.Reading.{complete-two, complete-width, width-enter, width-supply, call-enter, call-supply, call-take-back, call-withdraw}
 use Rattle.journal.proofs.making.make_call.Statement.{statement}
 use Rattle.journal.proofs.making.make_call.Tie as tie
 
 shared-slice-read-kind : tie.Need-shared-slice-read-kind
-shared-slice-read-kind c = omega (arith, whole-two _ (c .before .before .before .before .before .before .pre .1))
+shared-slice-read-kind c = omega (arith, complete-two _ (c .before .before .before .before .before .before .pre .1))
 
 shared-slice-read-identity : tie.Need-shared-slice-read-identity
-shared-slice-read-identity c = omega (arith, whole-two _ (c .before .before .before .before .before .before .before .pre .1))
+shared-slice-read-identity c = omega (arith, complete-two _ (c .before .before .before .before .before .before .before .pre .1))
 
 enter-from-requires : tie.Need-enter-from-requires
-enter-from-requires c κs = (c .before .before .before .before .before .before .before .before .before .before .before .before .pre .0, omega (arith, whole-width _ (c .before .before .before .before .before .before .before .before .before .before .before .before .pre .1) .1, width-enter (c .before .before .before .before .before .before .before .before .before .before .before .before .args .rest .now) (c .before .before .before .before .if1 .taken)))
+enter-from-requires c κs = (c .before .before .before .before .before .before .before .before .before .before .before .before .pre .0, omega (arith, complete-width _ (c .before .before .before .before .before .before .before .before .before .before .before .before .pre .1) .1, width-enter (c .before .before .before .before .before .before .before .before .before .before .before .before .args .rest .now) (c .before .before .before .before .if1 .taken)))
 
 returns : tie.Need-returns
 returns c = rw (call-enter _ (c .before .before .before .before .before .before .before .before .before .before .before .before .before .if1 .taken)) (c .before .before .before .before .before .before .before .before .enter-from .ensures)
 
 supply-from-requires : tie.Need-supply-from-requires
-supply-from-requires c κs = (c .before .before .before .before .before .before .before .before .before .before .before .before .before .pre .0, omega (arith, whole-width _ (c .before .before .before .before .before .before .before .before .before .before .before .before .before .pre .1) .1, width-supply (c .before .before .before .before .before .before .before .before .before .before .before .before .before .args .rest .now) (c .before .before .before .before .if2 .taken)))
+supply-from-requires c κs = (c .before .before .before .before .before .before .before .before .before .before .before .before .before .pre .0, omega (arith, complete-width _ (c .before .before .before .before .before .before .before .before .before .before .before .before .before .pre .1) .1, width-supply (c .before .before .before .before .before .before .before .before .before .before .before .before .before .args .rest .now) (c .before .before .before .before .if2 .taken)))
 
 returns-2 : tie.Need-returns-2
 returns-2 c = rw (call-supply _ (c .before .before .before .before .before .before .before .before .before .if2 .taken)) (c .before .before .before .before .supply-from .ensures)

@@ -25,7 +25,7 @@ returns c = sym (c .before .before .before .before .loop .inv .1 ∙ laid-cut _ 
 returns-2 : tie.Need-returns-2 Inv-loop μ-loop
 returns-2 c = sym (c .before .before .before .before .before .loop .inv .1 ∙ laid-cut _ _ _ (c .before .before .width-of .ensures) (c .before .before .before .before .loop-test .taken) (inr (c .if2 .taken)))
 
--- past the tests the call is whole
+-- past the tests the call is complete
 step : (c : tie.Else2 Inv-loop μ-loop) → Step (c .before .before .before .before .before .before .before .args .journal .now) (c .before .before .before .before .before .loop .at) (c .before .before .width-of .result)
 step c = step-tested _ _ _ (c .before .before .width-of .ensures) (c .before .before .before .before .loop-test .taken) (c .before .if1 .left) (c .if2 .left)
 

@@ -5,10 +5,10 @@ use Prim.Native.Nat.{_-_, _≤_}
 use native.Mathlib.Omega.{arith}
 use lib.ListN.{length, getD}
 use borrow.Author.Needs.{needs}
-use Rattle.book_rules.specs.Columns.{Book, bookOf}
+use Rattle.book_rules.specs.Columns.{Book, bookOf, bookNow}
 use Rattle.load_rules.specs.Shares.{sharesTo, bookShares}
-use Rattle.load_rules.specs.Tally.{tally, table, groupAt, withGroup}
-use Rattle.load.specs.Steps.{Room}
+use Rattle.load_rules.specs.Tally.{tally}
+use Rattle.load.specs.InnerSteps.{table, groupAt, withGroup, RoomForOne}
 use Rattle.load.proofs.RowLaws.{Row, row-at, row-next}
 use Rattle.load.proofs.tally.tallied.Statement.{statement}
 use Rattle.load.proofs.tally.tallied.Tie as tie
@@ -24,7 +24,7 @@ abbrev entry : tie.In-loop Inv-loop μ-loop → tie.Start Inv-loop μ-loop
 entry c = c .before .before .before .before .before .before
 
 abbrev book : tie.Start Inv-loop μ-loop → Book
-book s = bookOf (s .args .ids .now) (s .args .groups .now) (s .args .marks .now) (s .args .levels .now)
+book s = bookNow (s .args .ids) (s .args .groups) (s .args .marks) (s .args .levels)
 
 -- the row that a turn reads
 row : (c : tie.In-loop Inv-loop μ-loop) → Row (entry c .args .points) (entry c .args .point) (book (entry c)) (c .before .loop .i)
@@ -58,7 +58,7 @@ unfolding groupAt
 with-row-requires c κs =
     let d = c .before .before .before .before .before in
     let g = getD (entry d .args .groups .now) (d .before .loop .i) 0 in
-    ((subst (λ cs. Room (groupAt cs g)) (sym (d .before .loop .inv .1)) (row d .room), row d .group<, row d .level≤), entry d .pre .0 .1)
+    ((subst (λ cs. RoomForOne (groupAt cs g)) (sym (d .before .loop .inv .1)) (row d .room), row d .group<, row d .level≤), entry d .pre .0 .1)
 
 -- the turn that stores
 abbrev turn : tie.After-with-row Inv-loop μ-loop → tie.In-loop Inv-loop μ-loop
