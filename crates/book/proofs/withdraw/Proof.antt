@@ -12,7 +12,7 @@ withdraw-requires : tie.Need-withdraw-requires
 withdraw-requires c κs = passed (c .before .before .before .before .before .is-sound .ensures) (c .before .before .before .before .if1 .left)
 
 returns-2 : tie.Need-returns-2
-returns-2 c = c .before .before .before .before .before .before .before .before .withdraw .ensures
+returns-2 c = search
 
 pub withdraw-spec : {M : Type 1} → statement M
 withdraw-spec =
