@@ -36,11 +36,12 @@ scaled-by-requires : tie.Need-scaled-by-requires
 scaled-by-requires c κs = fits (c .before .before .before)
 
 mean-requires : tie.Need-mean-requires
-mean-requires c κs = let s = c .before .before .before .before .before in omega (arith, some-days (s .args .days) (s .pre .1))
+mean-requires c κs =
+    let s : tie.Start = search in omega (arith, some-days (s .args .days) (s .pre .1))
 
 level-of-requires : tie.Need-level-of-requires
 level-of-requires c κs =
-    let n = c .before .before .before .before .before in
+    let n : tie.After-summed = search in
     let s = n .before in
     let t : c .before .scaled-by .result ≤ maxTotal = omega (arith, c .before .scaled-by .ensures, sums-small (s .args .groups) (n .summed .result) (n .summed .ensures) (s .pre .0)) in
     rw (c .mean .ensures) (mean-le (c .before .scaled-by .result) (s .args .days) t)

@@ -21,8 +21,9 @@ returns-2 c = rw (passed (c .before .before .before .before .point-fits .ensures
 
 load-of-requires : tie.Need-load-of-requires
 load-of-requires c κs =
-    let s = c .before .before .before .before .before .before .before .before in
-    let there = fits-there (s .args .points) (s .args .point) (book s) (passed (c .before .before .before .point-fits .ensures) (c .before .before .if1 .left)) in
+    let at-point-fits : tie.After-point-fits = search in
+    let s : tie.Start = search in
+    let there = fits-there (s .args .points) (s .args .point) (book s) (passed (at-point-fits .point-fits .ensures) (c .before .before .if1 .left)) in
     (there .0, (there .1, passed (c .before .days-fit .ensures) (c .if2 .left)))
 
 returns-3 : tie.Need-returns-3

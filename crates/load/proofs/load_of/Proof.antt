@@ -19,13 +19,13 @@ book s = bookNow (s .args .ids) (s .args .groups) (s .args .marks) (s .args .lev
 answer-from-requires : tie.Need-answer-from-requires
 unfolding bookShares
 answer-from-requires c κs =
-    let s = c .before .before .before .before .before .before .before .before .before .before in
+    let s : tie.Start = search in
     (rw (c .tallied .ensures) (rows-bounded (s .args .points) (s .args .point) (book s) (s .pre .0) (s .pre .1 .0)), s .pre .1 .1)
 
 returns : tie.Need-returns
 unfolding bookShares
 returns c =
-    let s = c .before .before .before .before .before .before .before .before .before .before .before in
+    let s : tie.Start = search in
     let ss = bookShares (s .args .points) (s .args .point) (book s) in
     c .answer-from .ensures
     ∙ ap (λ cs. loadFrom (groupAt cs) (s .args .days)) (c .before .tallied .ensures)

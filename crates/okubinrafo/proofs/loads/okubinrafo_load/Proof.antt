@@ -14,7 +14,7 @@ use Rattle.okubinrafo.proofs.loads.okubinrafo_load.Statement.{statement
 use Rattle.okubinrafo.proofs.loads.okubinrafo_load.Tie as tie
 
 abbrev start : tie.After-load-at → tie.Start
-start c = c .before .before .before .before .before .before
+start c = search
 
 -- the load of the book, and its 39 numbers
 abbrev the-load : tie.Start → Load

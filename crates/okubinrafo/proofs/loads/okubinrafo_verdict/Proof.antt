@@ -11,7 +11,7 @@ use Rattle.okubinrafo.proofs.loads.okubinrafo_verdict.Tie as tie
 -- the verdict on the book
 abbrev verdict : tie.After-verdict-at → Judged
 verdict c =
-    let s = c .before .before .before .before .before .before in
+    let s : tie.Start = search in
     bookVerdict (s .args .points) (s .args .point) (bookNow (s .args .identities) (s .args .groups) (s .args .marks) (s .args .levels)) (s .args .days) (s .args .limit)
 
 verdict-at-requires : tie.Need-verdict-at-requires
