@@ -1,4 +1,5 @@
-// The calls on a book that is known to be sound. Each keeps it sound (book's proofs/Kept.antt), so a caller that makes many calls checks once.
+// The calls on a book that is known to be sound. Each keeps it sound (book_rules, proofs/Kept.antt), so a caller that
+// makes many calls checks once.
 use crate::place::place_of;
 use crate::place::standing_rows;
 use crate::refusals::enter_refusal;
@@ -12,7 +13,7 @@ use column::core::fill_at;
 use movement::core::group_of;
 ghost use mathlib.Core.Path.{_≡_};
 ghost use mathlib.Core.Bool.{true};
-ghost use Rattle.book_rules.specs.Columns.{bookOf, sound};
+ghost use Rattle.book_rules.specs.Columns.{bookNow, bookBefore, bookAfter, sound};
 ghost use Rattle.book_rules.specs.Calls.{Call, Called};
 
 // Enters a movement: its row goes in at its place, not computed.
@@ -28,8 +29,9 @@ pub fn enter(
     time: u32,
     mass: u32,
 ) -> u32
-    requires { ⌜ sound points (bookOf (now ids) (now groups) (now marks) (now levels)) ≡ true ⌝ }
-    ensures { λ r. ⌜ Called points (bookOf (now (ids .entry)) (now (groups .entry)) (now (marks .entry)) (now (levels .entry))) (Call.enter identity ty kind time mass) r (bookOf (now (ids .exit)) (now (groups .exit)) (now (marks .exit)) (now (levels .exit))) ⌝ }
+    requires { ⌜ sound points (bookNow ids groups marks levels) ≡ true ⌝ }
+    ensures { λ r. ⌜ Called points (bookBefore ids groups marks levels) (Call.enter identity ty kind time mass) r
+        (bookAfter ids groups marks levels) ⌝ }
 {
     let at = place_of(ids, identity);
     let rows = standing_rows(ids);
@@ -62,8 +64,9 @@ pub fn supply(
     identity: u32,
     given: &[u32],
 ) -> u32
-    requires { ⌜ sound points (bookOf (now ids) (now groups) (now marks) (now levels)) ≡ true ⌝ }
-    ensures { λ r. ⌜ Called points (bookOf (now (ids .entry)) (now (groups .entry)) (now (marks .entry)) (now (levels .entry))) (Call.supply identity (now (given .entry))) r (bookOf (now (ids .entry)) (now (groups .entry)) (now (marks .exit)) (now (levels .exit))) ⌝ }
+    requires { ⌜ sound points (bookNow ids groups marks levels) ≡ true ⌝ }
+    ensures { λ r. ⌜ Called points (bookBefore ids groups marks levels) (Call.supply identity (now (given .entry))) r
+        (bookAfter ids groups marks levels) ⌝ }
 {
     let at = place_of(ids, identity);
     let not_supplied = supply_refusal(ids, at, points, identity, given);
@@ -84,8 +87,9 @@ pub fn take_back(
     points: usize,
     identity: u32,
 ) -> u32
-    requires { ⌜ sound points (bookOf (now ids) (now groups) (now marks) (now levels)) ≡ true ⌝ }
-    ensures { λ r. ⌜ Called points (bookOf (now (ids .entry)) (now (groups .entry)) (now (marks .entry)) (now (levels .entry))) (Call.takeBack identity) r (bookOf (now (ids .entry)) (now (groups .entry)) (now (marks .exit)) (now (levels .exit))) ⌝ }
+    requires { ⌜ sound points (bookNow ids groups marks levels) ≡ true ⌝ }
+    ensures { λ r. ⌜ Called points (bookBefore ids groups marks levels) (Call.takeBack identity) r
+        (bookAfter ids groups marks levels) ⌝ }
 {
     let at = place_of(ids, identity);
     let not_taken_back = take_back_refusal(ids, marks, at, identity);
@@ -106,8 +110,9 @@ pub fn withdraw(
     points: usize,
     identity: u32,
 ) -> u32
-    requires { ⌜ sound points (bookOf (now ids) (now groups) (now marks) (now levels)) ≡ true ⌝ }
-    ensures { λ r. ⌜ Called points (bookOf (now (ids .entry)) (now (groups .entry)) (now (marks .entry)) (now (levels .entry))) (Call.withdraw identity) r (bookOf (now (ids .exit)) (now (groups .exit)) (now (marks .exit)) (now (levels .exit))) ⌝ }
+    requires { ⌜ sound points (bookNow ids groups marks levels) ≡ true ⌝ }
+    ensures { λ r. ⌜ Called points (bookBefore ids groups marks levels) (Call.withdraw identity) r
+        (bookAfter ids groups marks levels) ⌝ }
 {
     let at = place_of(ids, identity);
     let not_withdrawn = withdraw_refusal(ids, at, identity);

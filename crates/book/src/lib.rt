@@ -1,11 +1,12 @@
-// The calls on a book: RULES, "Movements and the book". Each checks that the book is sound and leaves the rest to its core.
+// The calls on a book: RULES, "Movements and the book". Each checks that the book is sound and leaves the rest to its
+// core.
 pub mod core;
 mod place;
 mod refusals;
 mod rows;
 
 use soundness::is_sound;
-ghost use Rattle.book_rules.specs.Columns.{bookOf};
+ghost use Rattle.book_rules.specs.Columns.{bookBefore, bookAfter};
 ghost use Rattle.book_rules.specs.Calls.{Call, Called};
 
 // Enters a movement: its row goes in at its place, not computed.
@@ -21,7 +22,8 @@ pub fn enter(
     time: u32,
     mass: u32,
 ) -> u32
-    ensures { λ r. ⌜ Called points (bookOf (now (ids .entry)) (now (groups .entry)) (now (marks .entry)) (now (levels .entry))) (Call.enter identity ty kind time mass) r (bookOf (now (ids .exit)) (now (groups .exit)) (now (marks .exit)) (now (levels .exit))) ⌝ }
+    ensures { λ r. ⌜ Called points (bookBefore ids groups marks levels) (Call.enter identity ty kind time mass) r
+        (bookAfter ids groups marks levels) ⌝ }
 {
     if !is_sound(ids, groups, marks, levels, points) {
         return 9;
@@ -50,7 +52,8 @@ pub fn supply(
     identity: u32,
     given: &[u32],
 ) -> u32
-    ensures { λ r. ⌜ Called points (bookOf (now (ids .entry)) (now (groups .entry)) (now (marks .entry)) (now (levels .entry))) (Call.supply identity (now (given .entry))) r (bookOf (now (ids .entry)) (now (groups .entry)) (now (marks .exit)) (now (levels .exit))) ⌝ }
+    ensures { λ r. ⌜ Called points (bookBefore ids groups marks levels) (Call.supply identity (now (given .entry))) r
+        (bookAfter ids groups marks levels) ⌝ }
 {
     if !is_sound(ids, groups, marks, levels, points) {
         return 9;
@@ -67,7 +70,8 @@ pub fn take_back(
     points: usize,
     identity: u32,
 ) -> u32
-    ensures { λ r. ⌜ Called points (bookOf (now (ids .entry)) (now (groups .entry)) (now (marks .entry)) (now (levels .entry))) (Call.takeBack identity) r (bookOf (now (ids .entry)) (now (groups .entry)) (now (marks .exit)) (now (levels .exit))) ⌝ }
+    ensures { λ r. ⌜ Called points (bookBefore ids groups marks levels) (Call.takeBack identity) r
+        (bookAfter ids groups marks levels) ⌝ }
 {
     if !is_sound(ids, groups, marks, levels, points) {
         return 9;
@@ -84,7 +88,8 @@ pub fn withdraw(
     points: usize,
     identity: u32,
 ) -> u32
-    ensures { λ r. ⌜ Called points (bookOf (now (ids .entry)) (now (groups .entry)) (now (marks .entry)) (now (levels .entry))) (Call.withdraw identity) r (bookOf (now (ids .exit)) (now (groups .exit)) (now (marks .exit)) (now (levels .exit))) ⌝ }
+    ensures { λ r. ⌜ Called points (bookBefore ids groups marks levels) (Call.withdraw identity) r
+        (bookAfter ids groups marks levels) ⌝ }
 {
     if !is_sound(ids, groups, marks, levels, points) {
         return 9;

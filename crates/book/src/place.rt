@@ -7,7 +7,7 @@ ghost use lib.Dec.{eqb, leb};
 ghost use Rattle.refusal.specs.Range.{allWithin};
 ghost use Rattle.movement.specs.Limits.{maxIdentity};
 ghost use Rattle.book_rules.specs.Columns.{rising, indexOf, stands, placeOf};
-ghost use Rattle.book_rules.specs.Rows.{Placed};
+ghost use Rattle.book_rules.specs.InnerRows.{Placed};
 
 // Whether the identity x goes before a row of identity y, or is that row's.
 fn goes_before(x: u32, y: u32) -> bool

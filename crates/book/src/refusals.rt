@@ -7,7 +7,7 @@ ghost use mathlib.Core.Path.{_≡_};
 ghost use lib.ListN.{length};
 ghost use Rattle.book_rules.specs.Columns.{indexOf};
 ghost use Rattle.book_rules.specs.Calls.{enterRefusal, supplyRefusal, takeBackRefusal, withdrawRefusal};
-ghost use Rattle.book_rules.specs.Rows.{Placed};
+ghost use Rattle.book_rules.specs.InnerRows.{Placed};
 
 // `rows` rows stand.
 pub(crate) fn enter_refusal(

@@ -4,9 +4,9 @@ use column::core::open_at;
 ghost use mathlib.Core.Path.{_≡_};
 ghost use Prim.Native.Nat.{_<_};
 ghost use lib.ListN.{length};
-ghost use Rattle.book_rules.specs.Columns.{bookOf};
+ghost use Rattle.book_rules.specs.Columns.{bookNow, bookBefore, bookAfter};
 ghost use Rattle.book_rules.specs.Calls.{rowIn, rowOut};
-ghost use Rattle.book_rules.specs.Rows.{RowsTo};
+ghost use Rattle.book_rules.specs.InnerRows.{RowsTo};
 
 // A row without levels goes in at `at`, and the rows from there on, of the `rows` that stand, move up by one.
 pub(crate) fn row_in(
@@ -20,9 +20,10 @@ pub(crate) fn row_in(
     identity: u32,
     group: u32,
 )
-    requires { ⌜ RowsTo points (bookOf (now ids) (now groups) (now marks) (now levels)) at rows ⌝ }
+    requires { ⌜ RowsTo points (bookNow ids groups marks levels) at rows ⌝ }
     requires { ⌜ rows < length (now ids) ⌝ }
-    ensures { λ _. ⌜ bookOf (now (ids .exit)) (now (groups .exit)) (now (marks .exit)) (now (levels .exit)) ≡ rowIn points (bookOf (now (ids .entry)) (now (groups .entry)) (now (marks .entry)) (now (levels .entry))) at identity group ⌝ }
+    ensures { λ _. ⌜ bookAfter ids groups marks levels
+        ≡ rowIn points (bookBefore ids groups marks levels) at identity group ⌝ }
 {
     let count = rows - at;
     open_at(ids, at, count, 1, identity);
@@ -41,9 +42,10 @@ pub(crate) fn row_out(
     at: usize,
     rows: usize,
 )
-    requires { ⌜ RowsTo points (bookOf (now ids) (now groups) (now marks) (now levels)) at rows ⌝ }
+    requires { ⌜ RowsTo points (bookNow ids groups marks levels) at rows ⌝ }
     requires { ⌜ at < rows ⌝ }
-    ensures { λ _. ⌜ bookOf (now (ids .exit)) (now (groups .exit)) (now (marks .exit)) (now (levels .exit)) ≡ rowOut points (bookOf (now (ids .entry)) (now (groups .entry)) (now (marks .entry)) (now (levels .entry))) at ⌝ }
+    ensures { λ _. ⌜ bookAfter ids groups marks levels
+        ≡ rowOut points (bookBefore ids groups marks levels) at ⌝ }
 {
     let count = rows - at - 1;
     close_at(ids, at, count, 1);

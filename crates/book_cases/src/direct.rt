@@ -1,5 +1,5 @@
-// Each call by itself, on a book of one row and one point: accepted, and for another number of points, which is 9 before any other
-// fault. And an entry in books whose columns fit 8 and 9 points.
+// Each call by itself, on a book of one row and one point: accepted, and for another number of points, which is 9
+// before any other fault. And an entry in books whose columns fit 8 and 9 points.
 use crate::printing::case;
 
 fn enter(ids: &mut [u32], groups: &mut [u32], marks: &mut [u32], levels: &mut [u32]) {

@@ -1,12 +1,14 @@
-// The cases of RULES for the calls on a book: each answer is printed beside what it should be. The calls stand in a journal, in order, and are
-// made by a replay; refusals of the whole, and each call made by itself for another number of points, follow.
+// The cases of RULES for the calls on a book: each answer is printed beside what it should be. The calls stand in a
+// journal, in order, and are made by a replay; refusals of the whole, and each call made by itself for another number
+// of points, follow.
 mod direct;
 mod printing;
 
 use printing::show_answers;
 use printing::show_column;
 
-// On a book of 3 rows and 2 points. 1 enter: identity, type, kind, time, mass. 2 supply: identity, how many levels, the levels. 3 take back. 4 withdraw.
+// On a book of 3 rows and 2 points. 1 enter: identity, type, kind, time, mass. 2 supply: identity, how many levels, the
+// levels. 3 take back. 4 withdraw.
 const JOURNAL: [u32; 143] = [
     1,
     7,

@@ -7,7 +7,8 @@ use native.Mathlib.Omega.{arith}
 use lib.ListN.{length, take, drop, replicate, length-append, length-replicate, take-append-drop, replicate-append-replicate}
 use lib.Seq.{take-at, drop-at, drop-drop, take-append-add, drop-append-add, take-append-le, drop-append-le, length-take-le}
 use borrow.Author.Tests.{le-leb, lt-leb, eq-eqb, ne-eqb}
-use Rattle.book_rules.specs.Columns.{opened, closed, replaced}
+use Rattle.room.specs.Room.{put}
+use Rattle.book_rules.specs.Columns.{opened, closed}
 use Rattle.book_rules.specs.History.{Held, Movement, movement, added, holding, without, column}
 
 -- row k is the place of a new identity x
@@ -127,9 +128,11 @@ closed-is : (n w : ℕ) (xs : List ℕ) → closed n w xs ≡ changeAt n (λ t. 
 unfolding closed
 closed-is n w xs = ap (λ (t : List ℕ). take n xs ++ (t ++ replicate w 0)) (sym (drop-drop w n xs))
 
-replaced-is : (n : ℕ) (vs xs : List ℕ) → replaced n vs xs ≡ changeAt n (λ t. vs ++ drop (length vs) t) xs
-unfolding replaced
-replaced-is n vs xs = ap (λ (t : List ℕ). take n xs ++ (vs ++ t)) (sym (drop-drop (length vs) n xs))
+put-is : (n : ℕ) (vs xs : List ℕ) → put xs n vs ≡ changeAt n (λ t. vs ++ drop (length vs) t) xs
+unfolding put
+put-is n vs xs =
+    append-assoc (take n xs) vs (drop (n + length vs) xs)
+    ∙ ap (λ (t : List ℕ). take n xs ++ (vs ++ t)) (sym (drop-drop (length vs) n xs))
 
 -- A change of a column is the change of the list
 
@@ -192,9 +195,9 @@ module _ (f : Movement → List ℕ) (w : ℕ) where
   -- a row's values are replaced
   pub column-held : {x n k : ℕ} {ms : List Movement} (vs : List ℕ) (u : ℕ) (h : Held) → n ≡ k * w → Sized f w ms → length vs ≡ w
       → ((a : Movement) → f (movement (a .identity) (a .group) h) ≡ vs) → Found x ms k
-      → replaced n vs (column f w u ms) ≡ column f w u (holding x h ms)
+      → put (column f w u ms) n vs ≡ column f w u (holding x h ms)
   column-held {x} {n} {k} {ms} vs u h e s l g r =
-      ap (λ i. replaced i vs (column f w u ms)) e ∙ replaced-is (k * w) vs (column f w u ms) ∙ swap-held vs u h s l g r
+      ap (λ i. put (column f w u ms) i vs) e ∙ put-is (k * w) vs (column f w u ms) ∙ swap-held vs u h s l g r
 
   -- in a column that holds no levels nothing changes
   pub column-kept : {x k : ℕ} {ms : List Movement} (u : ℕ) (h : Held) → ((a : Movement) → f (movement (a .identity) (a .group) h) ≡ f a) → Found x ms k

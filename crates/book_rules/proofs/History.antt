@@ -14,7 +14,7 @@ use Rattle.movement.specs.Rules.{movementRefusal, identityFits, levelsFit}
 use Rattle.book_rules.specs.Columns.{Book, firstAt, indexOf, stands, sound}
 use Rattle.book_rules.specs.Calls.{Call, refusedOr, enterRefusal, supplyRefusal, takeBackRefusal, withdrawRefusal, soundRefusal, refusal, changed, after}
 use Rattle.book_rules.specs.Calls.Call.{enter, supply, takeBack, withdraw}
-use Rattle.book_rules.specs.History.{Held, Movement, Made, made, step, listOf, booked, answered, acceptedByRows, accepted, listAnswered, movements, standing, hasLevels, computed, sizesFit, standingRefusal, listRefusal, markOf, column, identityCell, markCell, levelCells, rowsOf, emptyBook, times, inOrder, HistoryHolds}
+use Rattle.book_rules.specs.History.{Held, Movement, Made, made, step, listOf, booked, answered, acceptedByRows, accepted, listAnswered, movements, standing, hasLevels, computed, sizesFit, standingRefusal, listRefusal, markOf, column, identityCell, markCell, levelCells, rowsOf, emptyBook, howOften, inOrder, HistoryHolds}
 use Rattle.book_rules.specs.History.Held.{none, holds}
 use Rattle.book_rules.proofs.Shapes.{sound-fits}
 use Rattle.book_rules.proofs.Accepted.{identity-in, accepted-sound, after-refused, after-accepted}
@@ -234,18 +234,18 @@ not-again x (a ∷ ms) b r = rw (ne-eqb (a .identity) x (omega arith)) (not-agai
     below [] h = tt
     below (c ∷ ns) h = omega (arith, b)
 
-times-zeros : (x n : ℕ) → 1 ≤ x → times x (replicate n 0) ≡ 0
-unfolding times
+times-zeros : (x n : ℕ) → 1 ≤ x → howOften x (replicate n 0) ≡ 0
+unfolding howOften
 times-zeros x zero l = refl
 times-zeros x (suc n) l = rw (ne-eqb 0 x (omega arith)) (times-zeros x n l)
 
-times-once : (x u : ℕ) (ms : List Movement) → 1 ≤ x → Rising ms → times x (ids u ms) ≡ cond (standing x ms) 1 0
-unfolding times standing column
+times-once : (x u : ℕ) (ms : List Movement) → 1 ≤ x → Rising ms → howOften x (ids u ms) ≡ cond (standing x ms) 1 0
+unfolding howOften standing column
 times-once x u [] l r = times-zeros x (u * 1) l
 times-once x u (a ∷ ms) l r = by (eqb (a .identity) x) refl (times-once x u ms l (r .1))
   where
-    by : (t : Bool) → eqb (a .identity) x ≡ t → times x (ids u ms) ≡ cond (standing x ms) 1 0
-        → cond t (suc (times x (ids u ms))) (times x (ids u ms)) ≡ cond (t || standing x ms) 1 0
+    by : (t : Bool) → eqb (a .identity) x ≡ t → howOften x (ids u ms) ≡ cond (standing x ms) 1 0
+        → cond t (suc (howOften x (ids u ms))) (howOften x (ids u ms)) ≡ cond (t || standing x ms) 1 0
     by false e ih = ih
     by true e ih =
         let again = not-again x ms (subst (λ k. Below k ms) (eqb-true (a .identity) x e) (r .0)) (r .1) in
@@ -260,7 +260,7 @@ history p n cs =
     record {
       rows = history-rows p n cs;
       order = order-of (movements p n cs) (t .rising);
-      once = λ x l. ap (λ (b : Book). times x (b .identities)) (t .rows) ∙ times-once x (t .unused) (movements p n cs) l (t .rising);
+      once = λ x l. ap (λ (b : Book). howOften x (b .identities)) (t .rows) ∙ times-once x (t .unused) (movements p n cs) l (t .rising);
       room = omega (arith, t .same);
       answers = answers-by-list p n cs (emptyBook p n) [] (told-empty p n);
       same = accepted-by-list p n cs (emptyBook p n) [] (told-empty p n);

@@ -23,7 +23,8 @@ use Rattle.book_rules.proofs.Kept.{read-rows}
 use Rattle.book_rules.proofs.History.{told-all, history-sound}
 use Rattle.book_rules.proofs.SoundBook.{sound-exactly}
 use Rattle.book_rules.proofs.Order.{refusal-order}
-use Rattle.book_rules.proofs.Lookup.{none-found, rows-found, listed-none, listed-this, listed-later, below-none, call-does}
+use Rattle.book_rules.proofs.Listed.{none-found, rows-found, listed-none, listed-this, listed-later, below-none}
+use Rattle.book_rules.proofs.Lookup.{call-does}
 
 pub call-holds : {p r : ℕ} {b b′ : Book} {c : Call} → Called p b c r b′ → CallHolds p b c r b′
 call-holds {p} {r} {b} {b′} {c} k =

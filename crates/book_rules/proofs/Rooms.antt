@@ -14,7 +14,7 @@ use Rattle.movement.specs.Limits.{maxIdentity}
 use Rattle.movement.specs.Rules.{identityFits}
 use Rattle.book_rules.specs.Columns.{Book, indexOf, placeOf, sound}
 use Rattle.book_rules.specs.History.{Movement, markOf, column, identityCell, groupCell, markCell, levelCells}
-use Rattle.book_rules.specs.Rows.{ZeroFrom, RowsTo}
+use Rattle.book_rules.specs.InnerRows.{ZeroFrom, RowsTo}
 use Rattle.book_rules.proofs.Scans.{room, product-fits}
 use Rattle.book_rules.proofs.Search.{reached, place-after, place-last, place-index, index-is, stands-index}
 use Rattle.book_rules.proofs.Shapes.{sound-fits, sound-rises, sound-identities}

@@ -6,9 +6,10 @@ use mathlib.Core.List.{List, [], _∷_}
 use lib.ListN.{getD, replicate}
 use lib.Dec.{eqb}
 use Rattle.refusal.specs.Refuse.{refuse}
+use Rattle.room.specs.Room.{put}
 use Rattle.movement.specs.Rules.{movementRefusal, identityFits, levelsFit}
 use Rattle.movement.specs.Group.{groupOf}
-use Rattle.book_rules.specs.Columns.{Book, bookOf, sound, indexOf, stands, placeOf, opened, closed, replaced}
+use Rattle.book_rules.specs.Columns.{Book, bookOf, sound, indexOf, stands, placeOf, opened, closed}
 
 pub data Call : Type 0 where
   enter : (identity type kind time mass : ℕ) → Call
@@ -60,18 +61,20 @@ refusal p b c = refuse 9 (sound p b) (soundRefusal p b c)
 -- What an accepted call changes
 
 -- row k goes in, with no levels, and the rows from there on move up by one
-unfoldable pub rowIn : ℕ → Book → ℕ → ℕ → ℕ → Book
+unfoldable pub rowIn : (points : ℕ) (book : Book) (row identity group : ℕ) → Book
 rowIn p b k x g =
-    bookOf (opened k (x ∷ []) (b .identities)) (opened k (g ∷ []) (b .groups)) (opened k (0 ∷ []) (b .marks)) (opened (k * p) (replicate p 0) (b .levels))
+    bookOf (opened k (x ∷ []) (b .identities)) (opened k (g ∷ []) (b .groups)) (opened k (0 ∷ []) (b .marks))
+    (opened (k * p) (replicate p 0) (b .levels))
 
 -- row k goes out, and the rows after it move down by one
-unfoldable pub rowOut : ℕ → Book → ℕ → Book
+unfoldable pub rowOut : (points : ℕ) (book : Book) (row : ℕ) → Book
 rowOut p b k =
     bookOf (closed k 1 (b .identities)) (closed k 1 (b .groups)) (closed k 1 (b .marks)) (closed (k * p) p (b .levels))
 
 -- row k has the mark m and the levels ls
-unfoldable pub rowMarked : ℕ → Book → ℕ → ℕ → List ℕ → Book
-rowMarked p b k m ls = bookOf (b .identities) (b .groups) (replaced k (m ∷ []) (b .marks)) (replaced (k * p) ls (b .levels))
+unfoldable pub rowMarked : (points : ℕ) (book : Book) (row mark : ℕ) (levels : List ℕ) → Book
+rowMarked p b k m ls =
+    bookOf (b .identities) (b .groups) (put (b .marks) k (m ∷ [])) (put (b .levels) (k * p) ls)
 
 -- the book after an accepted call
 unfoldable pub changed : ℕ → Book → Call → Book

@@ -1,4 +1,5 @@
--- The columns of a book, when they are sound, and how each column changes: RULES, "Movements and the book". Assumes nothing.
+-- The columns of a book, when they are sound, and how each column changes: RULES, "Movements and the book".
+-- Assumes nothing.
 use Prim.Native.Nat.{ℕ, zero, suc, _+_, _*_}
 use mathlib.Core.Bool.{Bool, true, cond, _&&_, _||_}
 use mathlib.Core.List.{List, [], _∷_, _++_}
@@ -16,26 +17,26 @@ pub record Book : Type 0 where
   pub marks : List ℕ
   pub levels : List ℕ
 
-abbrev pub bookOf : List ℕ → List ℕ → List ℕ → List ℕ → Book
+abbrev pub bookOf : (identities groups marks levels : List ℕ) → Book
 bookOf ids gs ms ls = record { identities = ids; groups = gs; marks = ms; levels = ls }
 
 -- a column that is lent, at entry and at exit; and the book of four lent columns: now, before the call and after it
-abbrev pub Lent : Type 0
-Lent = Both (RefT (List ℕ)) (RefT (List ℕ))
+abbrev pub LentColumn : Type 0
+LentColumn = Both (RefT (List ℕ)) (RefT (List ℕ))
 
 abbrev pub bookNow : (ids groups marks levels : RefT (List ℕ)) → Book
 bookNow ids gs ms ls = bookOf (now ids) (now gs) (now ms) (now ls)
 
-abbrev pub bookBefore : (ids groups marks levels : Lent) → Book
+abbrev pub bookBefore : (ids groups marks levels : LentColumn) → Book
 bookBefore ids gs ms ls = bookOf (now (ids .entry)) (now (gs .entry)) (now (ms .entry)) (now (ls .entry))
 
-abbrev pub bookAfter : (ids groups marks levels : Lent) → Book
+abbrev pub bookAfter : (ids groups marks levels : LentColumn) → Book
 bookAfter ids gs ms ls = bookOf (now (ids .exit)) (now (gs .exit)) (now (ms .exit)) (now (ls .exit))
 
 -- Soundness
 
 -- points and rows in range, and columns that fit, by their lengths
-unfoldable pub shapeFits : ℕ → ℕ → ℕ → ℕ → ℕ → Bool
+unfoldable pub shapeFits : (points rows groups marks levels : ℕ) → Bool
 shapeFits points rows groups marks levels =
     (leb 1 points && leb points maxPoints)
     && ((leb 1 rows && leb rows maxRows)
@@ -58,17 +59,17 @@ rising [] = true
 rising (x ∷ xs) = followed x xs && rising xs
 
 -- an unused row is zero throughout; a used one has its values in range
-unfoldable pub headSound : ℕ → ℕ → ℕ → Bool
+unfoldable pub headSound : (identity group mark : ℕ) → Bool
 headSound x g m = cond (eqb x 0) (eqb g 0 && eqb m 0) (leb x maxIdentity && (ltb g groupCount && leb m 1))
 
 -- the highest level that a row may hold: 0 where it is not marked as computed
 unfoldable pub topLevel : ℕ → ℕ
 topLevel m = cond (eqb m 0) 0 maxLevel
 
-unfoldable pub rowSound : ℕ → ℕ → ℕ → List ℕ → Bool
+unfoldable pub rowSound : (identity group mark : ℕ) (levels : List ℕ) → Bool
 rowSound x g m ls = headSound x g m && allWithin (topLevel m) ls
 
-unfoldable pub rowsSound : ℕ → List ℕ → List ℕ → List ℕ → List ℕ → Bool
+unfoldable pub rowsSound : (points : ℕ) (identities groups marks levels : List ℕ) → Bool
 rowsSound p [] gs ms ls = true
 rowsSound p (x ∷ xs) [] ms ls = true
 rowsSound p (x ∷ xs) (g ∷ gs) [] ls = true
@@ -96,7 +97,7 @@ stands x xs = ltb (indexOf x xs) (length xs)
 unfoldable pub placeOf : ℕ → List ℕ → ℕ
 placeOf x xs = firstAt (λ y. eqb y 0 || leb x y) xs
 
--- Changes of one column, at an index of it
+-- Changes of one column, at an index of it; values that take the place of as many others are `put` there (crate room)
 
 -- the values vs go in, and what stands after moves up; the column keeps its length
 unfoldable pub opened : ℕ → List ℕ → List ℕ → List ℕ
@@ -105,7 +106,3 @@ opened at vs xs = take (length xs) (take at xs ++ (vs ++ drop at xs))
 -- w values go out, and what stands after moves down; zeros fill the end
 unfoldable pub closed : ℕ → ℕ → List ℕ → List ℕ
 closed at w xs = take at xs ++ (drop (at + w) xs ++ replicate w 0)
-
--- the values vs take the place of as many others
-unfoldable pub replaced : ℕ → List ℕ → List ℕ → List ℕ
-replaced at vs xs = take at xs ++ (vs ++ drop (at + length vs) xs)

@@ -84,8 +84,8 @@ computed x (a ∷ ms) = cond (eqb (a .identity) x) (hasLevels (a .held)) (comput
 unfoldable pub sizesFit : ℕ → ℕ → Bool
 sizesFit p n = (leb 1 p && leb p maxPoints) && (leb 1 n && leb n maxRows)
 
--- the refusal of a call where these movements stand, in a book of n rows and p points: 9 for another number of points, and then as the rules say
-unfoldable pub standingRefusal : ℕ → ℕ → List Movement → Call → ℕ
+-- the refusal of a call where these movements stand, in a book of n rows and p points, as the rules say
+unfoldable pub standingRefusal : (points rows : ℕ) (standing : List Movement) (call : Call) → ℕ
 standingRefusal p n ms (enter x t k s m) =
     refusedOr (movementRefusal t k s m)
     (refuse 3 (identityFits x)
@@ -103,23 +103,26 @@ standingRefusal p n ms (withdraw x) =
     refuse 3 (identityFits x)
     (refuse 5 (standing x ms) 0)
 
-unfoldable pub listRefusal : ℕ → ℕ → List Movement → Made → ℕ
+-- 9 for another number of points comes first
+unfoldable pub listRefusal : (points rows : ℕ) (standing : List Movement) (call : Made) → ℕ
 listRefusal p n ms c = refuse 9 (eqb (c .points) p && sizesFit p n) (standingRefusal p n ms (c .call))
 
 -- Histories
 
 -- the accepted ones among the calls, where these movements stand at first
-unfoldable pub accepted : ℕ → ℕ → List Movement → List Made → List Call
+unfoldable pub accepted : (points rows : ℕ) (standing : List Movement) (calls : List Made) → List Call
 accepted p n ms [] = []
-accepted p n ms (c ∷ cs) = cond (eqb (listRefusal p n ms c) 0) (c .call ∷ accepted p n (step ms (c .call)) cs) (accepted p n ms cs)
+accepted p n ms (c ∷ cs) =
+    cond (eqb (listRefusal p n ms c) 0) (c .call ∷ accepted p n (step ms (c .call)) cs) (accepted p n ms cs)
 
 -- the answer of each call, where these movements stand at first
-unfoldable pub listAnswered : ℕ → ℕ → List Movement → List Made → List ℕ
+unfoldable pub listAnswered : (points rows : ℕ) (standing : List Movement) (calls : List Made) → List ℕ
 listAnswered p n ms [] = []
-listAnswered p n ms (c ∷ cs) = listRefusal p n ms c ∷ listAnswered p n (cond (eqb (listRefusal p n ms c) 0) (step ms (c .call)) ms) cs
+listAnswered p n ms (c ∷ cs) =
+    listRefusal p n ms c ∷ listAnswered p n (cond (eqb (listRefusal p n ms c) 0) (step ms (c .call)) ms) cs
 
 -- the movements that a history of calls leaves standing, from an empty book of n rows and p points
-unfoldable pub movements : ℕ → ℕ → List Made → List Movement
+unfoldable pub movements : (points rows : ℕ) → List Made → List Movement
 movements p n cs = listOf [] (accepted p n [] cs)
 
 -- the book after calls, refused ones included
@@ -136,7 +139,8 @@ answered b (c ∷ cs) = refusal (c .points) b (c .call) ∷ answered (after (c .
 unfoldable pub acceptedByRows : Book → List Made → List Call
 acceptedByRows b [] = []
 acceptedByRows b (c ∷ cs) =
-    cond (eqb (refusal (c .points) b (c .call)) 0) (c .call ∷ acceptedByRows (after (c .points) b (c .call)) cs) (acceptedByRows (after (c .points) b (c .call)) cs)
+    cond (eqb (refusal (c .points) b (c .call)) 0) (c .call ∷ acceptedByRows (after (c .points) b (c .call)) cs)
+    (acceptedByRows (after (c .points) b (c .call)) cs)
 
 -- The rows of a list of movements
 
@@ -149,7 +153,7 @@ levelsOf p none = replicate p 0
 levelsOf p (holds ls) = ls
 
 -- a column of w values a movement, and zeros for the unused rows
-unfoldable pub column : (Movement → List ℕ) → ℕ → ℕ → List Movement → List ℕ
+unfoldable pub column : (cells : Movement → List ℕ) (width unused : ℕ) (movements : List Movement) → List ℕ
 column f w unused [] = replicate (unused * w) 0
 column f w unused (a ∷ ms) = f a ++ column f w unused ms
 
@@ -167,20 +171,21 @@ abbrev pub levelCells : ℕ → Movement → List ℕ
 levelCells p a = levelsOf p (a .held)
 
 -- the book of a list of movements, with so many unused rows
-unfoldable pub rowsOf : ℕ → ℕ → List Movement → Book
+unfoldable pub rowsOf : (points unused : ℕ) → List Movement → Book
 rowsOf p unused ms =
-    bookOf (column identityCell 1 unused ms) (column groupCell 1 unused ms) (column markCell 1 unused ms) (column (levelCells p) p unused ms)
+    bookOf (column identityCell 1 unused ms) (column groupCell 1 unused ms) (column markCell 1 unused ms)
+    (column (levelCells p) p unused ms)
 
 -- n rows, all unused
-unfoldable pub emptyBook : ℕ → ℕ → Book
+unfoldable pub emptyBook : (points rows : ℕ) → Book
 emptyBook p n = bookOf (replicate n 0) (replicate n 0) (replicate n 0) (replicate (n * p) 0)
 
 -- The theorem's statement
 
 -- how often the identity x stands in a column of identities
-unfoldable pub times : ℕ → List ℕ → ℕ
-times x [] = 0
-times x (y ∷ ys) = cond (eqb y x) (suc (times x ys)) (times x ys)
+unfoldable pub howOften : (identity : ℕ) → List ℕ → ℕ
+howOften x [] = 0
+howOften x (y ∷ ys) = cond (eqb y x) (suc (howOften x ys)) (howOften x ys)
 
 -- each movement has a lower identity than the next
 unfoldable pub inOrder : List Movement → Bool
@@ -190,12 +195,14 @@ inOrder (a ∷ (b ∷ ms)) = ltb (a .identity) (b .identity) && inOrder (b ∷ m
 
 -- start from an empty book of n rows and p points and make any calls, refused ones included:
 pub record HistoryHolds (p n : ℕ) (cs : List Made) : Type 0 where
-  -- the columns hold exactly the movements that the accepted calls leave standing, and then unused rows, zero throughout
+  -- the columns hold exactly the movements that the accepted calls leave standing, and then unused rows, zero
+  -- throughout
   pub rows : booked (emptyBook p n) cs ≡ rowsOf p (n - length (movements p n cs)) (movements p n cs)
   -- in rising identity
   pub order : inOrder (movements p n cs) ≡ true
   -- each movement once, and no other
-  pub once : (x : ℕ) → 1 ≤ x → times x (booked (emptyBook p n) cs .identities) ≡ cond (standing x (movements p n cs)) 1 0
+  pub once : (x : ℕ) → 1 ≤ x
+      → howOften x (booked (emptyBook p n) cs .identities) ≡ cond (standing x (movements p n cs)) 1 0
   -- within the n rows
   pub room : length (movements p n cs) ≤ n
   -- each call is answered as the list alone says, and so the accepted calls are those that the list alone says

@@ -1,7 +1,7 @@
 pub mod Columns
 pub mod Calls
 pub mod History
-pub mod Rows
+pub mod InnerRows
 pub mod Reasons
 pub mod SoundBook
 pub mod Lookup

@@ -77,7 +77,7 @@ pub record Withdraws (p x : ℕ) (b b′ : Book) : Type 0 where
   pub free : (t k s m : ℕ) → Fields t k s m → 150 < m → refusal p b′ (enter x t k s m) ≡ 0
 
 -- what an accepted call does
-abbrev pub Does : (p : ℕ) → Call → (b b′ : Book) → Type 0
+abbrev pub Does : (p : ℕ) (call : Call) (b b′ : Book) → Type 0
 Does p (Call.enter x t k s m) b b′ = Enters p x t k s b b′
 Does p (Call.supply x ls) b b′ = Supplies p x ls b b′
 Does p (Call.takeBack x) b b′ = TakesBack p x b b′

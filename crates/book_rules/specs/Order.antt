@@ -16,7 +16,7 @@ pub record Given (r n : ℕ) (Reason Rest : Type 0) : Type 0 where
   pub otherwise : (Reason → ⊥) → Rest
 
 -- the answer r to a call: enter 9,1,2,3,4,6; supply 9,3,7,5; take back 9,3,5,8; withdraw 9,3,5
-abbrev pub InOrder : (p : ℕ) → Book → Call → (r : ℕ) → Type 0
+abbrev pub InOrder : (p : ℕ) (book : Book) (call : Call) (r : ℕ) → Type 0
 InOrder p b (enter x t k s m) r =
     Given r 9 (SoundBook p b → ⊥)
     (Given r 1 (Fields t k s m → ⊥)

@@ -1,29 +1,12 @@
--- Laws on lists: a loop that stores from the front, one that stores from the back, and parts of a list. Assumes nothing.
-use mathlib.Core.Path.{_≡_, refl, sym, ap, _∙_}
-use mathlib.Core.List.{List, [], _∷_, _++_, append-nil}
+-- Laws on lists: the loops that move values up, from the back, and down, from the front. Assumes nothing.
+use mathlib.Core.Path.{_≡_, sym, ap, _∙_}
+use mathlib.Core.List.{List, _++_}
 use Prim.Native.Nat.{ℕ, zero, suc, _+_, _-_, _≤_, _<_}
-use native.Mathlib.Nat.{le-of-suc-le-suc, not-suc-le-zero, add-comm}
-use native.Mathlib.Numerals.{add-one}
+use native.Mathlib.Nat.{not-suc-le-zero, add-comm}
 use native.Mathlib.Omega.{arith}
-use lib.ListN.{length, take, drop, getD, set, drop-of-length-le, List·getD-append, length-drop, length-append, take-append-drop}
-use lib.Seq.{take-suc, drop-cons, append-snoc, set-at, length-take-le, take-all, drop-at, getD-take, getD-drop, getD-append-add}
-
--- the first i values of s, then d's own
-abbrev pub front : List ℕ → List ℕ → ℕ → List ℕ
-front s d i = take i s ++ drop i d
-
-front-suc : (s d : List ℕ) (i : ℕ) → i < length s → i < length d → set (front s d i) i (getD s i 0) ≡ front s d (suc i)
-front-suc [] d i h k = absurd (not-suc-le-zero h)
-front-suc (x ∷ xs) [] i h k = absurd (not-suc-le-zero k)
-front-suc (x ∷ xs) (y ∷ ys) zero h k = refl
-front-suc (x ∷ xs) (y ∷ ys) (suc i) h k = ap (λ (l : List ℕ). x ∷ l) (front-suc xs ys i (le-of-suc-le-suc h) (le-of-suc-le-suc k))
-
--- a store of s's value takes the copy of i values to the copy of one more
-pub front-more : (s d : List ℕ) {now : List ℕ} {i v : ℕ} → now ≡ front s d i → getD s i 0 ≡ v → i < length s → i < length d → set now i v ≡ front s d (i + 1)
-front-more s d {now} {i} {v} e f h k = ap (λ (t : List ℕ). set t i v) e ∙ ap (set (front s d i) i) (sym f) ∙ front-suc s d i h k ∙ ap (front s d) (sym (add-one i))
-
-pub front-whole : (s d : List ℕ) (i : ℕ) → length s ≤ i → length d ≤ i → front s d i ≡ s
-front-whole s d i h k = ap (λ (t : List ℕ). t ++ drop i d) (take-all i s h) ∙ ap (λ (t : List ℕ). s ++ t) (drop-of-length-le d k) ∙ append-nil s
+use lib.ListN.{length, take, drop, getD, set, List·getD-append, length-drop, length-append, take-append-drop}
+use lib.Seq.{take-suc, drop-cons, append-snoc, set-at, length-take-le, drop-at, getD-take, getD-drop, getD-append-add}
+use Rattle.room.proofs.Laws.{frontTo}
 
 -- d's first i + w values, then s's from index i on
 abbrev pub back : List ℕ → List ℕ → ℕ → ℕ → List ℕ
@@ -71,11 +54,11 @@ back-start d count w h =
     sym (ap (λ (t : List ℕ). take (count + w) d ++ t) (drop-at (take count d) (drop (count + w) d) count l) ∙ take-append-drop (count + w) d)
 
 -- in the loop that moves d down by w, what is read at i + w is still d's
-pub down-read : (d : List ℕ) (w i : ℕ) {now : List ℕ} → now ≡ front (drop w d) d i → i + w ≤ length d → getD (drop w d) i 0 ≡ getD now (i + w) 0
+pub down-read : (d : List ℕ) (w i : ℕ) {now : List ℕ} → now ≡ frontTo (drop w d) d i → i + w ≤ length d → getD (drop w d) i 0 ≡ getD now (i + w) 0
 down-read d w i {now} e h =
     let l : length (take i (drop w d)) ≡ i = length-take-le i (drop w d) (rw length-drop (omega arith)) in
     getD-drop w d i 0 ∙ ap (λ n. getD d n 0) (add-comm w i)
     ∙ sym (ap (λ (t : List ℕ). getD t (i + w) 0) e
-    ∙ ap (λ n. getD (front (drop w d) d i) (n + w) 0) (sym l)
+    ∙ ap (λ n. getD (frontTo (drop w d) d i) (n + w) 0) (sym l)
     ∙ getD-append-add (take i (drop w d)) (drop i d) w 0
     ∙ getD-drop i d w 0)

@@ -7,8 +7,9 @@ use native.Mathlib.Omega.{arith}
 use lib.ListN.{length, take, drop, replicate, length-drop, length-append, length-replicate, take-append-drop, replicate-append-replicate}
 use lib.Seq.{take-at, drop-at, take-append-add, take-all, drop-length, drop-drop, length-take-le}
 use borrow.Rule.Slice.PartMut.{midOf, postOf, putMid, post-is, mid-len}
-use Rattle.book_rules.specs.Columns.{opened, closed, replaced}
-use Rattle.book_rules.specs.Rows.{ZeroFrom}
+use Rattle.room.specs.Room.{put}
+use Rattle.book_rules.specs.Columns.{opened, closed}
+use Rattle.book_rules.specs.InnerRows.{ZeroFrom}
 
 -- the part from a on
 tail-mid : (a : ℕ) (xs : List ℕ) → midOf a (length xs - a) xs ≡ drop a xs
@@ -97,12 +98,14 @@ closed-tail a count w xs {ys} z e =
     ∙ ap (λ (s : List ℕ). s ++ replicate w 0) (drop-drop w a xs))
 
 -- the n values from a on
-pub replaced-part : (a n : ℕ) (xs : List ℕ) {ys zs : List ℕ} → ys ≡ zs → length zs ≡ n → putMid a (a + n - a) xs ys ≡ replaced a zs xs
-unfolding replaced
-replaced-part a n xs {ys} {zs} e l =
+pub put-part : (a n : ℕ) (xs : List ℕ) {ys zs : List ℕ} → ys ≡ zs → length zs ≡ n
+    → putMid a (a + n - a) xs ys ≡ put xs a zs
+unfolding put
+put-part a n xs {ys} {zs} e l =
     ap (λ (t : List ℕ). take a xs ++ (ys ++ t)) (post-is a (a + n) xs (omega arith))
     ∙ ap (λ (t : List ℕ). take a xs ++ (t ++ drop (a + n) xs)) e
     ∙ ap (λ k. take a xs ++ (zs ++ drop (a + k) xs)) (sym l)
+    ∙ sym (append-assoc (take a xs) zs (drop (a + length zs) xs))
 
 -- the front of a tail that was moved up is filled
 pub filled-front : (w v : ℕ) (xs rest : List ℕ) {moved ys : List ℕ} → w ≤ length xs

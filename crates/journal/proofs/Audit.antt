@@ -17,7 +17,8 @@ use Rattle.book_rules.specs.Chain.{Chain}
 use Rattle.book_rules.specs.Chain.Chain.{done, called}
 use Rattle.book_rules.proofs.History.{history}
 use Rattle.book_rules.proofs.Order.{decides, given-by, sound-decides}
-use Rattle.journal.specs.Journal.{widthOf, callAt, whole, callsOf, laidOut, madeFor, written, replayRefusal, Replayed}
+use Rattle.room.specs.Room.{front}
+use Rattle.journal.specs.Journal.{widthOf, callAt, complete, callsOf, laidOut, callsFor, replayRefusal, Replayed}
 use Rattle.journal.specs.Spelling.{spelled, journalOf, Spelled}
 use Rattle.journal.specs.Replay.{ReplayHolds}
 use Rattle.journal.proofs.Reading.{calls-more, laid-more, nothing-left}
@@ -45,9 +46,9 @@ some-spelled (supply x ls) = omega arith
 some-spelled (takeBack x) = omega arith
 some-spelled (withdraw x) = omega arith
 
-whole-spelled : (c : Call) (rest : List ℕ) → whole (spelled c ++ rest) ≡ true
-unfolding whole
-whole-spelled c rest =
+complete-spelled : (c : Call) (rest : List ℕ) → complete (spelled c ++ rest) ≡ true
+unfolding complete
+complete-spelled c rest =
     let w = width-spelled c rest in
     let s = some-spelled c in
     let l = length-append (spelled c) rest in
@@ -59,7 +60,7 @@ rest-spelled c rest = ap (λ n. drop n (spelled c ++ rest)) (width-spelled c res
 calls-spelled : (c : Call) (rest : List ℕ) → callsOf (spelled c ++ rest) ≡ c ∷ callsOf rest
 calls-spelled c rest =
     let n : 0 < length (spelled c ++ rest) = omega (arith, some-spelled c, length-append (spelled c) rest) in
-    calls-more (spelled c ++ rest) n (whole-spelled c rest) ∙ (λ i. call-spelled c rest i ∷ callsOf (rest-spelled c rest i))
+    calls-more (spelled c ++ rest) n (complete-spelled c rest) ∙ (λ i. call-spelled c rest i ∷ callsOf (rest-spelled c rest i))
 
 -- the numbers of each call, one by one
 pub spelled-so : Spelled
@@ -82,7 +83,7 @@ journal-calls (c ∷ cs) =
     let j = spelled c ++ rest in
     let n : 0 < length j = omega (arith, some-spelled c, length-append (spelled c) rest) in
     let ih = journal-calls cs in (
-      laid-more j n (whole-spelled c rest) ∙ ap laidOut (rest-spelled c rest) ∙ ih .0,
+      laid-more j n (complete-spelled c rest) ∙ ap laidOut (rest-spelled c rest) ∙ ih .0,
       calls-spelled c rest ∙ ap (λ (ds : List Call). c ∷ ds) (ih .1),
     )
 
@@ -107,24 +108,24 @@ replay-made {p} {r} {b} {b′} {j} {room} {room′} k =
           given-by (sound p b) e₁₆ (sound-decides p b) λ _ e₉.
           given-by (leb calls n) e₉ (decides (leb calls n) (λ e f. omega (arith, leb-true calls n e)) (leb-false calls n)) λ _ e₁₄. e₁₄;
       calls = λ z.
-          subst (Chain b (madeFor p (callsOf j)) (answered b (madeFor p (callsOf j))))
-          (sym (k .book ∙ ap (λ (t : Bool). cond t (booked b (madeFor p (callsOf j))) b) (none z)))
-          (made-chain b (madeFor p (callsOf j)));
-      answers = λ z. k .answers ∙ ap (λ (t : Bool). cond t (written (answered b (madeFor p (callsOf j))) room) room) (none z);
+          subst (Chain b (callsFor p j) (answered b (callsFor p j)))
+          (sym (k .book ∙ ap (λ (t : Bool). cond t (booked b (callsFor p j)) b) (none z)))
+          (made-chain b (callsFor p j));
+      answers = λ z. k .answers ∙ ap (λ (t : Bool). cond t (front (answered b (callsFor p j)) room) room) (none z);
       refused = λ h. (
-        k .book ∙ ap (λ (t : Bool). cond t (booked b (madeFor p (callsOf j))) b) (some h),
-        k .answers ∙ ap (λ (t : Bool). cond t (written (answered b (madeFor p (callsOf j))) room) room) (some h),
+        k .book ∙ ap (λ (t : Bool). cond t (booked b (callsFor p j)) b) (some h),
+        k .answers ∙ ap (λ (t : Bool). cond t (front (answered b (callsFor p j)) room) room) (some h),
       );
     }
 
 -- A replay on an empty book
 
 pub replay-history : (p n : ℕ) {j room : List ℕ} {b′ : Book} {room′ : List ℕ} → Replayed p (emptyBook p n) j room 0 b′ room′
-    → (b′ ≡ rowsOf p (n - length (movements p n (madeFor p (callsOf j)))) (movements p n (madeFor p (callsOf j))))
-    × (room′ ≡ written (listAnswered p n [] (madeFor p (callsOf j))) room)
+    → (b′ ≡ rowsOf p (n - length (movements p n (callsFor p j))) (movements p n (callsFor p j)))
+    × (room′ ≡ front (listAnswered p n [] (callsFor p j)) room)
 replay-history p n {j} {room} {b′} {room′} r =
-    let h = history p n (madeFor p (callsOf j)) in
+    let h = history p n (callsFor p j) in
     let z = eq-eqb (replayRefusal p (emptyBook p n) j (length room)) 0 (sym (r .answer)) in (
       rw z at (r .book) ∙ h .rows,
-      rw z at (r .answers) ∙ ap (λ (rs : List ℕ). written rs room) (h .answers),
+      rw z at (r .answers) ∙ ap (λ (rs : List ℕ). front rs room) (h .answers),
     )

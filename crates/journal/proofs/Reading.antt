@@ -12,7 +12,7 @@ use borrow.Author.Tests.{le-leb, lt-leb, leb-true, ne-eqb}
 use Rattle.refusal.proofs.Laws.{and-left, and-right}
 use Rattle.book_rules.specs.Calls.{Call}
 use Rattle.book_rules.specs.Calls.Call.{enter, supply, takeBack, withdraw}
-use Rattle.journal.specs.Journal.{widthOf, callAt, whole, callsFrom, laidOutFrom, callsOf, laidOut}
+use Rattle.journal.specs.Journal.{widthOf, callAt, complete, callsFrom, laidOutFrom, callsOf, laidOut}
 
 -- numbers that belong to the call before are passed over
 
@@ -32,34 +32,34 @@ rest-is : (w x : ℕ) (j : List ℕ) → 1 ≤ w → drop (w - 1) j ≡ drop w (
 rest-is zero x j h = absurd (omega arith)
 rest-is (suc w) x j h = let e : suc w - 1 ≡ w = omega arith in ap (λ n. drop n j) e
 
-pub whole-width : (j : List ℕ) → whole j ≡ true → (1 ≤ widthOf j) × (widthOf j ≤ length j)
-unfolding whole
-whole-width j e = (leb-true 1 (widthOf j) (and-left (leb 1 (widthOf j)) _ e), leb-true (widthOf j) (length j) (and-right (leb 1 (widthOf j)) _ e))
+pub complete-width : (j : List ℕ) → complete j ≡ true → (1 ≤ widthOf j) × (widthOf j ≤ length j)
+unfolding complete
+complete-width j e = (leb-true 1 (widthOf j) (and-left (leb 1 (widthOf j)) _ e), leb-true (widthOf j) (length j) (and-right (leb 1 (widthOf j)) _ e))
 
 -- the first call, and the rest
 
-pub calls-more : (j : List ℕ) → 0 < length j → whole j ≡ true → callsOf j ≡ callAt j ∷ callsOf (drop (widthOf j) j)
+pub calls-more : (j : List ℕ) → 0 < length j → complete j ≡ true → callsOf j ≡ callAt j ∷ callsOf (drop (widthOf j) j)
 unfolding callsOf callsFrom
 calls-more [] h e = absurd (omega arith)
 calls-more (x ∷ j) h e =
     ap (λ (cs : List Call). callAt (x ∷ j) ∷ cs)
-    (skip-calls (widthOf (x ∷ j) - 1) j ∙ ap (callsFrom 0) (rest-is (widthOf (x ∷ j)) x j (whole-width (x ∷ j) e .0)))
+    (skip-calls (widthOf (x ∷ j) - 1) j ∙ ap (callsFrom 0) (rest-is (widthOf (x ∷ j)) x j (complete-width (x ∷ j) e .0)))
 
-pub laid-more : (j : List ℕ) → 0 < length j → whole j ≡ true → laidOut j ≡ laidOut (drop (widthOf j) j)
+pub laid-more : (j : List ℕ) → 0 < length j → complete j ≡ true → laidOut j ≡ laidOut (drop (widthOf j) j)
 unfolding laidOut laidOutFrom
 laid-more [] h e = absurd (omega arith)
-laid-more (x ∷ j) h e = rw e (skip-laid (widthOf (x ∷ j) - 1) j ∙ ap (laidOutFrom 0) (rest-is (widthOf (x ∷ j)) x j (whole-width (x ∷ j) e .0)))
+laid-more (x ∷ j) h e = rw e (skip-laid (widthOf (x ∷ j) - 1) j ∙ ap (laidOutFrom 0) (rest-is (widthOf (x ∷ j)) x j (complete-width (x ∷ j) e .0)))
 
-pub laid-off : (j : List ℕ) → 0 < length j → whole j ≡ false → laidOut j ≡ false
+pub laid-off : (j : List ℕ) → 0 < length j → complete j ≡ false → laidOut j ≡ false
 unfolding laidOut laidOutFrom
 laid-off [] h e = absurd (omega arith)
 laid-off (x ∷ j) h e = rw e refl
 
--- a journal on the layout starts with a whole call
-pub laid-whole : (j : List ℕ) → 0 < length j → laidOut j ≡ true → whole j ≡ true
+-- a journal on the layout starts with a complete call
+pub laid-complete : (j : List ℕ) → 0 < length j → laidOut j ≡ true → complete j ≡ true
 unfolding laidOut laidOutFrom
-laid-whole [] h e = absurd (omega arith)
-laid-whole (x ∷ j) h e = and-left (whole (x ∷ j)) _ e
+laid-complete [] h e = absurd (omega arith)
+laid-complete (x ∷ j) h e = and-left (complete (x ∷ j)) _ e
 
 pub nothing-left : (j : List ℕ) → length j ≤ 0 → (laidOut j ≡ true) × (callsOf j ≡ [])
 unfolding laidOut laidOutFrom callsOf callsFrom
@@ -80,9 +80,9 @@ tail j at = take (length j - at) (drop at j)
 pub tail-is : (j : List ℕ) (at : ℕ) → tail j at ≡ drop at j
 tail-is j at = take-all (length j - at) (drop at j) (omega (arith, length-drop at j))
 
--- a call that is not whole: of no known kind, or cut short
+-- a call that is not complete: of no known kind, or cut short
 pub laid-cut : (j : List ℕ) (at w : ℕ) → w ≡ widthOf (tail j at) → at < length j → (w < 1) ⊎ (length j - at < w) → laidOut (drop at j) ≡ false
-unfolding whole
+unfolding complete
 laid-cut j at w e h k =
     let v : w ≡ widthOf (drop at j) = e ∙ ap widthOf (tail-is j at) in
     let n = length-drop at j in
@@ -93,31 +93,31 @@ laid-cut j at w e h k =
     no true = refl
     no false = refl
 
--- a whole call, and what follows it
+-- a complete call, and what follows it
 pub record Step (j : List ℕ) (at w : ℕ) : Type 0 where
   pub some : 1 ≤ w
   pub fits : at + w ≤ length j
-  pub whole= : whole (tail j at) ≡ true
+  pub complete= : complete (tail j at) ≡ true
   pub laid : laidOut (drop at j) ≡ laidOut (drop (at + w) j)
   pub calls : callsOf (drop at j) ≡ callAt (tail j at) ∷ callsOf (drop (at + w) j)
 
-step-of : (j : List ℕ) (at w : ℕ) → w ≡ widthOf (tail j at) → at < length j → whole (drop at j) ≡ true → Step j at w
+step-of : (j : List ℕ) (at w : ℕ) → w ≡ widthOf (tail j at) → at < length j → complete (drop at j) ≡ true → Step j at w
 step-of j at w e h t =
     let v : w ≡ widthOf (drop at j) = e ∙ ap widthOf (tail-is j at) in
     let n = length-drop at j in
-    let ww = whole-width (drop at j) t in
+    let ww = complete-width (drop at j) t in
     let d : drop (widthOf (drop at j)) (drop at j) ≡ drop (at + w) j = drop-drop (widthOf (drop at j)) at j ∙ ap (λ k. drop (at + k) j) (sym v) in
     record {
       some = omega arith;
       fits = omega arith;
-      whole= = ap whole (tail-is j at) ∙ t;
+      complete= = ap complete (tail-is j at) ∙ t;
       laid = laid-more (drop at j) (omega arith) t ∙ ap laidOut d;
       calls = calls-more (drop at j) (omega arith) t ∙ (λ i. callAt (sym (tail-is j at) i) ∷ callsOf (d i));
     }
 
 -- by the tests of the check
 pub step-tested : (j : List ℕ) (at w : ℕ) → w ≡ widthOf (tail j at) → at < length j → 1 ≤ w → w ≤ length j - at → Step j at w
-unfolding whole
+unfolding complete
 step-tested j at w e h a b =
     let v : w ≡ widthOf (drop at j) = e ∙ ap widthOf (tail-is j at) in
     let n = length-drop at j in
@@ -125,7 +125,7 @@ step-tested j at w e h a b =
 
 -- or by the layout
 pub step-laid : (j : List ℕ) (at w : ℕ) → w ≡ widthOf (tail j at) → at < length j → laidOut (drop at j) ≡ true → Step j at w
-step-laid j at w e h l = step-of j at w e h (laid-whole (drop at j) (omega (arith, length-drop at j)) l)
+step-laid j at w e h l = step-of j at w e h (laid-complete (drop at j) (omega (arith, length-drop at j)) l)
 
 -- What the first number says of the call
 
@@ -172,9 +172,9 @@ width-by : (j : List ℕ) (a b d : Bool) → eqb (getD j 0 0) 1 ≡ a → eqb (g
 unfolding widthOf
 width-by j a b d p q r = rw (p, q, r) refl
 
--- every whole call has at least two numbers
-pub whole-two : (j : List ℕ) → whole j ≡ true → 2 ≤ length j
-whole-two j e = by (eqb (getD j 0 0) 1) (eqb (getD j 0 0) 2) (eqb (getD j 0 0) 3 || eqb (getD j 0 0) 4) (width-by j _ _ _ refl refl refl) (whole-width j e)
+-- every complete call has at least two numbers
+pub complete-two : (j : List ℕ) → complete j ≡ true → 2 ≤ length j
+complete-two j e = by (eqb (getD j 0 0) 1) (eqb (getD j 0 0) 2) (eqb (getD j 0 0) 3 || eqb (getD j 0 0) 4) (width-by j _ _ _ refl refl refl) (complete-width j e)
   where
     by : (a b d : Bool) → widthOf j ≡ cond a 6 (cond b (3 + getD j 2 0) (cond d 2 0)) → (1 ≤ widthOf j) × (widthOf j ≤ length j) → 2 ≤ length j
     by true b d p w = omega (arith, p, w)

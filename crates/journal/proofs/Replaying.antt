@@ -1,39 +1,41 @@
--- A replay, call by call: the calls made so far have led here, and those still to come give what the whole sequence gives. Assumes nothing.
+-- A replay, call by call: the calls made so far have led here, and those still to come give what all give.
+-- Assumes nothing.
 use mathlib.Core.Path.{_≡_, refl, sym, ap, _∙_}
 use mathlib.Core.Bool.{true}
-use mathlib.Core.List.{List, [], _∷_, _++_}
+use mathlib.Core.List.{List, [], _∷_}
 use Prim.Native.Nat.{ℕ, suc, _+_, _≤_, _<_}
 use native.Mathlib.Nat.{add-zero}
 use native.Mathlib.Omega.{arith}
-use lib.ListN.{length, take, drop, getD, set, length-drop}
-use lib.Seq.{drop-drop, take-all, getD-drop}
+use lib.ListN.{length, drop, getD, set, length-drop}
+use lib.Seq.{drop-drop, getD-drop}
 use lib.Dec.{leb}
 use borrow.Author.Tests.{eq-eqb, ne-eqb, leb-true}
 use Rattle.refusal.proofs.Laws.{refuse-none}
-use Rattle.column.proofs.Lists.{front, front-more}
+use Rattle.room.specs.Room.{front}
+use Rattle.room.proofs.Laws.{frontTo, front-to-more, front-to-end}
 use Rattle.book_rules.specs.Columns.{Book, sound}
 use Rattle.book_rules.specs.Calls.{Call, Called, refusal, after}
 use Rattle.book_rules.specs.History.{Made, made, booked, answered}
 use Rattle.book_rules.proofs.Kept.{called-sound}
-use Rattle.journal.specs.Journal.{callAt, callsOf, laidOut, madeFor, written, replayRefusal, Replayed}
+use Rattle.journal.specs.Journal.{callAt, callsOf, laidOut, madeFor, callsFor, replayRefusal, Replayed}
 use Rattle.journal.proofs.Reading.{Step, tail, nothing-left}
 
 -- the calls still to make from number `at` on
 abbrev pub calls : ℕ → List ℕ → ℕ → List Made
-calls p j at = madeFor p (callsOf (drop at j))
+calls p j at = callsFor p (drop at j)
 
 -- all answers of the journal
 abbrev pub all : ℕ → Book → List ℕ → List ℕ
-all p b j = answered b (madeFor p (callsOf j))
+all p b j = answered b (callsFor p j)
 
 pub record Replaying (p : ℕ) (b₀ : Book) (j room₀ : List ℕ) (at made : ℕ) (b : Book) (room : List ℕ) : Type 0 where
   pub within : at ≤ length j
   pub sound= : sound p b ≡ true
   pub laid : laidOut (drop at j) ≡ true
-  pub book : booked b₀ (madeFor p (callsOf j)) ≡ booked b (calls p j at)
+  pub book : booked b₀ (callsFor p j) ≡ booked b (calls p j at)
   pub answers : drop made (all p b₀ j) ≡ answered b (calls p j at)
   pub done : made ≤ length (all p b₀ j)
-  pub written= : room ≡ front (all p b₀ j) room₀ made
+  pub answered= : room ≡ frontTo (all p b₀ j) room₀ made
 
 pub replay-starts : (p : ℕ) (b : Book) (j room : List ℕ) → sound p b ≡ true → laidOut j ≡ true → Replaying p b j room 0 0 b room
 replay-starts p b j room s l = record {
@@ -43,7 +45,7 @@ replay-starts p b j room s l = record {
   book = refl;
   answers = refl;
   done = omega arith;
-  written= = refl;
+  answered= = refl;
 }
 
 more : (p at w : ℕ) (j : List ℕ) → Step j at w → calls p j at ≡ made p (callAt (tail j at)) ∷ calls p j (at + w)
@@ -83,20 +85,20 @@ replay-more {p} {b₀} {j} {room₀} {at} {w} {made} {r} {b} {b′} {room} s ste
       book = s .book ∙ ap (booked b) (more p at w j step) ∙ ap (λ (k : Book). booked k (calls p j (at + w))) (sym (c .book));
       answers = n .later ∙ ap (λ (k : Book). answered k (calls p j (at + w))) (sym (c .book));
       done = omega arith;
-      written= = front-more (all p b₀ j) room₀ (s .written=) (n .answer ∙ sym (c .answer)) i (omega arith);
+      answered= = front-to-more (all p b₀ j) room₀ (s .answered=) (n .answer ∙ sym (c .answer)) i (omega arith);
     }
 
 -- all calls are made
 pub replay-ends : {p : ℕ} {b₀ : Book} {j room₀ : List ℕ} {at made : ℕ} {b : Book} {room : List ℕ} → Replaying p b₀ j room₀ at made b room → length j ≤ at
-    → (b ≡ booked b₀ (madeFor p (callsOf j))) × (room ≡ written (all p b₀ j) room₀)
-unfolding booked answered madeFor written
+    → (b ≡ booked b₀ (callsFor p j)) × (room ≡ front (all p b₀ j) room₀)
+unfolding booked answered madeFor
 replay-ends {p} {b₀} {j} {room₀} {at} {made} {b} {room} r h =
     let s = all p b₀ j in
     let none : callsOf (drop at j) ≡ [] = nothing-left (drop at j) (omega (arith, length-drop at j)) .1 in
     let e : drop made s ≡ [] = r .answers ∙ ap (λ (cs : List Call). answered b (madeFor p cs)) none in
     let n : made ≡ length s = omega (arith, ap length e, length-drop made s, r .done) in (
       sym (r .book ∙ ap (λ (cs : List Call). booked b (madeFor p cs)) none),
-      r .written= ∙ ap (λ k. take k s ++ drop k room₀) n ∙ ap (λ (t : List ℕ). t ++ drop (length s) room₀) (take-all (length s) s (omega arith)),
+      r .answered= ∙ front-to-end s room₀ n,
     )
 
 -- as many answers as calls
@@ -121,8 +123,8 @@ replay-refused {p} {r} {b} {j} {room} e h =
     let n = ne-eqb (replayRefusal p b j (length room)) 0 (λ z. h (e ∙ z)) in
     record { answer = e; book = rw n refl; answers = rw n refl }
 
-pub replay-done : {p : ℕ} {b b′ : Book} {j room room′ : List ℕ} → replayRefusal p b j (length room) ≡ 0 → b′ ≡ booked b (madeFor p (callsOf j)) → room′ ≡ written (all p b j) room
-    → Replayed p b j room 0 b′ room′
+pub replay-done : {p : ℕ} {b b′ : Book} {j room room′ : List ℕ} → replayRefusal p b j (length room) ≡ 0
+    → b′ ≡ booked b (callsFor p j) → room′ ≡ front (all p b j) room → Replayed p b j room 0 b′ room′
 replay-done {p} {b} {b′} {j} {room} {room′} e f g =
     let n = eq-eqb (replayRefusal p b j (length room)) 0 e in
     record { answer = sym e; book = rw n f; answers = rw n g }

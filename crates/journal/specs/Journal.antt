@@ -4,10 +4,11 @@
 use Prim.Native.Nat.{ℕ, zero, suc, _+_, _-_}
 use mathlib.Core.Path.{_≡_}
 use mathlib.Core.Bool.{Bool, true, cond, _&&_, _||_}
-use mathlib.Core.List.{List, [], _∷_, _++_}
+use mathlib.Core.List.{List, [], _∷_}
 use lib.ListN.{length, take, drop, getD}
 use lib.Dec.{eqb, leb}
 use Rattle.refusal.specs.Refuse.{refuse}
+use Rattle.room.specs.Room.{leaves}
 use Rattle.book_rules.specs.Columns.{Book, sound}
 use Rattle.book_rules.specs.Calls.{Call}
 use Rattle.book_rules.specs.Calls.Call.{enter, supply, takeBack, withdraw}
@@ -17,19 +18,29 @@ use Rattle.book_rules.specs.History.{Made, made, booked, answered}
 
 -- how many numbers the call at the front has, by its first number; 0 where that is none of 1 to 4
 unfoldable pub widthOf : List ℕ → ℕ
-widthOf j = cond (eqb (getD j 0 0) 1) 6 (cond (eqb (getD j 0 0) 2) (3 + getD j 2 0) (cond (eqb (getD j 0 0) 3 || eqb (getD j 0 0) 4) 2 0))
+widthOf j =
+    cond (eqb (getD j 0 0) 1) 6
+    (cond (eqb (getD j 0 0) 2) (3 + getD j 2 0)
+    (cond (eqb (getD j 0 0) 3 || eqb (getD j 0 0) 4) 2 0))
+
+-- an *enter* and a *supply* at the front
+abbrev pub enterAt : List ℕ → Call
+enterAt j = enter (getD j 1 0) (getD j 2 0) (getD j 3 0) (getD j 4 0) (getD j 5 0)
+
+abbrev pub supplyAt : List ℕ → Call
+supplyAt j = supply (getD j 1 0) (take (getD j 2 0) (drop 3 j))
 
 -- the call at the front
 unfoldable pub callAt : List ℕ → Call
 callAt j =
-    cond (eqb (getD j 0 0) 1) (enter (getD j 1 0) (getD j 2 0) (getD j 3 0) (getD j 4 0) (getD j 5 0))
-    (cond (eqb (getD j 0 0) 2) (supply (getD j 1 0) (take (getD j 2 0) (drop 3 j)))
+    cond (eqb (getD j 0 0) 1) (enterAt j)
+    (cond (eqb (getD j 0 0) 2) (supplyAt j)
     (cond (eqb (getD j 0 0) 3) (takeBack (getD j 1 0))
     (withdraw (getD j 1 0))))
 
 -- the call at the front is one of the four, and all its numbers are there
-unfoldable pub whole : List ℕ → Bool
-whole j = leb 1 (widthOf j) && leb (widthOf j) (length j)
+unfoldable pub complete : List ℕ → Bool
+complete j = leb 1 (widthOf j) && leb (widthOf j) (length j)
 
 -- the calls of a journal; `skip` numbers at its front still belong to the call before
 unfoldable pub callsFrom : (skip : ℕ) → List ℕ → List Call
@@ -37,11 +48,11 @@ callsFrom skip [] = []
 callsFrom (suc k) (x ∷ j) = callsFrom k j
 callsFrom zero (x ∷ j) = callAt (x ∷ j) ∷ callsFrom (widthOf (x ∷ j) - 1) j
 
--- every call is whole
+-- every call is complete
 unfoldable pub laidOutFrom : (skip : ℕ) → List ℕ → Bool
 laidOutFrom skip [] = true
 laidOutFrom (suc k) (x ∷ j) = laidOutFrom k j
-laidOutFrom zero (x ∷ j) = whole (x ∷ j) && laidOutFrom (widthOf (x ∷ j) - 1) j
+laidOutFrom zero (x ∷ j) = complete (x ∷ j) && laidOutFrom (widthOf (x ∷ j) - 1) j
 
 unfoldable pub callsOf : List ℕ → List Call
 callsOf j = callsFrom 0 j
@@ -54,6 +65,10 @@ unfoldable pub madeFor : ℕ → List Call → List Made
 madeFor p [] = []
 madeFor p (c ∷ cs) = made p c ∷ madeFor p cs
 
+-- the calls of a journal, all made for p points
+abbrev pub callsFor : (points : ℕ) (journal : List ℕ) → List Made
+callsFor p j = madeFor p (callsOf j)
+
 -- Making them all
 
 -- 16 for numbers off the layout, 9, then 14 for fewer answers than calls
@@ -63,12 +78,9 @@ replayRefusal p b j room =
     (refuse 9 (sound p b)
     (refuse 14 (leb (length (callsOf j)) room) 0))
 
--- answers at the front of the room; what lies past them stays
-unfoldable pub written : List ℕ → List ℕ → List ℕ
-written rs room = rs ++ drop (length rs) room
-
--- what a replay promises: its own answer r, and the book and each call's answer as the sequence of calls gives them; a refused one changes nothing
+-- what a replay promises: its own answer r, and the book and each call's answer as the sequence of calls gives them,
+-- answers at the front of their room; a refused one changes nothing
 pub record Replayed (p : ℕ) (b : Book) (j room : List ℕ) (r : ℕ) (b′ : Book) (room′ : List ℕ) : Type 0 where
   pub answer : r ≡ replayRefusal p b j (length room)
-  pub book : b′ ≡ cond (eqb (replayRefusal p b j (length room)) 0) (booked b (madeFor p (callsOf j))) b
-  pub answers : room′ ≡ cond (eqb (replayRefusal p b j (length room)) 0) (written (answered b (madeFor p (callsOf j))) room) room
+  pub book : b′ ≡ cond (eqb (replayRefusal p b j (length room)) 0) (booked b (callsFor p j)) b
+  pub answers : room′ ≡ leaves (replayRefusal p b j (length room)) (answered b (callsFor p j)) room

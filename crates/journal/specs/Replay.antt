@@ -9,7 +9,8 @@ use Rattle.book_rules.specs.History.{answered}
 use Rattle.book_rules.specs.SoundBook.{SoundBook}
 use Rattle.book_rules.specs.Order.{Given}
 use Rattle.book_rules.specs.Chain.{Chain}
-use Rattle.journal.specs.Journal.{laidOut, callsOf, madeFor, written}
+use Rattle.room.specs.Room.{front}
+use Rattle.journal.specs.Journal.{laidOut, callsOf, callsFor}
 
 -- the replay of the journal j on the book b, with a room for answers, was answered r and left b′ and room′
 pub record ReplayHolds (p : ℕ) (b : Book) (j room : List ℕ) (r : ℕ) (b′ : Book) (room′ : List ℕ) : Type 0 where
@@ -19,7 +20,7 @@ pub record ReplayHolds (p : ℕ) (b : Book) (j room : List ℕ) (r : ℕ) (b′ 
       (Given r 14 (length room < length (callsOf j))
       (r ≡ 0)))
   -- an accepted one made every call, one after the other, and wrote the answer of each
-  pub calls : r ≡ 0 → Chain b (madeFor p (callsOf j)) (answered b (madeFor p (callsOf j))) b′
-  pub answers : r ≡ 0 → room′ ≡ written (answered b (madeFor p (callsOf j))) room
+  pub calls : r ≡ 0 → Chain b (callsFor p j) (answered b (callsFor p j)) b′
+  pub answers : r ≡ 0 → room′ ≡ front (answered b (callsFor p j)) room
   -- a refused one changes nothing
   pub refused : (r ≡ 0 → ⊥) → (b′ ≡ b) × (room′ ≡ room)

@@ -22,6 +22,7 @@ pub record Spelled : Type 0 where
   pub nothing : callsOf [] ≡ []
   pub enter= : (x t k s m : ℕ) (rest : List ℕ)
       → callsOf (1 ∷ x ∷ t ∷ k ∷ s ∷ m ∷ rest) ≡ enter x t k s m ∷ callsOf rest
-  pub supply= : (x : ℕ) (ls rest : List ℕ) → callsOf (2 ∷ x ∷ length ls ∷ (ls ++ rest)) ≡ supply x ls ∷ callsOf rest
+  pub supply= : (x : ℕ) (ls rest : List ℕ)
+      → callsOf (2 ∷ x ∷ length ls ∷ (ls ++ rest)) ≡ supply x ls ∷ callsOf rest
   pub take-back= : (x : ℕ) (rest : List ℕ) → callsOf (3 ∷ x ∷ rest) ≡ takeBack x ∷ callsOf rest
   pub withdraw= : (x : ℕ) (rest : List ℕ) → callsOf (4 ∷ x ∷ rest) ≡ withdraw x ∷ callsOf rest

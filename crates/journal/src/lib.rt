@@ -1,4 +1,5 @@
-// Replays a journal: a whole sequence of calls, given as numbers, on lent columns, with each call's answer written to a lent slice. Soundness is checked once.
+// Replays a journal: a whole sequence of calls, given as numbers, on lent columns, with each call's answer written to a
+// lent slice. Soundness is checked once.
 mod making;
 mod numbers;
 
@@ -11,9 +12,10 @@ ghost use mathlib.Core.Path.{_≡_};
 ghost use mathlib.Core.Bool.{true};
 ghost use Prim.Native.Nat.{_≤_};
 ghost use lib.ListN.{length};
-ghost use Rattle.book_rules.specs.Columns.{bookOf, sound};
+ghost use Rattle.book_rules.specs.Columns.{bookNow, bookBefore, bookAfter, sound};
 ghost use Rattle.book_rules.specs.History.{booked, answered};
-ghost use Rattle.journal.specs.Journal.{laidOut, callsOf, madeFor, written, replayRefusal, Replayed};
+ghost use Rattle.room.specs.Room.{front};
+ghost use Rattle.journal.specs.Journal.{laidOut, callsOf, callsFor, replayRefusal, Replayed};
 
 // 16, then 9, then 14, or 0.
 fn replay_refusal(
@@ -25,7 +27,8 @@ fn replay_refusal(
     journal: &[u32],
     room: usize,
 ) -> u32
-    ensures { λ r. ⌜ r ≡ replayRefusal points (bookOf (now (ids .entry)) (now (groups .entry)) (now (marks .entry)) (now (levels .entry))) (now (journal .entry)) room ⌝ }
+    ensures { λ r. ⌜ r
+        ≡ replayRefusal points (bookBefore ids groups marks levels) (now (journal .entry)) room ⌝ }
 {
     if !is_laid_out(journal) {
         return 16;
@@ -49,11 +52,14 @@ fn run(
     journal: &[u32],
     answers: &mut [u32],
 )
-    requires { ⌜ sound points (bookOf (now ids) (now groups) (now marks) (now levels)) ≡ true ⌝ }
+    requires { ⌜ sound points (bookNow ids groups marks levels) ≡ true ⌝ }
     requires { ⌜ laidOut (now journal) ≡ true ⌝ }
     requires { ⌜ length (callsOf (now journal)) ≤ length (now answers) ⌝ }
-    ensures { λ _. ⌜ bookOf (now (ids .exit)) (now (groups .exit)) (now (marks .exit)) (now (levels .exit)) ≡ booked (bookOf (now (ids .entry)) (now (groups .entry)) (now (marks .entry)) (now (levels .entry))) (madeFor points (callsOf (now (journal .entry)))) ⌝ }
-    ensures { λ _. ⌜ now (answers .exit) ≡ written (answered (bookOf (now (ids .entry)) (now (groups .entry)) (now (marks .entry)) (now (levels .entry))) (madeFor points (callsOf (now (journal .entry))))) (now (answers .entry)) ⌝ }
+    ensures { λ _. ⌜ bookAfter ids groups marks levels
+        ≡ booked (bookBefore ids groups marks levels) (callsFor points (now (journal .entry))) ⌝ }
+    ensures { λ _. ⌜ now (answers .exit)
+        ≡ front (answered (bookBefore ids groups marks levels) (callsFor points (now (journal .entry))))
+        (now (answers .entry)) ⌝ }
 {
     let mut at = 0;
     let mut made = 0;
@@ -76,7 +82,8 @@ pub fn replay(
     journal: &[u32],
     answers: &mut [u32],
 ) -> u32
-    ensures { λ r. ⌜ Replayed points (bookOf (now (ids .entry)) (now (groups .entry)) (now (marks .entry)) (now (levels .entry))) (now (journal .entry)) (now (answers .entry)) r (bookOf (now (ids .exit)) (now (groups .exit)) (now (marks .exit)) (now (levels .exit))) (now (answers .exit)) ⌝ }
+    ensures { λ r. ⌜ Replayed points (bookBefore ids groups marks levels) (now (journal .entry))
+        (now (answers .entry)) r (bookAfter ids groups marks levels) (now (answers .exit)) ⌝ }
 {
     let refused = replay_refusal(ids, groups, marks, levels, points, journal, answers.len());
     if refused != 0 {

@@ -2,10 +2,10 @@
 ghost use mathlib.Core.Path.{_≡_};
 ghost use mathlib.Core.Bool.{true};
 ghost use Prim.Native.Nat.{_+_, _≤_};
-ghost use lib.ListN.{length, take, drop, getD};
-ghost use Rattle.book_rules.specs.Columns.{bookOf, sound};
-ghost use Rattle.book_rules.specs.Calls.{Call, Called};
-ghost use Rattle.journal.specs.Journal.{callAt, whole};
+ghost use lib.ListN.{length, getD};
+ghost use Rattle.book_rules.specs.Columns.{bookNow, bookBefore, bookAfter, sound};
+ghost use Rattle.book_rules.specs.Calls.{Called};
+ghost use Rattle.journal.specs.Journal.{enterAt, supplyAt, callAt, complete};
 
 fn enter_from(
     ids: &mut [u32],
@@ -15,9 +15,10 @@ fn enter_from(
     points: usize,
     rest: &[u32],
 ) -> u32
-    requires { ⌜ sound points (bookOf (now ids) (now groups) (now marks) (now levels)) ≡ true ⌝ }
+    requires { ⌜ sound points (bookNow ids groups marks levels) ≡ true ⌝ }
     requires { ⌜ 6 ≤ length (now rest) ⌝ }
-    ensures { λ r. ⌜ Called points (bookOf (now (ids .entry)) (now (groups .entry)) (now (marks .entry)) (now (levels .entry))) (Call.enter (getD (now (rest .entry)) 1 0) (getD (now (rest .entry)) 2 0) (getD (now (rest .entry)) 3 0) (getD (now (rest .entry)) 4 0) (getD (now (rest .entry)) 5 0)) r (bookOf (now (ids .exit)) (now (groups .exit)) (now (marks .exit)) (now (levels .exit))) ⌝ }
+    ensures { λ r. ⌜ Called points (bookBefore ids groups marks levels)
+        (enterAt (now (rest .entry))) r (bookAfter ids groups marks levels) ⌝ }
 {
     book::core::enter(
         ids,
@@ -41,9 +42,10 @@ fn supply_from(
     points: usize,
     rest: &[u32],
 ) -> u32
-    requires { ⌜ sound points (bookOf (now ids) (now groups) (now marks) (now levels)) ≡ true ⌝ }
+    requires { ⌜ sound points (bookNow ids groups marks levels) ≡ true ⌝ }
     requires { ⌜ 3 + getD (now rest) 2 0 ≤ length (now rest) ⌝ }
-    ensures { λ r. ⌜ Called points (bookOf (now (ids .entry)) (now (groups .entry)) (now (marks .entry)) (now (levels .entry))) (Call.supply (getD (now (rest .entry)) 1 0) (take (getD (now (rest .entry)) 2 0) (drop 3 (now (rest .entry))))) r (bookOf (now (ids .entry)) (now (groups .entry)) (now (marks .exit)) (now (levels .exit))) ⌝ }
+    ensures { λ r. ⌜ Called points (bookBefore ids groups marks levels)
+        (supplyAt (now (rest .entry))) r (bookAfter ids groups marks levels) ⌝ }
 {
     let end = 3 + rest[2] as usize;
     book::core::supply(ids, groups, marks, levels, points, rest[1], &rest[3..end])
@@ -57,9 +59,10 @@ pub(crate) fn make_call(
     points: usize,
     rest: &[u32],
 ) -> u32
-    requires { ⌜ sound points (bookOf (now ids) (now groups) (now marks) (now levels)) ≡ true ⌝ }
-    requires { ⌜ whole (now rest) ≡ true ⌝ }
-    ensures { λ r. ⌜ Called points (bookOf (now (ids .entry)) (now (groups .entry)) (now (marks .entry)) (now (levels .entry))) (callAt (now (rest .entry))) r (bookOf (now (ids .exit)) (now (groups .exit)) (now (marks .exit)) (now (levels .exit))) ⌝ }
+    requires { ⌜ sound points (bookNow ids groups marks levels) ≡ true ⌝ }
+    requires { ⌜ complete (now rest) ≡ true ⌝ }
+    ensures { λ r. ⌜ Called points (bookBefore ids groups marks levels) (callAt (now (rest .entry))) r
+        (bookAfter ids groups marks levels) ⌝ }
 {
     let kind = rest[0];
     let identity = rest[1];

@@ -1,16 +1,15 @@
--- What levels and verdicts mean, in the paper's numbers: the level is the smallest that reaches the mean, and over means greater than the limit.
+-- What levels mean, in the rules' numbers: the level is the smallest that reaches the mean.
 -- Assumes nothing.
 use mathlib.Core.Path.{_≡_, refl, sym, ap, _∙_}
-use mathlib.Core.Bool.{Bool, true, false, cond, _&&_, true≢false}
+use mathlib.Core.Bool.{Bool, true, false, cond, true≢false}
 use mathlib.Core.Logic.{⊎-elim}
 use Prim.Native.Nat.{ℕ, zero, suc, _+_, _^_, _≤_, _<_}
 use native.Mathlib.Nat.{eq-or-lt-of-le}
 use native.Mathlib.Omega.{arith}
-use lib.Dec.{eqb, leb, ltb}
+use lib.Dec.{leb}
 use borrow.Author.Tests.{le-leb, leb-true, leb-false, le-ltb, lt-ltb}
 use Rattle.level.specs.declared.Level.{Level}
-use Rattle.level.specs.declared.Level.the-variants.{BelowZero, At}
-use Rattle.level.specs.Level.{levelGiven, levelValue, verdictNumber, bound, firstFrom, levelOf, verdictOf}
+use Rattle.level.specs.Level.{levelGiven, levelValue, bound, firstFrom, levelOf}
 use Rattle.level.proofs.LevelLaws.{bound-last}
 
 -- the number found passes the test, where some number that is tried does
@@ -55,12 +54,3 @@ smallest m lo hi =
       reaches = leb-true m _ (first-passes test 0 20000 19999 (omega arith) (omega arith) (le-leb m (bound 19999) (omega (arith, bound-last))));
       no-smaller = λ j l. leb-false m (bound j) (first-misses test 0 20000 j (omega arith) l);
     })
-
--- over exactly if a level is given and is greater than the limit
-pub over-exactly : (l : Level) (limit : ℕ) → verdictNumber (verdictOf l limit) ≡ cond (eqb (levelGiven l) 1 && ltb limit (levelValue l)) 1 0
-over-exactly BelowZero limit = refl
-over-exactly (At n) limit = go (ltb limit n) refl
-  where
-    go : (b : Bool) → ltb limit n ≡ b → verdictNumber (verdictOf (At n) limit) ≡ cond b 1 0
-    go true e = rw e refl
-    go false e = rw e refl

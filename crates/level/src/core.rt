@@ -1,4 +1,5 @@
-// The steps of a load, for numbers that the caller has found in range: energy, scaling, the mean, the level and the verdict.
+// The steps of a load, for numbers that the caller has found in range: energy, scaling, the mean, the level and the
+// verdict.
 use crate::Level;
 use crate::Verdict;
 use crate::tables::powers;
@@ -6,14 +7,14 @@ use crate::tables::table_b;
 ghost use mathlib.Core.Path.{_≡_};
 ghost use Prim.Native.Nat.{_*_, _/_, _^_, _<_, _≤_};
 ghost use Rattle.level.specs.Limits.{maxWeighted, maxMean};
-ghost use Rattle.level.specs.Tables.{Holds, tableA, tableB};
+ghost use Rattle.level.specs.Tables.{IsTableA, IsTableB, ArePowers};
 ghost use Rattle.level.specs.declared.Level.the-variants.{At};
 ghost use Rattle.level.specs.Energy.{energyOf, meanOf};
 ghost use Rattle.level.specs.Level.{bound, levelOf, verdictOf};
 
 // The energy of a weighted level, by table A and the powers of ten.
 pub fn energy(a: &[u64; 1000], powers: &[u64; 14], c: u32) -> u64
-    requires { ⌜ (c ≤ maxWeighted) × (Holds tableA 1000 (now a)) × (Holds (λ q. 10 ^ q) 14 (now powers)) ⌝ }
+    requires { ⌜ (c ≤ maxWeighted) × (IsTableA (now a)) × (ArePowers (now powers)) ⌝ }
     ensures { λ r. ⌜ r ≡ energyOf c ⌝ }
 {
     let k = (c % 1000) as usize;
@@ -40,7 +41,7 @@ pub fn mean(total: u64, days: u32) -> u64
 
 // B(k)·10^q / 1000 for n = 1000q + k; from the third decade on 1000 divides the power.
 fn bound_at(b: &[u64; 1000], powers: &[u64; 14], n: u32) -> u64
-    requires { ⌜ (n < 14000) × (Holds tableB 1000 (now b)) × (Holds (λ q. 10 ^ q) 14 (now powers)) ⌝ }
+    requires { ⌜ (n < 14000) × (IsTableB (now b)) × (ArePowers (now powers)) ⌝ }
     ensures { λ r. ⌜ r ≡ bound n ⌝ }
 {
     let k = (n % 1000) as usize;
@@ -54,7 +55,7 @@ fn bound_at(b: &[u64; 1000], powers: &[u64; 14], n: u32) -> u64
 
 // The smallest level whose bound reaches a mean energy, by a walk up from 0.00.
 fn first_reaching(b: &[u64; 1000], powers: &[u64; 14], m: u64) -> u32
-    requires { ⌜ (1000 ≤ m) × (m ≤ maxMean) × (Holds tableB 1000 (now b)) × (Holds (λ q. 10 ^ q) 14 (now powers)) ⌝ }
+    requires { ⌜ (1000 ≤ m) × (m ≤ maxMean) × (IsTableB (now b)) × (ArePowers (now powers)) ⌝ }
     ensures { λ r. ⌜ At r ≡ levelOf m ⌝ }
 {
     let mut n: u32 = 0;

@@ -12,15 +12,14 @@ use Rattle.level.specs.Energy.{meanOf}
 use Rattle.level.proofs.ScaleLaws.{scaled-le, div-mono}
 use Rattle.movement.specs.Limits.{groupCount}
 use Rattle.load_rules.specs.declared.Group.{Group}
-use Rattle.load_rules.specs.Tally.{groupAt}
-use Rattle.load_rules.specs.Factors.{over, scaledBy, sumTo, known, unknown}
+use Rattle.load_rules.specs.Factors.{ratio, scaledBy, sumTo, known, unknown}
 use Rattle.load_rules.specs.Load.{countsOf, scaledEnergy}
 use Rattle.load_rules.proofs.SumLaws.{sum-le, sum-more, sum-times}
 use Rattle.load_rules.proofs.FactorLaws.{known-sum}
-use Rattle.load.specs.Steps.{Scalable, Bounded, Fitting, sumsOf}
+use Rattle.load.specs.InnerSteps.{groupAt, Scalable, Bounded, Fitting, sumsOf}
 
 -- a product with a factor is at most the highest energy for each movement above
-pub scaled-by-le : (e u l : ℕ) → Scalable e u l → scaledBy (over u l) e ≤ maxEnergy * u
+pub scaled-by-le : (e u l : ℕ) → Scalable e u l → scaledBy (ratio u l) e ≤ maxEnergy * u
 unfolding scaledBy
 scaled-by-le e u l s = go (eqb l 0)
   where

@@ -11,7 +11,7 @@ use lib.Dec.{eqb}
 use mathlib.Core.List.{List}
 use Rattle.load_rules.specs.declared.Counts.{Counts}
 use Rattle.load_rules.specs.declared.Group.{Group}
-use Rattle.load_rules.specs.Tally.{table, groupAt, withGroup}
+use Rattle.load.specs.InnerSteps.{table, groupAt, withGroup}
 
 -- P holds at each number below n
 abbrev All : (ℕ → Type 0) → ℕ → Type 0

@@ -1,34 +1,32 @@
 -- What a sound book says of its rows, one by one, and of the tally of its first rows.
 -- Assumes nothing.
 use mathlib.Core.Path.{_≡_, refl, ap, fun-ext, _∙_}
-use mathlib.Core.Bool.{Bool, true, false, cond, _&&_}
+use mathlib.Core.Bool.{Bool, true, false, cond}
 use mathlib.Core.List.{List, [], _∷_, _++_, append-nil}
 use Prim.Native.Nat.{ℕ, zero, suc, _+_, _*_, _≤_, _<_}
-use native.Mathlib.Nat.{zero-mul, suc-mul, mul-le-mul-right, add-zero, add-mul}
+use native.Mathlib.Nat.{suc-mul, mul-le-mul-right, add-zero, add-mul}
 use native.Mathlib.Numerals.{add-one}
 use native.Mathlib.Omega.{arith}
-use lib.ListN.{length, getD, take, drop, length-append}
-use lib.Seq.{getD-take, getD-drop, drop-drop}
-use lib.Dec.{eqb, leb, ltb, lit≤}
-use borrow.Author.Tests.{leb-true, ltb-true, eqb-true, eq-eqb, ne-eqb}
+use lib.ListN.{length, getD, length-append}
+use lib.Dec.{eqb, lit≤}
+use borrow.Author.Tests.{eqb-true, eq-eqb, ne-eqb}
 use Rattle.level.specs.Limits.{maxWeighted, maxMovements, maxEnergy}
 use Rattle.level.proofs.EnergyLaws.{energy-le}
-use Rattle.movement.specs.Limits.{maxLevel, maxIdentity, groupCount}
+use Rattle.movement.specs.Limits.{maxLevel, groupCount}
 use Rattle.movement.specs.Period.{weightOf}
 use Rattle.movement.specs.declared.period.Period.{Period}
 use Rattle.movement.specs.declared.period.Period.the-variants.{Day, Evening, Night}
 use Rattle.movement.specs.Group.{groupPeriod}
-use Rattle.refusal.proofs.Laws.{and-left, and-right}
-use Rattle.refusal.specs.Range.{allWithin}
-use Rattle.book_rules.specs.Columns.{Book, sound, headSound, topLevel, rowSound, rowsSound}
-use Rattle.book_rules.proofs.Shapes.{sound-fits, sound-rows}
+use Rattle.book_rules.specs.Columns.{Book, sound}
+use Rattle.book_rules.proofs.Shapes.{sound-fits}
+use Rattle.book_rules.proofs.SoundBook.{sound-exactly}
 use Rattle.load_rules.specs.declared.Group.{Group}
 use Rattle.load_rules.specs.Shares.{Share, energyIn, rowShare, sharesTo}
 use Rattle.load_rules.specs.Shares.Share.{has, lacks}
-use Rattle.load_rules.specs.Tally.{groupWith, addsComputed, addsMissing, addsEnergy, sumOf, tally, table, groupAt, withGroup}
+use Rattle.load_rules.specs.Tally.{groupWith, addsComputed, addsMissing, addsEnergy, sumOf, tally}
 use Rattle.load_rules.proofs.SumLaws.{sum-ext}
 use Rattle.load_rules.proofs.TallyLaws.{sum-append, AllGrouped, grouped-append, counted-le}
-use Rattle.load.specs.Steps.{Room, Bounded, withRow}
+use Rattle.load.specs.InnerSteps.{table, groupAt, withGroup, RoomForOne, Bounded, withRow}
 use Rattle.load.proofs.CellLaws.{at-table, put-table}
 
 -- A group with one row more, by identity and mark
@@ -163,40 +161,6 @@ energy-in-small g l h = energy-le (l + weightOf (groupPeriod g)) (weighted-le g 
 
 -- One row of a sound book
 
-rows-at : (p : ℕ) (xs gs ms ls : List ℕ) (i : ℕ) → length gs ≡ length xs → length ms ≡ length xs → i < length xs
-    → rowsSound p xs gs ms ls ≡ true → rowSound (getD xs i 0) (getD gs i 0) (getD ms i 0) (take p (drop (i * p) ls)) ≡ true
-unfolding rowsSound
-rows-at p [] gs ms ls i a b h e = absurd (omega arith)
-rows-at p (x ∷ xs) [] ms ls i a b h e = absurd (omega arith)
-rows-at p (x ∷ xs) (g ∷ gs) [] ls i a b h e = absurd (omega arith)
-rows-at p (x ∷ xs) (g ∷ gs) (m ∷ ms) ls zero a b h e = rw zero-mul (and-left (rowSound x g m (take p ls)) _ e)
-rows-at p (x ∷ xs) (g ∷ gs) (m ∷ ms) ls (suc i) a b h e =
-    let q : suc i * p ≡ p + i * p = omega (arith, suc-mul i p) in
-    rw (q, ← drop-drop (i * p) p ls)
-    (rows-at p xs gs ms (drop p ls) i (omega arith) (omega arith) (omega arith) (and-right (rowSound x g m (take p ls)) _ e))
-
-within-at : (top : ℕ) (xs : List ℕ) (k : ℕ) → allWithin top xs ≡ true → getD xs k 0 ≤ top
-unfolding allWithin
-within-at top [] k e = omega arith
-within-at top (x ∷ xs) zero e = leb-true x top (and-left (leb x top) _ e)
-within-at top (x ∷ xs) (suc k) e = within-at top xs k (and-right (leb x top) _ e)
-
-head-group : (x g m : ℕ) → headSound x g m ≡ true → g < groupCount
-unfolding headSound
-head-group x g m = go (eqb x 0)
-  where
-    go : (t : Bool) → cond t (eqb g 0 && eqb m 0) (leb x maxIdentity && (ltb g groupCount && leb m 1)) ≡ true → g < groupCount
-    go true e = omega (arith, eqb-true g 0 (and-left (eqb g 0) _ e))
-    go false e = ltb-true g groupCount (and-left (ltb g groupCount) _ (and-right (leb x maxIdentity) _ e))
-
-top-level-le : (m : ℕ) → topLevel m ≤ maxLevel
-unfolding topLevel
-top-level-le m = go (eqb m 0)
-  where
-    go : (t : Bool) → cond t 0 maxLevel ≤ maxLevel
-    go true = lit≤ tt
-    go false = lit≤ tt
-
 -- row i of a sound book: its place in each column, its values in range, and room for it in its group
 pub record Row (p pt : ℕ) (b : Book) (i : ℕ) : Type 0 where
   pub in-groups : i < length (b .groups)
@@ -204,28 +168,14 @@ pub record Row (p pt : ℕ) (b : Book) (i : ℕ) : Type 0 where
   pub in-levels : i * p + pt < length (b .levels)
   pub group< : getD (b .groups) i 0 < groupCount
   pub level≤ : getD (b .levels) (i * p + pt) 0 ≤ maxLevel
-  pub room : Room (groupAt (table (tally (sharesTo p pt b i))) (getD (b .groups) i 0))
+  pub room : RoomForOne (groupAt (table (tally (sharesTo p pt b i))) (getD (b .groups) i 0))
 
 module _ (p pt : ℕ) (b : Book) (ok : sound p b ≡ true) (there : pt < p) where
-  row-sound : (i : ℕ) → i < length (b .identities)
-      → rowSound (getD (b .identities) i 0) (getD (b .groups) i 0) (getD (b .marks) i 0) (take p (drop (i * p) (b .levels))) ≡ true
-  row-sound i h =
-      let f = sound-fits p b ok in
-      rows-at p (b .identities) (b .groups) (b .marks) (b .levels) i (f .groups=) (f .marks=) h
-      (sound-rows p b ok)
-
   row-group : (i : ℕ) → i < length (b .identities) → getD (b .groups) i 0 < groupCount
-  unfolding rowSound
-  row-group i h =
-      head-group (getD (b .identities) i 0) (getD (b .groups) i 0) (getD (b .marks) i 0)
-      (and-left (headSound (getD (b .identities) i 0) (getD (b .groups) i 0) (getD (b .marks) i 0)) _ (row-sound i h))
+  row-group i h = sound-exactly p b .only ok .row i h .group
 
   row-level : (i : ℕ) → i < length (b .identities) → getD (b .levels) (i * p + pt) 0 ≤ maxLevel
-  unfolding rowSound
-  row-level i h =
-      let w = within-at (topLevel (getD (b .marks) i 0)) (take p (drop (i * p) (b .levels))) pt
-      (and-right (headSound (getD (b .identities) i 0) (getD (b .groups) i 0) (getD (b .marks) i 0)) _ (row-sound i h)) in
-      omega (arith, rw (getD-take p (drop (i * p) (b .levels)) pt 0 there, getD-drop (i * p) (b .levels) pt 0) at w, top-level-le (getD (b .marks) i 0))
+  row-level i h = sound-exactly p b .only ok .row i h .level pt there
 
   -- its place among the levels
   row-place : (i : ℕ) → i < length (b .identities) → i * p + pt < length (b .levels)
@@ -264,7 +214,7 @@ module _ (p pt : ℕ) (b : Book) (ok : sound p b ≡ true) (there : pt < p) wher
   rows-le = let f = sound-fits p b ok in omega (arith, f .rows≤)
 
   -- room for one row more
-  row-room : (i : ℕ) → i < length (b .identities) → Room (groupAt (table (tally (sharesTo p pt b i))) (getD (b .groups) i 0))
+  row-room : (i : ℕ) → i < length (b .identities) → RoomForOne (groupAt (table (tally (sharesTo p pt b i))) (getD (b .groups) i 0))
   row-room i h =
       let g = getD (b .groups) i 0 in
       let ss = sharesTo p pt b i in

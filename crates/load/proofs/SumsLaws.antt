@@ -18,14 +18,14 @@ use Rattle.load_rules.specs.declared.Group.{Group}
 use Rattle.load_rules.specs.declared.Counts.{Counts}
 use Rattle.load_rules.specs.declared.Judged.the-variants.{Given, Refused}
 use Rattle.load_rules.specs.Shares.{Share}
-use Rattle.load_rules.specs.Tally.{tally, table, groupAt, listFrom}
-use Rattle.load_rules.specs.Factors.{over, scaledBy, sumTo, known, unknown, knownSum, unknownSum, generalFactor}
+use Rattle.load_rules.specs.Tally.{tally, listFrom}
+use Rattle.load_rules.specs.Factors.{ratio, scaledBy, sumTo, known, unknown, knownSum, unknownSum, generalFactor}
 use Rattle.load_rules.specs.Load.{countsOf, scaledEnergy, scaledSum, totalOf, daysFit, noneComputed, loadRefusal, answer, refusedLoad, loadOf}
 use Rattle.load_rules.specs.Verdict.{limitFits, verdictRefusal, refusalNumber, judged, judgedOf}
 use Rattle.load_rules.proofs.TallyLaws.{AllGrouped, rule-ten}
 use Rattle.load_rules.proofs.FactorLaws.{known-sum}
 use Rattle.load.specs.declared.sums.Sums.{Sums}
-use Rattle.load.specs.Steps.{Scalable, Bounded, sumsOf, loadFrom, judgedBy}
+use Rattle.load.specs.InnerSteps.{table, groupAt, Scalable, Bounded, sumsOf, loadFrom, judgedBy}
 use Rattle.load.proofs.BoundLaws.{scaled-sum-small, scaled-by-le}
 
 -- From the sums that the code makes
@@ -40,11 +40,11 @@ module _ (cs : List (List (List Group))) (s : Sums) (same : s ≡ sumsOf (groupA
         energy = omega (arith, scaled-sum-small (groupAt cs) groupCount (b .energies));
       })
 
-  pub sums-total : scaledBy (over (s .known + s .unknown) (s .known)) (s .scaled) ≡ totalOf (groupAt cs)
+  pub sums-total : scaledBy (ratio (s .known + s .unknown) (s .known)) (s .scaled) ≡ totalOf (groupAt cs)
   unfolding sumsOf totalOf generalFactor scaledSum knownSum unknownSum
   sums-total = rw same refl
 
-  pub sums-small : Bounded cs → scaledBy (over (s .known + s .unknown) (s .known)) (s .scaled) ≤ maxTotal
+  pub sums-small : Bounded cs → scaledBy (ratio (s .known + s .unknown) (s .known)) (s .scaled) ≤ maxTotal
   sums-small b =
       let f = sums-fit b in
       omega (arith, scaled-by-le (s .scaled) (s .known + s .unknown) (s .known) f, f .movements)

@@ -19,12 +19,11 @@ ghost use mathlib.Core.Path.{_≡_};
 ghost use mathlib.Core.Bool.{true, _&&_};
 ghost use Prim.Native.Nat.{_<_};
 ghost use lib.Dec.{ltb};
-ghost use Rattle.book_rules.specs.Columns.{bookOf, sound};
+ghost use Rattle.book_rules.specs.Columns.{bookNow, bookBefore, sound};
 ghost use Rattle.load_rules.specs.Shares.{bookShares};
-ghost use Rattle.load_rules.specs.Tally.{groupAt};
 ghost use Rattle.load_rules.specs.Load.{refusedLoad, daysFit, loadOf, bookLoad};
 ghost use Rattle.load_rules.specs.Verdict.{limitFits, Judging};
-ghost use Rattle.load.specs.Steps.{Bounded, loadFrom, judgedBy};
+ghost use Rattle.load.specs.InnerSteps.{groupAt, Bounded, loadFrom, judgedBy};
 
 // The load at a point of a book, over a number of days.
 pub fn load_at(
@@ -36,7 +35,7 @@ pub fn load_at(
     point: usize,
     days: u32,
 ) -> Load
-    ensures { λ r. ⌜ r ≡ bookLoad points point (bookOf (now (ids .entry)) (now (groups .entry)) (now (marks .entry)) (now (levels .entry))) days ⌝ }
+    ensures { λ r. ⌜ r ≡ bookLoad points point (bookBefore ids groups marks levels) days ⌝ }
 {
     if !point_fits(ids, groups, marks, levels, points, point) {
         return refusal(9);
@@ -58,7 +57,7 @@ pub fn verdict_at(
     days: u32,
     limit: u32,
 ) -> Judged
-    ensures { λ r. ⌜ Judging points point (bookOf (now (ids .entry)) (now (groups .entry)) (now (marks .entry)) (now (levels .entry))) days limit r ⌝ }
+    ensures { λ r. ⌜ Judging points point (bookBefore ids groups marks levels) days limit r ⌝ }
 {
     if !point_fits(ids, groups, marks, levels, points, point) {
         return Judged::Refused(9);
@@ -84,7 +83,7 @@ fn point_fits(
     points: usize,
     point: usize,
 ) -> bool
-    ensures { λ r. ⌜ r ≡ (sound points (bookOf (now (ids .entry)) (now (groups .entry)) (now (marks .entry)) (now (levels .entry))) && ltb point points) ⌝ }
+    ensures { λ r. ⌜ r ≡ (sound points (bookBefore ids groups marks levels) && ltb point points) ⌝ }
 {
     if !soundness::is_sound(ids, groups, marks, levels, points) {
         return false;
@@ -111,10 +110,10 @@ fn load_of(
     point: usize,
     days: u32,
 ) -> Load
-    requires { ⌜ sound points (bookOf (now ids) (now groups) (now marks) (now levels)) ≡ true ⌝ }
+    requires { ⌜ sound points (bookNow ids groups marks levels) ≡ true ⌝ }
     requires { ⌜ point < points ⌝ }
     requires { ⌜ daysFit days ≡ true ⌝ }
-    ensures { λ r. ⌜ r ≡ loadOf true (bookShares points point (bookOf (now (ids .entry)) (now (groups .entry)) (now (marks .entry)) (now (levels .entry)))) days ⌝ }
+    ensures { λ r. ⌜ r ≡ loadOf true (bookShares points point (bookBefore ids groups marks levels)) days ⌝ }
 {
     let a = level::tables::table_a();
     let powers = level::tables::powers();

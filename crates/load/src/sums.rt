@@ -7,10 +7,10 @@ ghost use mathlib.Core.Path.{_≡_};
 ghost use mathlib.Core.Bool.{_&&_};
 ghost use lib.Dec.{eqb, ltb};
 ghost use Rattle.movement.specs.Limits.{groupCount};
-ghost use Rattle.load_rules.specs.Tally.{groupAt, listFrom};
-ghost use Rattle.load_rules.specs.Factors.{over, scaledBy};
+ghost use Rattle.load_rules.specs.Tally.{listFrom};
+ghost use Rattle.load_rules.specs.Factors.{ratio, scaledBy};
 ghost use Rattle.load_rules.specs.Load.{countsOf};
-ghost use Rattle.load.specs.Steps.{Scalable, Bounded, Fitting, sumsOf, addedTo};
+ghost use Rattle.load.specs.InnerSteps.{groupAt, Scalable, Bounded, Fitting, sumsOf, addedTo};
 
 // P, V + U over the groups with computed movements, and W.
 pub(crate) struct Sums {
@@ -22,7 +22,7 @@ pub(crate) struct Sums {
 // An energy times a factor, rounded down; a lower of 0 never divides.
 pub(crate) fn scaled_by(energy: u64, upper: u32, lower: u32) -> u64
     requires { ⌜ Scalable energy upper lower ⌝ }
-    ensures { λ r. ⌜ r ≡ scaledBy (over upper lower) energy ⌝ }
+    ensures { λ r. ⌜ r ≡ scaledBy (ratio upper lower) energy ⌝ }
 {
     if lower == 0 {
         return 0;

@@ -6,10 +6,10 @@ ghost use mathlib.Core.Bool.{true};
 ghost use mathlib.Core.List.{[]};
 ghost use Prim.Native.Nat.{_≤_, _<_};
 ghost use Rattle.movement.specs.Limits.{maxLevel, groupCount};
-ghost use Rattle.book_rules.specs.Columns.{bookOf, sound};
+ghost use Rattle.book_rules.specs.Columns.{bookNow, bookBefore, sound};
 ghost use Rattle.load_rules.specs.Shares.{bookShares};
-ghost use Rattle.load_rules.specs.Tally.{tally, table, groupAt};
-ghost use Rattle.load.specs.Steps.{Tables, Room, withRow};
+ghost use Rattle.load_rules.specs.Tally.{tally};
+ghost use Rattle.load.specs.InnerSteps.{table, groupAt, Tables, RoomForOne, withRow};
 
 // No movement in any group.
 pub(crate) fn no_groups() -> Groups
@@ -41,7 +41,7 @@ fn with_row(
     mark: u32,
     level: u32,
 ) -> Group
-    requires { ⌜ (Room seen) × (group < groupCount) × (level ≤ maxLevel) ⌝ }
+    requires { ⌜ (RoomForOne seen) × (group < groupCount) × (level ≤ maxLevel) ⌝ }
     requires { ⌜ Tables (now a) (now powers) ⌝ }
     ensures { λ r. ⌜ r ≡ withRow seen identity group mark level ⌝ }
 {
@@ -63,7 +63,8 @@ fn with_row(
     }
 }
 
-// The groups with all rows of a sound book at a point. They come in once and go out once: a row reads and stores its own group alone.
+// The groups with all rows of a sound book at a point. They come in once and go out once: a row reads and stores its
+// own group alone.
 pub(crate) fn tallied(
     start: Groups,
     a: &[u64; 1000],
@@ -76,9 +77,9 @@ pub(crate) fn tallied(
     point: usize,
 ) -> Groups
     requires { ⌜ (start ≡ table (tally [])) × (Tables (now a) (now powers)) ⌝ }
-    requires { ⌜ sound points (bookOf (now ids) (now groups) (now marks) (now levels)) ≡ true ⌝ }
+    requires { ⌜ sound points (bookNow ids groups marks levels) ≡ true ⌝ }
     requires { ⌜ point < points ⌝ }
-    ensures { λ r. ⌜ r ≡ table (tally (bookShares points point (bookOf (now (ids .entry)) (now (groups .entry)) (now (marks .entry)) (now (levels .entry))))) ⌝ }
+    ensures { λ r. ⌜ r ≡ table (tally (bookShares points point (bookBefore ids groups marks levels))) ⌝ }
 {
     let mut cells = start;
     let mut i = 0;

@@ -1,12 +1,14 @@
-// The rules's file as a book, and the edge cases of a load. Each line has a case, and each number beside what it should be.
-mod books;
+// The rules' file as a book, and the edge cases of a load. Each line has a case, and each number beside what it should
+// be.
+mod large;
 mod quiet;
 mod show;
+mod small;
 
 fn main() {
-    books::small();
+    small::small();
     quiet::edges();
     quiet::rounded();
-    books::eighteen();
-    books::largest();
+    large::eighteen();
+    large::largest();
 }

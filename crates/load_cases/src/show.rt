@@ -2,7 +2,8 @@
 use libc::STDOUT_FILENO;
 use load_rules::Judged;
 
-// What a load should answer: its refusal, its total, 1 and the level or 0 and 0 for below zero, and V and U of the first and the last group.
+// What a load should answer: its refusal, its total, 1 and the level or 0 and 0 for below zero, and V and U of the
+// first and the last group.
 pub struct Want {
     pub refused: u32,
     pub total: u64,

@@ -9,7 +9,7 @@ use lib.Dec.{eqb, lit<}
 use borrow.Author.Tests.{eqb-true, eqb-false, ne-eqb, eq-eqb}
 use Rattle.movement.specs.Limits.{groupCount}
 use Rattle.load_rules.specs.declared.Counts.{Counts}
-use Rattle.load_rules.specs.Factors.{Fraction, whole, times, plus, Equal, RoundedDown, scaledBy, sumTo, known, unknown, knownSum, unknownSum, groupFactor, generalFactor}
+use Rattle.load_rules.specs.Factors.{Fraction, wholeFraction, times, plus, Equal, RoundedDown, scaledBy, sumTo, known, unknown, knownSum, unknownSum, groupFactor, generalFactor}
 use Rattle.load_rules.specs.Afresh.{weightTo}
 use Rattle.load_rules.proofs.SumLaws.{sum-add, sum-ext}
 
@@ -76,7 +76,7 @@ module _ (f : ℕ → Counts) where
       k = sumTo (λ g. known (f g)) n
 
       added : Fraction
-      added = plus (weightTo f n) (times (times (whole (f n .computed)) (groupFactor (f n))) (generalFactor f))
+      added = plus (weightTo f n) (times (times (wholeFraction (f n .computed)) (groupFactor (f n))) (generalFactor f))
 
       go : (t : Bool) → eqb (f n .computed) 0 ≡ t → zero < weightTo f n .lower
           → weightTo f n .upper * generalFactor f .lower ≡ k * generalFactor f .upper * weightTo f n .lower
@@ -92,7 +92,7 @@ module _ (f : ℕ → Counts) where
           )
 
   -- over all groups that is V + U + W
-  pub weights-all : zero < knownSum f → Equal (weightTo f groupCount) (whole (knownSum f + unknownSum f))
+  pub weights-all : zero < knownSum f → Equal (weightTo f groupCount) (wholeFraction (knownSum f + unknownSum f))
   unfolding knownSum generalFactor
   weights-all some =
       record {

@@ -19,7 +19,7 @@ use Rattle.load_rules.specs.declared.Counts.{Counts}
 use Rattle.load_rules.specs.declared.Load.{Load}
 use Rattle.load_rules.specs.declared.Judged.{Judged}
 use Rattle.load_rules.specs.Shares.{sharesOf}
-use Rattle.load_rules.specs.Factors.{Fraction, whole, times, plus, Equal, scaledBy}
+use Rattle.load_rules.specs.Factors.{Fraction, wholeFraction, times, plus, Equal, scaledBy}
 use Rattle.load_rules.specs.Factors.{sumTo, groupFactor, generalFactor}
 use Rattle.load_rules.specs.Load.{daysFit, loadOf, bookLoad}
 use Rattle.load_rules.specs.Verdict.{refusalNumber, overNumber, judgedOf, bookVerdict}
@@ -27,10 +27,10 @@ use Rattle.load_rules.specs.Refusals.{InRange, DaysInRange, LimitInRange
 use Rattle.load_rules.specs.Refusals.{LoadNumbers, VerdictNumbers}
 
 -- the load and the verdict at point pt of movements in a book of n rows and p points
-unfoldable pub listLoad : (p n pt : ℕ) → List Movement → (days : ℕ) → Load
+unfoldable pub listLoad : (p n pt : ℕ) (movements : List Movement) (days : ℕ) → Load
 listLoad p n pt ms days = loadOf (sizesFit p n && ltb pt p) (sharesOf pt ms) days
 
-unfoldable pub listVerdict : (p n pt : ℕ) → List Movement → (days limit : ℕ) → Judged
+unfoldable pub listVerdict : (p n pt : ℕ) (movements : List Movement) (days limit : ℕ) → Judged
 listVerdict p n pt ms days limit = judgedOf (sizesFit p n && ltb pt p) (sharesOf pt ms) days limit
 
 -- Each movement, one by one
@@ -49,12 +49,12 @@ missingIn g [] = 0
 missingIn g (m ∷ ms) = cond (eqb (m .group) g && not (hasLevels (m .held))) 1 0 + missingIn g ms
 
 -- the energy at point pt of a movement of group g that holds levels
-unfoldable pub heldEnergy : ℕ → ℕ → Held → ℕ
+unfoldable pub heldEnergy : (pt g : ℕ) → Held → ℕ
 heldEnergy pt g none = 0
 heldEnergy pt g (holds ls) = energyOf (getD ls pt 0 + weightOf (groupPeriod g))
 
 -- S of group g at point pt
-unfoldable pub energyOfGroup : ℕ → ℕ → List Movement → ℕ
+unfoldable pub energyOfGroup : (pt g : ℕ) → List Movement → ℕ
 energyOfGroup pt g [] = 0
 energyOfGroup pt g (m ∷ ms) = cond (eqb (m .group) g) (heldEnergy pt (m .group) (m .held)) 0 + energyOfGroup pt g ms
 
@@ -87,10 +87,10 @@ countsAt a g = getD (a .counts) g (record { computed = 0; missing = 0 })
 
 -- the sum, over the groups below n with V > 0, of V times its group factor and the general factor
 unfoldable pub weightTo : (ℕ → Counts) → ℕ → Fraction
-weightTo f zero = whole 0
+weightTo f zero = wholeFraction 0
 weightTo f (suc n) =
     cond (eqb (f n .computed) 0) (weightTo f n)
-    (plus (weightTo f n) (times (times (whole (f n .computed)) (groupFactor (f n))) (generalFactor f)))
+    (plus (weightTo f n) (times (times (wholeFraction (f n .computed)) (groupFactor (f n))) (generalFactor f)))
 
 -- a total as the rules work it out, from V, U and S of each group, every step by its bounds on both sides
 pub record TotalHolds (v u s : ℕ → ℕ) (total : ℕ) : Type 0 where
@@ -115,7 +115,7 @@ pub record CountsEach (a : Load) (pt : ℕ) (ms : List Movement) (days : ℕ) : 
   -- and add up to the number standing
   pub standing : sumTo (λ g. countsAt a g .computed + countsAt a g .missing) groupCount ≡ length ms
   -- where one is computed, the computed ones times both factors add up to the number standing
-  pub weighed : someComputed ms ≡ true → Equal (weightTo (countsAt a) groupCount) (whole (length ms))
+  pub weighed : someComputed ms ≡ true → Equal (weightTo (countsAt a) groupCount) (wholeFraction (length ms))
   -- and its total is their energy times those very factors, each product rounded down
   pub energy : a .total
       ≡ scaledBy (generalFactor (countsAt a))
@@ -136,10 +136,10 @@ pub record Alone (a : Load) : Type 0 where
   pub counts : (g : ℕ) → g < 18 → (countsAt a g .computed ≡ 0) × (countsAt a g .missing ≡ 0)
 
 -- the load and the verdict at point pt after calls cs, refused ones included, on an empty book of n rows and p points
-abbrev pub loadAfter : (p n pt : ℕ) → List Made → (days : ℕ) → Load
+abbrev pub loadAfter : (p n pt : ℕ) (calls : List Made) (days : ℕ) → Load
 loadAfter p n pt cs days = bookLoad p pt (booked (emptyBook p n) cs) days
 
-abbrev pub verdictAfter : (p n pt : ℕ) → List Made → (days limit : ℕ) → Judged
+abbrev pub verdictAfter : (p n pt : ℕ) (calls : List Made) (days limit : ℕ) → Judged
 verdictAfter p n pt cs days limit = bookVerdict p pt (booked (emptyBook p n) cs) days limit
 
 -- Demand 3, after any calls

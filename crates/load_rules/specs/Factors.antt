@@ -14,17 +14,17 @@ pub record Fraction : Type 0 where
   pub upper : ℕ
   pub lower : ℕ
 
-abbrev pub over : ℕ → ℕ → Fraction
-over a b = record { upper = a; lower = b }
+abbrev pub ratio : (upper lower : ℕ) → Fraction
+ratio a b = record { upper = a; lower = b }
 
-abbrev pub whole : ℕ → Fraction
-whole n = over n 1
+abbrev pub wholeFraction : ℕ → Fraction
+wholeFraction n = ratio n 1
 
 abbrev pub times : Fraction → Fraction → Fraction
-times x y = over (x .upper * y .upper) (x .lower * y .lower)
+times x y = ratio (x .upper * y .upper) (x .lower * y .lower)
 
 abbrev pub plus : Fraction → Fraction → Fraction
-plus x y = over (x .upper * y .lower + y .upper * x .lower) (x .lower * y .lower)
+plus x y = ratio (x .upper * y .lower + y .upper * x .lower) (x .lower * y .lower)
 
 -- both lowers are above 0, and the cross products are equal
 pub record Equal (x y : Fraction) : Type 0 where
@@ -64,7 +64,7 @@ unknownSum f = sumTo (λ g. unknown (f g)) groupCount
 
 -- a group's factor (V+U)/V, and the general factor (V+U+W)/(V+U) over all groups
 abbrev pub groupFactor : Counts → Fraction
-groupFactor c = over (c .computed + c .missing) (c .computed)
+groupFactor c = ratio (c .computed + c .missing) (c .computed)
 
 unfoldable pub generalFactor : (ℕ → Counts) → Fraction
-generalFactor f = over (knownSum f + unknownSum f) (knownSum f)
+generalFactor f = ratio (knownSum f + unknownSum f) (knownSum f)

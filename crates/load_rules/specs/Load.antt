@@ -43,13 +43,13 @@ unfoldable pub noneComputed : List Share → Bool
 noneComputed ss = not (anyComputed ss) && ltb 0 (length ss)
 
 -- load: 9, 11, 10. `fits`: the book is sound and the point is there
-unfoldable pub loadRefusal : Bool → List Share → ℕ → ℕ
+unfoldable pub loadRefusal : (fits : Bool) → List Share → (days : ℕ) → ℕ
 loadRefusal fits ss days = refuse 9 fits (refuse 11 (daysFit days) (refuse 10 (not (noneComputed ss)) 0))
 
 -- Answers
 
 -- total, level, and V and U of each group
-unfoldable pub answer : (ℕ → Group) → ℕ → Load
+unfoldable pub answer : (ℕ → Group) → (days : ℕ) → Load
 answer f days =
     record {
       refused = 0;
@@ -68,10 +68,10 @@ refusedLoad n =
       counts = replicate groupCount (record { computed = 0; missing = 0 });
     }
 
-unfoldable pub loadOf : Bool → List Share → ℕ → Load
+unfoldable pub loadOf : (fits : Bool) → List Share → (days : ℕ) → Load
 loadOf fits ss days =
     cond (eqb (loadRefusal fits ss days) 0) (answer (tally ss) days) (refusedLoad (loadRefusal fits ss days))
 
 -- the load at point pt of a book with p points
-unfoldable pub bookLoad : ℕ → ℕ → Book → ℕ → Load
+unfoldable pub bookLoad : (points point : ℕ) (book : Book) (days : ℕ) → Load
 bookLoad p pt b days = loadOf (sound p b && ltb pt p) (bookShares p pt b) days

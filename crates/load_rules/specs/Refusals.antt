@@ -52,7 +52,8 @@ pub record VerdictNumbers (fits days limit none : Type 0) (r : ℕ) : Type 0 whe
 -- a row of a book is in use, and none in use is marked computed
 pub record NoneMarked (b : Book) : Type 0 where
   pub stand : ¬ ((i : ℕ) → i < length (b .identities) → getD (b .identities) i 0 ≡ 0)
-  pub none-marked : (i : ℕ) → i < length (b .identities) → ¬ (getD (b .identities) i 0 ≡ 0) → getD (b .marks) i 0 ≡ 0
+  pub none-marked : (i : ℕ) → i < length (b .identities) → ¬ (getD (b .identities) i 0 ≡ 0)
+      → getD (b .marks) i 0 ≡ 0
 
 -- the refusals of a load and of a verdict at point pt of any book b for p points, by its rows
 pub record BookRefusals (p pt : ℕ) (b : Book) (days : ℕ) : Type 0 where

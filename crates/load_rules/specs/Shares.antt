@@ -29,7 +29,7 @@ anyComputed (lacks g ∷ ss) = anyComputed ss
 
 -- The list of movements
 
-unfoldable pub heldShare : ℕ → ℕ → Held → Share
+unfoldable pub heldShare : (point group : ℕ) → Held → Share
 heldShare pt g none = lacks g
 heldShare pt g (holds ls) = has g (energyIn g (getD ls pt 0))
 
@@ -40,16 +40,16 @@ sharesOf pt (m ∷ ms) = heldShare pt (m .group) (m .held) ∷ sharesOf pt ms
 -- The rows of a book
 
 -- identity, group, mark, and the level at the point: an unused row brings nothing
-unfoldable pub rowShare : ℕ → ℕ → ℕ → ℕ → List Share
+unfoldable pub rowShare : (identity group mark level : ℕ) → List Share
 rowShare x g m l = cond (eqb x 0) [] (cond (eqb m 0) (lacks g) (has g (energyIn g l)) ∷ [])
 
 -- the shares of the first n rows, at point pt of p
-unfoldable pub sharesTo : ℕ → ℕ → Book → ℕ → List Share
+unfoldable pub sharesTo : (points point : ℕ) (book : Book) (rows : ℕ) → List Share
 sharesTo p pt b zero = []
 sharesTo p pt b (suc n) =
     sharesTo p pt b n
     ++ rowShare (getD (b .identities) n 0) (getD (b .groups) n 0) (getD (b .marks) n 0)
     (getD (b .levels) (n * p + pt) 0)
 
-unfoldable pub bookShares : ℕ → ℕ → Book → List Share
+unfoldable pub bookShares : (points point : ℕ) → Book → List Share
 bookShares p pt b = sharesTo p pt b (length (b .identities))

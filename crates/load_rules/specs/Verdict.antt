@@ -21,7 +21,7 @@ unfoldable pub limitFits : ℕ → Bool
 limitFits limit = leb limit maxLimit
 
 -- verdict: 9, 11, 15, 10
-unfoldable pub verdictRefusal : Bool → List Share → ℕ → ℕ → ℕ
+unfoldable pub verdictRefusal : (fits : Bool) (shares : List Share) (days limit : ℕ) → ℕ
 verdictRefusal fits ss days limit =
     refuse 9 fits (refuse 11 (daysFit days) (refuse 15 (limitFits limit) (refuse 10 (not (noneComputed ss)) 0)))
 
@@ -38,12 +38,12 @@ overNumber (Given v) = verdictNumber v
 unfoldable pub judged : ℕ → Verdict → Judged
 judged n v = cond (eqb n 0) (Given v) (Refused n)
 
-unfoldable pub judgedOf : Bool → List Share → ℕ → ℕ → Judged
+unfoldable pub judgedOf : (fits : Bool) (shares : List Share) (days limit : ℕ) → Judged
 judgedOf fits ss days limit =
     judged (verdictRefusal fits ss days limit) (verdictOf (answer (tally ss) days .level) limit)
 
 -- the verdict at point pt of a book with p points
-unfoldable pub bookVerdict : ℕ → ℕ → Book → ℕ → ℕ → Judged
+unfoldable pub bookVerdict : (points point : ℕ) (book : Book) (days limit : ℕ) → Judged
 bookVerdict p pt b days limit = judgedOf (sound p b && ltb pt p) (bookShares p pt b) days limit
 
 -- what the call for a verdict promises of its answer r

@@ -7,7 +7,7 @@ use Rattle.movement.specs.declared.aircraft.Aircraft.{Aircraft}
 use Rattle.movement.specs.declared.aircraft.Aircraft.the-variants.{Large, Small, Helicopter}
 use Rattle.movement.specs.Limits.{smallBelow}
 
--- the paper's number of a type
+-- the rules' number of a type
 abbrev pub aircraftNumber : Aircraft → ℕ
 aircraftNumber Large = 0
 aircraftNumber Small = 1

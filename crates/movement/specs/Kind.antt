@@ -6,7 +6,7 @@ use lib.Dec.{eqb}
 use Rattle.movement.specs.declared.kind.Kind.{Kind}
 use Rattle.movement.specs.declared.kind.Kind.the-variants.{Start, Landing}
 
--- the paper's number of a kind
+-- the rules' number of a kind
 abbrev pub kindNumber : Kind → ℕ
 kindNumber Start = 0
 kindNumber Landing = 1

@@ -20,7 +20,7 @@ nightFrom = 82800
 abbrev pub periodOf : ℕ → Period
 periodOf s = cond (ltb s dayFrom) Night (cond (ltb s eveningFrom) Day (cond (ltb s nightFrom) Evening Night))
 
--- the paper's number of a period
+-- the rules' number of a period
 abbrev pub periodNumber : Period → ℕ
 periodNumber Day = 0
 periodNumber Evening = 1

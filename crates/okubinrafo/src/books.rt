@@ -1,5 +1,5 @@
 // The calls on a book, and a journal of them.
-ghost use Rattle.book_rules.specs.Columns.{bookOf};
+ghost use Rattle.book_rules.specs.Columns.{bookBefore, bookAfter};
 ghost use Rattle.book_rules.specs.Calls.{Call, Called};
 ghost use Rattle.journal.specs.Journal.{Replayed};
 
@@ -17,7 +17,8 @@ pub extern "C" fn okubinrafo_enter(
     time: u32,
     mass: u32,
 ) -> u32
-    ensures { λ r. ⌜ Called points (bookOf (now (identities .entry)) (now (groups .entry)) (now (marks .entry)) (now (levels .entry))) (Call.enter identity ty kind time mass) r (bookOf (now (identities .exit)) (now (groups .exit)) (now (marks .exit)) (now (levels .exit))) ⌝ }
+    ensures { λ r. ⌜ Called points (bookBefore identities groups marks levels)
+        (Call.enter identity ty kind time mass) r (bookAfter identities groups marks levels) ⌝ }
 {
     book::enter(
         identities,
@@ -44,7 +45,8 @@ pub extern "C" fn okubinrafo_supply(
     identity: u32,
     given: &[u32],
 ) -> u32
-    ensures { λ r. ⌜ Called points (bookOf (now (identities .entry)) (now (groups .entry)) (now (marks .entry)) (now (levels .entry))) (Call.supply identity (now (given .entry))) r (bookOf (now (identities .entry)) (now (groups .entry)) (now (marks .exit)) (now (levels .exit))) ⌝ }
+    ensures { λ r. ⌜ Called points (bookBefore identities groups marks levels)
+        (Call.supply identity (now (given .entry))) r (bookAfter identities groups marks levels) ⌝ }
 {
     book::supply(
         identities,
@@ -67,7 +69,8 @@ pub extern "C" fn okubinrafo_take_back(
     points: u32,
     identity: u32,
 ) -> u32
-    ensures { λ r. ⌜ Called points (bookOf (now (identities .entry)) (now (groups .entry)) (now (marks .entry)) (now (levels .entry))) (Call.takeBack identity) r (bookOf (now (identities .entry)) (now (groups .entry)) (now (marks .exit)) (now (levels .exit))) ⌝ }
+    ensures { λ r. ⌜ Called points (bookBefore identities groups marks levels) (Call.takeBack identity) r
+        (bookAfter identities groups marks levels) ⌝ }
 {
     book::take_back(identities, groups, marks, levels, points as usize, identity)
 }
@@ -82,7 +85,8 @@ pub extern "C" fn okubinrafo_withdraw(
     points: u32,
     identity: u32,
 ) -> u32
-    ensures { λ r. ⌜ Called points (bookOf (now (identities .entry)) (now (groups .entry)) (now (marks .entry)) (now (levels .entry))) (Call.withdraw identity) r (bookOf (now (identities .exit)) (now (groups .exit)) (now (marks .exit)) (now (levels .exit))) ⌝ }
+    ensures { λ r. ⌜ Called points (bookBefore identities groups marks levels) (Call.withdraw identity) r
+        (bookAfter identities groups marks levels) ⌝ }
 {
     book::withdraw(identities, groups, marks, levels, points as usize, identity)
 }
@@ -98,7 +102,8 @@ pub extern "C" fn okubinrafo_replay(
     journal: &[u32],
     answers: &mut [u32],
 ) -> u32
-    ensures { λ r. ⌜ Replayed points (bookOf (now (identities .entry)) (now (groups .entry)) (now (marks .entry)) (now (levels .entry))) (now (journal .entry)) (now (answers .entry)) r (bookOf (now (identities .exit)) (now (groups .exit)) (now (marks .exit)) (now (levels .exit))) (now (answers .exit)) ⌝ }
+    ensures { λ r. ⌜ Replayed points (bookBefore identities groups marks levels) (now (journal .entry))
+        (now (answers .entry)) r (bookAfter identities groups marks levels) (now (answers .exit)) ⌝ }
 {
     journal::replay(
         identities,

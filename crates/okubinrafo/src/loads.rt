@@ -6,14 +6,15 @@ ghost use mathlib.Core.Path.{_≡_};
 ghost use mathlib.Core.List.{_∷_, []};
 ghost use Prim.Native.Nat.{_≤_, _<_};
 ghost use lib.ListN.{length, getD};
-ghost use Rattle.book_rules.specs.Columns.{bookOf};
+ghost use Rattle.book_rules.specs.Columns.{bookBefore};
 ghost use Rattle.load_rules.specs.Load.{bookLoad};
 ghost use Rattle.load_rules.specs.Verdict.{refusalNumber, bookVerdict};
 ghost use Rattle.mapping.specs.Many.{over};
 ghost use Rattle.okubinrafo.specs.Rooms.{Writes};
 ghost use Rattle.okubinrafo.specs.Loads.{loadSize, numbersFrom, loadNumbers, verdictNumbers};
 
-// Number `k` of the 39 of a load: total, whether a level is given, the level, V of the 18 groups from 3 on, U from 21 on.
+// Number `k` of the 39 of a load: total, whether a level is given, the level, V of the 18 groups from 3 on, U from 21
+// on.
 fn number_at(total: u64, level: Level, counts: [Counts; 18], k: usize) -> u64
     requires { ⌜ k < loadSize ⌝ }
     ensures { λ r. ⌜ r ≡ getD (numbersFrom total level counts) k 0 ⌝ }
@@ -59,8 +60,9 @@ pub extern "C" fn okubinrafo_load(
     days: u32,
     answer: &mut [u64],
 ) -> u32
-    ensures { λ r. ⌜ Writes (bookLoad points point (bookOf (now (identities .entry)) (now (groups .entry)) (now (marks .entry)) (now (levels .entry))) days .refused)
-        (loadNumbers (bookLoad points point (bookOf (now (identities .entry)) (now (groups .entry)) (now (marks .entry)) (now (levels .entry))) days)) (now (answer .entry)) r (now (answer .exit)) ⌝ }
+    ensures { λ r. ⌜ Writes (bookLoad points point (bookBefore identities groups marks levels) days .refused)
+        (loadNumbers (bookLoad points point (bookBefore identities groups marks levels) days))
+        (now (answer .entry)) r (now (answer .exit)) ⌝ }
 {
     let load = load::load_at(
         identities,
@@ -108,8 +110,10 @@ pub extern "C" fn okubinrafo_verdict(
     limit: u32,
     answer: &mut [u32],
 ) -> u32
-    ensures { λ r. ⌜ Writes (refusalNumber (bookVerdict points point (bookOf (now (identities .entry)) (now (groups .entry)) (now (marks .entry)) (now (levels .entry))) days limit))
-        (verdictNumbers (bookVerdict points point (bookOf (now (identities .entry)) (now (groups .entry)) (now (marks .entry)) (now (levels .entry))) days limit)) (now (answer .entry)) r (now (answer .exit)) ⌝ }
+    ensures { λ r. ⌜ Writes
+        (refusalNumber (bookVerdict points point (bookBefore identities groups marks levels) days limit))
+        (verdictNumbers (bookVerdict points point (bookBefore identities groups marks levels) days limit))
+        (now (answer .entry)) r (now (answer .exit)) ⌝ }
 {
     let judged = load::verdict_at(
         identities,

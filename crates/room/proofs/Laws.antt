@@ -1,13 +1,13 @@
--- Laws of room that is lent: texts written into it, one past the other. Assumes nothing.
-use Prim.Native.Nat.{ℕ, _+_, _≤_, _<_}
-use mathlib.Core.Path.{_≡_, sym, ap, _∙_}
+-- Laws of room that is lent: texts written into it, one past the other, and loops that copy an answer. Assumes nothing.
+use Prim.Native.Nat.{ℕ, zero, suc, _+_, _≤_, _<_}
+use mathlib.Core.Path.{_≡_, refl, sym, ap, _∙_}
 use mathlib.Core.List.{List, [], _∷_, _++_, append-assoc, append-nil}
-use native.Mathlib.Nat.{add-assoc, add-zero}
+use native.Mathlib.Nat.{add-assoc, add-zero, le-of-suc-le-suc, not-suc-le-zero}
 use native.Mathlib.Numerals.{add-one}
 use native.Mathlib.Omega.{arith}
-use lib.ListN.{length, getD, take, drop, set, length-append, length-take, length-drop, take-append-drop}
-use lib.Seq.{set-split, take-at, append-snoc, drop-append-add, length-take-le, drop-drop, take-suc}
-use Rattle.room.specs.Room.{put, Wrote}
+use lib.ListN.{length, getD, take, drop, set, length-append, length-take, length-drop, take-append-drop, drop-of-length-le}
+use lib.Seq.{set-split, take-at, append-snoc, drop-append-add, length-take-le, drop-drop, take-suc, take-all, take-length}
+use Rattle.room.specs.Room.{front, put, Wrote}
 
 -- a store is text of one byte
 pub put-one : (s : List ℕ) (at b : ℕ) → at < length s → set s at b ≡ put s at (b ∷ [])
@@ -74,3 +74,36 @@ put-step s at t i ht hs =
     let l : length (take i t) ≡ i = length-take-le i t (omega arith) in
     let e : at + i ≡ at + length (take i t) = omega arith in
     rw (e, add-one i, take-suc t i 0 ht) (put-snoc s at (take i t) (getD t i 0) (omega arith))
+
+-- A loop that copies an answer to the front of the room: its first i elements stand there
+
+abbrev pub frontTo : (answer room : List ℕ) (i : ℕ) → List ℕ
+frontTo answer room i = take i answer ++ drop i room
+
+front-to-suc : (s d : List ℕ) (i : ℕ) → i < length s → i < length d
+    → set (frontTo s d i) i (getD s i 0) ≡ frontTo s d (suc i)
+front-to-suc [] d i h k = absurd (not-suc-le-zero h)
+front-to-suc (x ∷ xs) [] i h k = absurd (not-suc-le-zero k)
+front-to-suc (x ∷ xs) (y ∷ ys) zero h k = refl
+front-to-suc (x ∷ xs) (y ∷ ys) (suc i) h k =
+    ap (λ (l : List ℕ). x ∷ l) (front-to-suc xs ys i (le-of-suc-le-suc h) (le-of-suc-le-suc k))
+
+-- a turn: the next element is stored
+pub front-to-more : (s d : List ℕ) {now : List ℕ} {i v : ℕ} → now ≡ frontTo s d i → getD s i 0 ≡ v
+    → i < length s → i < length d → set now i v ≡ frontTo s d (i + 1)
+front-to-more s d {now} {i} {v} e f h k =
+    ap (λ (t : List ℕ). set t i v) e
+    ∙ ap (set (frontTo s d i) i) (sym f)
+    ∙ front-to-suc s d i h k
+    ∙ ap (frontTo s d) (sym (add-one i))
+
+-- the end: all of it stands
+pub front-to-end : (s d : List ℕ) {i : ℕ} → i ≡ length s → frontTo s d i ≡ front s d
+front-to-end s d e = ap (frontTo s d) e ∙ ap (λ (t : List ℕ). t ++ drop (length s) d) (take-length s)
+
+-- in room no longer than the answer nothing else is left
+pub front-to-whole : (s d : List ℕ) (i : ℕ) → length s ≤ i → length d ≤ i → frontTo s d i ≡ s
+front-to-whole s d i h k =
+    ap (λ (t : List ℕ). t ++ drop i d) (take-all i s h)
+    ∙ ap (λ (t : List ℕ). s ++ t) (drop-of-length-le d k)
+    ∙ append-nil s

@@ -8,7 +8,8 @@ ghost use mathlib.Core.Path.{_≡_};
 ghost use Prim.Native.Nat.{_*_};
 ghost use lib.ListN.{length};
 ghost use Rattle.refusal.specs.Range.{allWithin};
-ghost use Rattle.book_rules.specs.Columns.{bookOf, shapeFits, rising, follows, headSound, topLevel, rowSound, rowsSound, sound};
+ghost use Rattle.book_rules.specs.Columns.{shapeFits, rising, follows, headSound, topLevel, rowSound, rowsSound};
+ghost use Rattle.book_rules.specs.Columns.{bookBefore, sound};
 
 // Whether points and rows are in range and the columns fit, by their lengths.
 fn shape_fits(points: usize, rows: usize, groups: usize, marks: usize, levels: usize) -> bool
@@ -119,7 +120,8 @@ fn rows_sound(ids: &[u32], groups: &[u32], marks: &[u32], levels: &[u32], points
     requires { ⌜ length (now groups) ≡ length (now ids) ⌝ }
     requires { ⌜ length (now marks) ≡ length (now ids) ⌝ }
     requires { ⌜ length (now levels) ≡ length (now ids) * points ⌝ }
-    ensures { λ r. ⌜ r ≡ rowsSound points (now (ids .entry)) (now (groups .entry)) (now (marks .entry)) (now (levels .entry)) ⌝ }
+    ensures { λ r. ⌜ r
+        ≡ rowsSound points (now (ids .entry)) (now (groups .entry)) (now (marks .entry)) (now (levels .entry)) ⌝ }
 {
     let mut i = 0;
     let mut at = 0;
@@ -136,7 +138,7 @@ fn rows_sound(ids: &[u32], groups: &[u32], marks: &[u32], levels: &[u32], points
 
 // Whether the book is sound.
 pub fn is_sound(ids: &[u32], groups: &[u32], marks: &[u32], levels: &[u32], points: usize) -> bool
-    ensures { λ r. ⌜ r ≡ sound points (bookOf (now (ids .entry)) (now (groups .entry)) (now (marks .entry)) (now (levels .entry))) ⌝ }
+    ensures { λ r. ⌜ r ≡ sound points (bookBefore ids groups marks levels) ⌝ }
 {
     if !shape_fits(points, ids.len(), groups.len(), marks.len(), levels.len()) {
         return false;

@@ -22,7 +22,7 @@ use Rattle.level.proofs.RootLaws.{root-only}
 use Rattle.contour_rules.specs.Contours.{waiting, follow, without, swept, crossedTo}
 use Rattle.text.specs.Number.{shown}
 use Rattle.wkt.specs.Text.{placeText, pointsText, linesText, textOf}
-use Rattle.worked.specs.Cases.{Case, InPeriod, Answered, Holds, AllHold, cases, hill, hillFrame, hillContours, hillText}
+use Rattle.worked.specs.Cases.{Case, InPeriod, EnterAnswered, CaseHolds, AllHold, cases, hill, hillFrame, hillContours, hillText}
 use Rattle.worked.specs.Cases.Case.{period, mass, energy, contour}
 
 -- a group's period is read from its number
@@ -72,7 +72,7 @@ enter-empty p n x t k s m hp hn hx =
     itself (suc r) = rw (ne-eqb (suc r) 0 (omega arith)) refl
 
 -- a refusal of type and mass is the same for every kind and second in range
-of-mass : (type kg answer : ℕ) → movementRefusal type 0 0 kg ≡ answer → Answered type kg answer
+of-mass : (type kg answer : ℕ) → movementRefusal type 0 0 kg ≡ answer → EnterAnswered type kg answer
 unfolding movementRefusal fieldsFit
 of-mass type kg answer e p n x k s hp hn hx hk hs =
     enter-empty p n x type k s kg hp hn hx ∙ rw (lt-ltb k kindCount (omega arith), lt-ltb s secondsADay (omega arith)) e
@@ -92,7 +92,7 @@ unfolding energyOf
 of-energy c a e = rw e
 
 -- the hill, whose contours and text antt computes
-of-hill : Holds (contour hill hillFrame 4500 hillContours hillText)
+of-hill : CaseHolds (contour hill hillFrame 4500 hillContours hillText)
 unfolding waiting follow without swept crossedTo shown placeText pointsText linesText textOf
 of-hill = (refl, refl)
 

@@ -15,6 +15,7 @@ use Rattle.level.specs.Energy.{energyOf}
 use Rattle.network.specs.declared.Frame.{Frame}
 use Rattle.contour_rules.specs.Picture.{picture}
 use Rattle.contour_rules.specs.Contours.{Contour, contoursOf}
+use Rattle.text.specs.Spelled.{bytes}
 use Rattle.wkt.specs.Calls.{networkText}
 
 pub data Case : Type 0 where
@@ -34,23 +35,23 @@ pub record InPeriod (second number : ℕ) : Type 0 where
   pub loaded : (t k : ℕ) → periodNumber (groupPeriod (6 * t + 3 * k + number)) ≡ number
 
 -- an *enter* of this type and mass, on an empty book of any size, is answered so
-abbrev pub Answered : (type kg answer : ℕ) → Type 0
-Answered t kg answer =
-    (p n x k s : ℕ) → (1 ≤ p) × (p ≤ 8) → (1 ≤ n) × (n ≤ 50000) → (1 ≤ x) × (x ≤ 99999) → k ≤ 1 → s ≤ 86399
-    → refusal p (emptyBook p n) (enter x t k s kg) ≡ answer
+abbrev pub EnterAnswered : (type kg answer : ℕ) → Type 0
+EnterAnswered t kg answer =
+    (p n x k s : ℕ) → (1 ≤ p) × (p ≤ 8) → (1 ≤ n) × (n ≤ 50000) → (1 ≤ x) × (x ≤ 99999)
+    → k ≤ 1 → s ≤ 86399 → refusal p (emptyBook p n) (enter x t k s kg) ≡ answer
 
 -- what each says: of the row that *enter* makes and the load reads, of the very *enter*, of the energy that the load
 -- adds up, and of the contours that the calls list and print
-abbrev pub Holds : Case → Type 0
-Holds (period second number) = InPeriod second number
-Holds (mass type kg refusal) = Answered type kg refusal
-Holds (energy c e) = energyOf c ≡ e
-Holds (contour levels frame v contours text) =
+abbrev pub CaseHolds : Case → Type 0
+CaseHolds (period second number) = InPeriod second number
+CaseHolds (mass type kg refusal) = EnterAnswered type kg refusal
+CaseHolds (energy c e) = energyOf c ≡ e
+CaseHolds (contour levels frame v contours text) =
     (contoursOf (picture levels (frame .columns) (frame .rows) v) ≡ contours) × (networkText levels frame v ≡ text)
 
 abbrev pub AllHold : List Case → Type 0
 AllHold [] = Unit {0}
-AllHold (x ∷ xs) = Holds x × AllHold xs
+AllHold (x ∷ xs) = CaseHolds x × AllHold xs
 
 -- three by three points, 100 m, origin 0, the middle 50.00 and the others 40.00
 abbrev pub hill : List ℕ
@@ -63,13 +64,9 @@ hillFrame = record { columns = 3; rows = 3; spacing = 100; west = 0; south = 0 }
 abbrev pub hillContours : List Contour
 hillContours = record { edges = 2 ∷ 7 ∷ 3 ∷ 10 ∷ []; closes = true } ∷ []
 
--- `MULTILINESTRING ((50.000 100.000, 100.000 50.000, 150.000 100.000, 100.000 150.000, 50.000 100.000))`, byte by byte
 abbrev pub hillText : List ℕ
 hillText =
-    77 ∷ 85 ∷ 76 ∷ 84 ∷ 73 ∷ 76 ∷ 73 ∷ 78 ∷ 69 ∷ 83 ∷ 84 ∷ 82 ∷ 73 ∷ 78 ∷ 71 ∷ 32 ∷ 40 ∷ 40 ∷ 53 ∷ 48 ∷ 46 ∷ 48 ∷ 48 ∷ 48 ∷ 32 ∷ 49 ∷ 48 ∷ 48 ∷ 46 ∷ 48
-    ∷ 48 ∷ 48 ∷ 44 ∷ 32 ∷ 49 ∷ 48 ∷ 48 ∷ 46 ∷ 48 ∷ 48 ∷ 48 ∷ 32 ∷ 53 ∷ 48 ∷ 46 ∷ 48 ∷ 48 ∷ 48 ∷ 44 ∷ 32 ∷ 49 ∷ 53 ∷ 48 ∷ 46 ∷ 48 ∷ 48 ∷ 48 ∷ 32 ∷ 49 ∷ 48
-    ∷ 48 ∷ 46 ∷ 48 ∷ 48 ∷ 48 ∷ 44 ∷ 32 ∷ 49 ∷ 48 ∷ 48 ∷ 46 ∷ 48 ∷ 48 ∷ 48 ∷ 32 ∷ 49 ∷ 53 ∷ 48 ∷ 46 ∷ 48 ∷ 48 ∷ 48 ∷ 44 ∷ 32 ∷ 53 ∷ 48 ∷ 46 ∷ 48 ∷ 48 ∷ 48
-    ∷ 32 ∷ 49 ∷ 48 ∷ 48 ∷ 46 ∷ 48 ∷ 48 ∷ 48 ∷ 41 ∷ 41 ∷ []
+    bytes "MULTILINESTRING ((50.000 100.000, 100.000 50.000, 150.000 100.000, 100.000 150.000, 50.000 100.000))"
 
 abbrev pub cases : List Case
 cases =

@@ -9,10 +9,14 @@ returns : tie.Need-returns
 returns c = unsound (failed (c .before .is-sound .ensures) (c .if1 .taken))
 
 enter-requires : tie.Need-enter-requires
-enter-requires c κs = passed (c .before .before .before .before .before .is-sound .ensures) (c .before .before .before .before .if1 .left)
+enter-requires c κs =
+    let tested : tie.Else1 = search in
+    passed (tested .before .is-sound .ensures) (tested .if1 .left)
 
 returns-2 : tie.Need-returns-2
-returns-2 c = c .before .before .before .before .before .before .before .before .enter .ensures
+returns-2 c =
+    let entered : tie.After-enter = search in
+    entered .enter .ensures
 
 pub enter-spec : {M : Type 1} → statement M
 enter-spec =

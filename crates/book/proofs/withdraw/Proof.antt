@@ -9,10 +9,12 @@ returns : tie.Need-returns
 returns c = unsound (failed (c .before .is-sound .ensures) (c .if1 .taken))
 
 withdraw-requires : tie.Need-withdraw-requires
-withdraw-requires c κs = passed (c .before .before .before .before .before .is-sound .ensures) (c .before .before .before .before .if1 .left)
+withdraw-requires c κs =
+    let left1 : tie.Else1 = search in
+    passed (left1 .before .is-sound .ensures) (left1 .if1 .left)
 
 returns-2 : tie.Need-returns-2
-returns-2 c = c .before .before .before .before .before .before .before .before .withdraw .ensures
+returns-2 c = search
 
 pub withdraw-spec : {M : Type 1} → statement M
 withdraw-spec =

@@ -9,10 +9,17 @@ returns : tie.Need-returns
 returns c = replay-refused (c .before .replay-refusal .ensures) (c .if1 .taken)
 
 run-requires : tie.Need-run-requires
-run-requires c κs = replay-ready _ _ _ _ (sym (c .before .before .before .before .before .before .replay-refusal .ensures) ∙ c .before .before .before .before .before .if1 .left)
+run-requires c κs =
+    let at-replay-refusal : tie.After-replay-refusal = search in
+    let left1 : tie.Else1 = search in
+    replay-ready _ _ _ _ (sym (at-replay-refusal .replay-refusal .ensures) ∙ left1 .if1 .left)
 
 returns-2 : tie.Need-returns-2
-returns-2 c = replay-done (sym (c .before .before .before .before .before .before .before .before .before .before .before .before .before .before .before .before .before .replay-refusal .ensures) ∙ c .before .before .before .before .before .before .before .before .before .before .before .before .before .before .before .before .if1 .left) (c .before .before .before .before .before .before .before .before .before .before .run .ensures .0) (c .before .before .before .before .before .before .before .before .before .before .run .ensures .1)
+returns-2 c =
+    let at-replay-refusal : tie.After-replay-refusal = search in
+    let left1 : tie.Else1 = search in
+    let at-run : tie.After-run = search in
+    replay-done (sym (at-replay-refusal .replay-refusal .ensures) ∙ left1 .if1 .left) (at-run .run .ensures .0) (at-run .run .ensures .1)
 
 pub replay-spec : {M : Type 1} → statement M
 replay-spec =

@@ -19,11 +19,19 @@ count-calls-requires c κs = passed (c .before .before .before .is-laid-out .ens
 
 returns-3 : tie.Need-returns-3
 unfolding replayRefusal
-returns-3 c = simp (passed (c .before .before .before .before .before .is-laid-out .ensures) (c .before .before .before .before .if1 .left), passed (c .before .before .before .is-sound .ensures) (c .before .before .if2 .left), ← (c .before .count-calls .ensures), lt-leb _ _ (c .if3 .taken))
+returns-3 c =
+    let at-is-laid-out : tie.After-is-laid-out = search in
+    let left1 : tie.Else1 = search in
+    let at-is-sound : tie.After-is-sound = search in
+    simp (passed (at-is-laid-out .is-laid-out .ensures) (left1 .if1 .left), passed (at-is-sound .is-sound .ensures) (c .before .before .if2 .left), ← (c .before .count-calls .ensures), lt-leb _ _ (c .if3 .taken))
 
 returns-4 : tie.Need-returns-4
 unfolding replayRefusal
-returns-4 c = simp (passed (c .before .before .before .before .before .is-laid-out .ensures) (c .before .before .before .before .if1 .left), passed (c .before .before .before .is-sound .ensures) (c .before .before .if2 .left), ← (c .before .count-calls .ensures), le-leb _ _ (c .if3 .left))
+returns-4 c =
+    let at-is-laid-out : tie.After-is-laid-out = search in
+    let left1 : tie.Else1 = search in
+    let at-is-sound : tie.After-is-sound = search in
+    simp (passed (at-is-laid-out .is-laid-out .ensures) (left1 .if1 .left), passed (at-is-sound .is-sound .ensures) (c .before .before .if2 .left), ← (c .before .count-calls .ensures), le-leb _ _ (c .if3 .left))
 
 pub replay-refusal-spec : {M : Type 1} → statement M
 replay-refusal-spec =

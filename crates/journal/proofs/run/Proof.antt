@@ -5,7 +5,7 @@ use native.Mathlib.Omega.{arith}
 use lib.ListN.{length, length-set}
 use denote.Ref.{now}
 use borrow.Author.Needs.{needs}
-use Rattle.book_rules.specs.Columns.{bookOf}
+use Rattle.book_rules.specs.Columns.{Book, bookOf, bookNow}
 use Rattle.journal.specs.Journal.{callsOf}
 use Rattle.journal.proofs.Reading.{Step, step-laid}
 use Rattle.journal.proofs.Replaying.{Replaying, replay-starts, replay-more, replay-ends, next, all, length-all}
@@ -21,46 +21,84 @@ abbrev μ-loop : tie.MeasureT-loop
 μ-loop ids₀ groups₀ marks₀ levels₀ points journal answers₀ at₀ made₀ ids groups marks levels answers at made = length journal - at
 
 loop-holds : tie.Need-loop-holds Inv-loop μ-loop
-loop-holds c = (replay-starts _ _ _ _ (c .before .before .before .before .before .before .pre .0) (c .before .before .before .before .before .before .pre .1 .0), (refl, (refl, (refl, (refl, refl)))))
+loop-holds c =
+    let start : tie.Start Inv-loop μ-loop = search in
+    (replay-starts _ _ _ _ (start .pre .0) (start .pre .1 .0), (refl, (refl, (refl, (refl, refl)))))
 
 mul-width-of : tie.Need-mul-width-of Inv-loop μ-loop
-mul-width-of c = let g = c .before .before .before .before .before .before .before .before .good in omega arith
+mul-width-of c =
+    let start : tie.Start Inv-loop μ-loop = search in
+    let g = start .good in omega arith
 
--- the call at `at` is whole
-step : (c : tie.After-width-of Inv-loop μ-loop) → Step (c .before .before .before .before .before .before .before .before .before .before .args .journal .now) (c .before .before .before .loop .at) (c .width-of .result)
+-- the places that the facts below look back to
+abbrev start : tie.After-width-of Inv-loop μ-loop → tie.Start Inv-loop μ-loop
+start c = search
+
+abbrev head : tie.After-width-of Inv-loop μ-loop → tie.At-loop Inv-loop μ-loop
+head c = search
+
+-- the call at `at` is complete
+step : (c : tie.After-width-of Inv-loop μ-loop)
+    → Step (start c .args .journal .now) (head c .loop .at) (c .width-of .result)
 step c = step-laid _ _ _ (c .width-of .ensures) (c .before .before .loop-test .taken) (c .before .before .before .loop .inv .0 .laid)
 
 -- there is an answer's room for it
-space : (c : tie.After-width-of Inv-loop μ-loop) → length (all (c .before .before .before .before .before .before .before .before .before .before .args .points) (bookOf (now (c .before .before .before .before .before .before .before .before .before .before .args .ids)) (now (c .before .before .before .before .before .before .before .before .before .before .args .groups)) (now (c .before .before .before .before .before .before .before .before .before .before .args .marks)) (now (c .before .before .before .before .before .before .before .before .before .before .args .levels))) (c .before .before .before .before .before .before .before .before .before .before .args .journal .now)) ≤ length (now (c .before .before .before .before .before .before .before .before .before .before .args .answers))
-space c = omega (arith, length-all (c .before .before .before .before .before .before .before .before .before .before .args .points) (bookOf (now (c .before .before .before .before .before .before .before .before .before .before .args .ids)) (now (c .before .before .before .before .before .before .before .before .before .before .args .groups)) (now (c .before .before .before .before .before .before .before .before .before .before .args .marks)) (now (c .before .before .before .before .before .before .before .before .before .before .args .levels))) (callsOf (c .before .before .before .before .before .before .before .before .before .before .args .journal .now)), c .before .before .before .before .before .before .before .before .before .before .pre .1 .1)
+abbrev book : tie.Start Inv-loop μ-loop → Book
+book s = bookNow (s .args .ids) (s .args .groups) (s .args .marks) (s .args .levels)
+
+space : (c : tie.After-width-of Inv-loop μ-loop)
+    → length (all (start c .args .points) (book (start c)) (start c .args .journal .now)) ≤ length (now (start c .args .answers))
+space c =
+    let s = start c in
+    omega (arith, length-all (s .args .points) (book s) (callsOf (s .args .journal .now)), s .pre .1 .1)
 
 below : (c : tie.After-width-of Inv-loop μ-loop) → c .before .before .before .loop .made < length (c .before .before .before .loop .answers)
 below c = omega (arith, next (c .before .before .before .loop .inv .0) (step c) .inside, space c, c .before .before .before .loop .inv .1)
 
 mul-make-call : tie.Need-mul-make-call Inv-loop μ-loop
-mul-make-call c = let g = c .before .before .before .before .before .before .before .before .before .before .before .before .before .before .good in let t = c .before .before .before .before .before .before .loop-test .taken in omega arith
+mul-make-call c =
+    let start : tie.Start Inv-loop μ-loop = search in
+    let turn : tie.In-loop Inv-loop μ-loop = search in
+    let g = start .good in let t = turn .loop-test .taken in omega arith
 
 make-call-requires : tie.Need-make-call-requires Inv-loop μ-loop
-make-call-requires c κs = (c .before .before .before .before .before .before .before .before .loop .inv .0 .sound=, step (c .before .before .before .before .before) .whole=)
+make-call-requires c κs =
+    let at : tie.After-width-of Inv-loop μ-loop = search in
+    (head at .loop .inv .0 .sound=, step at .complete=)
 
 mul-answers : tie.Need-mul-answers Inv-loop μ-loop
-mul-answers c = let g = c .before .before .before .before .before .before .before .before .before .before .before .before .before .before .before .before .before .before .before .before .before .before .before .before .good in let b = below (c .before .before .before .before .before .before .before .before .before .before .before .before .before .before) in let e = c .before .before .before .before .before .before .before .before .before .before .before .before .before .before .before .before .before .loop .inv .1 in omega arith
+mul-answers c =
+    let at : tie.After-width-of Inv-loop μ-loop = search in
+    let g = start at .good in let b = below at in let e = head at .loop .inv .1 in omega arith
 
 slice-write-answers : tie.Need-slice-write-answers Inv-loop μ-loop
-slice-write-answers c = let b = below (c .before .before .before .before .before .before .before .before .before .before .before .before .before .before) in omega arith
+slice-write-answers c =
+    let at : tie.After-width-of Inv-loop μ-loop = search in
+    let b = below at in omega arith
 
 add-made : tie.Need-add-made Inv-loop μ-loop
-add-made c = let g = c .before .before .before .before .before .before .before .before .before .before .before .before .before .before .before .before .before .before .before .before .before .before .before .before .good in let b = below (c .before .before .before .before .before .before .before .before .before .before .before .before .before .before) in let e = c .before .before .before .before .before .before .before .before .before .before .before .before .before .before .before .before .before .loop .inv .1 in omega arith
+add-made c =
+    let at : tie.After-width-of Inv-loop μ-loop = search in
+    let g = start at .good in let b = below at in let e = head at .loop .inv .1 in omega arith
 
 add-at : tie.Need-add-at Inv-loop μ-loop
-add-at c = let g = c .before .before .before .before .before .before .before .before .before .before .before .before .before .before .before .before .before .before .before .before .before .before .before .before .good in let s = step (c .before .before .before .before .before .before .before .before .before .before .before .before .before .before) .fits in omega arith
+add-at c =
+    let at : tie.After-width-of Inv-loop μ-loop = search in
+    let g = start at .good in let s = step at .fits in omega arith
 
 loop-less : tie.Need-loop-less Inv-loop μ-loop
-loop-less c = let s = step (c .before .before .before .before .before .before .before .before .before .before .before .before .before .before) in omega (arith, s .some, s .fits)
+loop-less c =
+    let at : tie.After-width-of Inv-loop μ-loop = search in
+    let s = step at in omega (arith, s .some, s .fits)
 
 loop-again : tie.Need-loop-again Inv-loop μ-loop
 loop-again c =
-    (replay-more (c .before .before .before .before .before .before .before .before .before .before .before .before .before .before .before .before .before .loop .inv .0) (step (c .before .before .before .before .before .before .before .before .before .before .before .before .before .before)) (space (c .before .before .before .before .before .before .before .before .before .before .before .before .before .before)) (c .before .before .before .before .before .before .before .before .make-call .ensures), (search needs, (search needs, (search needs, (search needs, simp length-set (omega (arith, c .before .before .before .before .before .before .before .before .before .before .before .before .before .before .before .before .before .loop .inv .1)))))))
+    let made : tie.After-make-call Inv-loop μ-loop = search in
+    let at : tie.After-width-of Inv-loop μ-loop = search in
+    let inv = head at .loop .inv in (
+      replay-more (inv .0) (step at) (space at) (made .make-call .ensures),
+      (search needs, (search needs, (search needs, (search needs, simp length-set (omega (arith, inv .1)))))),
+    )
 
 returns : tie.Need-returns Inv-loop μ-loop
 returns c = replay-ends (c .before .loop .inv .0) (c .loop-test .left)

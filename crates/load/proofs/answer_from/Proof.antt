@@ -7,10 +7,9 @@ use native.Mathlib.Omega.{arith}
 use lib.Dec.{eqb, ltb}
 use Rattle.level.specs.Limits.{maxTotal}
 use Rattle.level.specs.Level.{levelOf}
-use Rattle.load_rules.specs.Tally.{groupAt}
 use Rattle.load_rules.specs.Factors.{knownSum, unknownSum}
 use Rattle.load_rules.specs.Load.{countsOf}
-use Rattle.load.specs.Steps.{Scalable}
+use Rattle.load.specs.InnerSteps.{groupAt, Scalable}
 use Rattle.load.proofs.BoundLaws.{mean-le}
 use Rattle.load.proofs.SumsLaws.{sums-fit, sums-total, sums-small, sums-none, from-refused, from-answered, some-days}
 use borrow.Author.Needs.{needs}
@@ -37,11 +36,12 @@ scaled-by-requires : tie.Need-scaled-by-requires
 scaled-by-requires c κs = fits (c .before .before .before)
 
 mean-requires : tie.Need-mean-requires
-mean-requires c κs = let s = c .before .before .before .before .before in omega (arith, some-days (s .args .days) (s .pre .1))
+mean-requires c κs =
+    let s : tie.Start = search in omega (arith, some-days (s .args .days) (s .pre .1))
 
 level-of-requires : tie.Need-level-of-requires
 level-of-requires c κs =
-    let n = c .before .before .before .before .before in
+    let n : tie.After-summed = search in
     let s = n .before in
     let t : c .before .scaled-by .result ≤ maxTotal = omega (arith, c .before .scaled-by .ensures, sums-small (s .args .groups) (n .summed .result) (n .summed .ensures) (s .pre .0)) in
     rw (c .mean .ensures) (mean-le (c .before .scaled-by .result) (s .args .days) t)

@@ -4,7 +4,7 @@ use mathlib.Core.Path.{ap}
 use borrow.Author.Tests.{ne-eqb}
 use Rattle.load_rules.specs.declared.Judged.the-variants.{Given}
 use Rattle.load_rules.specs.Verdict.{judged}
-use Rattle.load.specs.Steps.{judgedBy}
+use Rattle.load.specs.InnerSteps.{judgedBy}
 use borrow.Author.Needs.{needs}
 use Rattle.load.proofs.judged_by.Statement.{statement}
 use Rattle.load.proofs.judged_by.Tie as tie

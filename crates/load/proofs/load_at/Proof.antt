@@ -1,7 +1,7 @@
 -- `load::load_at` meets its contract: 9, 11, and then the load of the rows.
 -- Assumes nothing.
 use Rattle.refusal.proofs.Laws.{passed, failed}
-use Rattle.book_rules.specs.Columns.{Book, bookOf}
+use Rattle.book_rules.specs.Columns.{Book, bookNow}
 use Rattle.load_rules.specs.Load.{loadRefusal, loadOf, bookLoad}
 use Rattle.load.proofs.SumsLaws.{fits-there}
 use borrow.Author.Needs.{needs}
@@ -9,7 +9,7 @@ use Rattle.load.proofs.load_at.Statement.{statement}
 use Rattle.load.proofs.load_at.Tie as tie
 
 abbrev book : tie.Start → Book
-book s = bookOf (s .args .ids .now) (s .args .groups .now) (s .args .marks .now) (s .args .levels .now)
+book s = bookNow (s .args .ids) (s .args .groups) (s .args .marks) (s .args .levels)
 
 returns : tie.Need-returns
 unfolding bookLoad loadOf loadRefusal
@@ -21,8 +21,9 @@ returns-2 c = rw (passed (c .before .before .before .before .point-fits .ensures
 
 load-of-requires : tie.Need-load-of-requires
 load-of-requires c κs =
-    let s = c .before .before .before .before .before .before .before .before in
-    let there = fits-there (s .args .points) (s .args .point) (book s) (passed (c .before .before .before .point-fits .ensures) (c .before .before .if1 .left)) in
+    let at-point-fits : tie.After-point-fits = search in
+    let s : tie.Start = search in
+    let there = fits-there (s .args .points) (s .args .point) (book s) (passed (at-point-fits .point-fits .ensures) (c .before .before .if1 .left)) in
     (there .0, (there .1, passed (c .before .days-fit .ensures) (c .if2 .left)))
 
 returns-3 : tie.Need-returns-3

@@ -3,10 +3,10 @@
 use mathlib.Core.Path.{ap, _∙_}
 use native.Mathlib.Omega.{arith}
 use lib.ListN.{length}
-use Rattle.book_rules.specs.Columns.{Book, bookOf}
+use Rattle.book_rules.specs.Columns.{Book, bookNow}
 use Rattle.load_rules.specs.Shares.{bookShares}
-use Rattle.load_rules.specs.Tally.{tally, groupAt}
-use Rattle.load.specs.Steps.{loadFrom}
+use Rattle.load_rules.specs.Tally.{tally}
+use Rattle.load.specs.InnerSteps.{groupAt, loadFrom}
 use Rattle.load.proofs.RowLaws.{rows-bounded, rows-grouped}
 use Rattle.load.proofs.SumsLaws.{from-table, from-shares}
 use borrow.Author.Needs.{needs}
@@ -14,18 +14,18 @@ use Rattle.load.proofs.load_of.Statement.{statement}
 use Rattle.load.proofs.load_of.Tie as tie
 
 abbrev book : tie.Start → Book
-book s = bookOf (s .args .ids .now) (s .args .groups .now) (s .args .marks .now) (s .args .levels .now)
+book s = bookNow (s .args .ids) (s .args .groups) (s .args .marks) (s .args .levels)
 
 answer-from-requires : tie.Need-answer-from-requires
 unfolding bookShares
 answer-from-requires c κs =
-    let s = c .before .before .before .before .before .before .before .before .before .before in
+    let s : tie.Start = search in
     (rw (c .tallied .ensures) (rows-bounded (s .args .points) (s .args .point) (book s) (s .pre .0) (s .pre .1 .0)), s .pre .1 .1)
 
 returns : tie.Need-returns
 unfolding bookShares
 returns c =
-    let s = c .before .before .before .before .before .before .before .before .before .before .before in
+    let s : tie.Start = search in
     let ss = bookShares (s .args .points) (s .args .point) (book s) in
     c .answer-from .ensures
     ∙ ap (λ cs. loadFrom (groupAt cs) (s .args .days)) (c .before .tallied .ensures)

@@ -8,8 +8,10 @@ use Rattle.soundness.proofs.row_sound.Tie as tie
 
 returns : tie.Need-returns
 unfolding rowSound
-returns c = let s = c .before .before .before .before .before in
-    let h : headSound (s .args .x) (s .args .g) (s .args .m) ≡ true = sym (c .before .before .before .head-sound .ensures) ∙ c .before .before .if1 .taken in
+returns c =
+    let at-head-sound : tie.After-head-sound = search in
+    let s : tie.Start = search in
+    let h : headSound (s .args .x) (s .args .g) (s .args .m) ≡ true = sym (at-head-sound .head-sound .ensures) ∙ c .before .before .if1 .taken in
     c .row-within .ensures ∙ rw (h, ← (c .before .top-level .ensures)) refl
 
 returns-2 : tie.Need-returns-2

@@ -17,10 +17,18 @@ Inv-loop ids groups marks levels points i₀ at₀ i at = (i ≤ length ids) × 
 abbrev μ-loop : tie.MeasureT-loop
 μ-loop ids groups marks levels points i₀ at₀ i at = length ids - i
 
+-- the places that the facts below look back to
+abbrev entry : tie.In-loop Inv-loop μ-loop → tie.Start Inv-loop μ-loop
+entry c = search
+
+abbrev start : tie.After-row-sound Inv-loop μ-loop → tie.Start Inv-loop μ-loop
+start c = search
+
 -- a row's levels end within the column
-space : (c : tie.In-loop Inv-loop μ-loop) → c .before .loop .at + c .before .before .before .before .before .before .args .points ≤ length (c .before .before .before .before .before .before .args .levels .now)
+space : (c : tie.In-loop Inv-loop μ-loop)
+    → c .before .loop .at + entry c .args .points ≤ length (entry c .args .levels .now)
 space c =
-    let s = c .before .before .before .before .before .before in
+    let s : tie.Start Inv-loop μ-loop = search in
     room (s .args .points) (c .before .loop .i) (c .before .loop .at) (length (s .args .ids .now)) (length (s .args .levels .now)) (c .before .loop .inv .1 .0)
     (c .loop-test .taken)
     (s .pre .1 .1)
@@ -29,7 +37,10 @@ add-end : tie.Need-add-end Inv-loop μ-loop
 add-end c = omega (arith, space c)
 
 mul-row-sound-4 : tie.Need-mul-row-sound-4 Inv-loop μ-loop
-mul-row-sound-4 c = omega (arith, space (c .before .before .before), c .before .before .before .before .before .before .before .before .before .good .1 .1 .1 .0 .1)
+mul-row-sound-4 c =
+    let start : tie.Start Inv-loop μ-loop = search in
+    let turn : tie.In-loop Inv-loop μ-loop = search in
+    omega (arith, space turn, start .good)
 
 part-row-sound-end : tie.Need-part-row-sound-end Inv-loop μ-loop
 part-row-sound-end c = space (c .before .before .before)
@@ -37,20 +48,23 @@ part-row-sound-end c = space (c .before .before .before)
 -- what the rows after row i say
 abbrev rest : tie.After-row-sound Inv-loop μ-loop → Bool
 rest c =
-    let i = c .before .before .before .before .before .before .loop .i in
-    let z = c .before .before .before .before .before .before .before .before .before .before .before .args in
-    rowsSound (z .points) (drop (i + 1) (z .ids .now)) (drop (i + 1) (z .groups .now)) (drop (i + 1) (z .marks .now)) (drop (c .before .before .before .before .before .before .loop .at + z .points) (z .levels .now))
+    let start : tie.Start Inv-loop μ-loop = search in
+    let head : tie.At-loop Inv-loop μ-loop = search in
+    let i = head .loop .i in
+    let z = start .args in
+    rowsSound (z .points) (drop (i + 1) (z .ids .now)) (drop (i + 1) (z .groups .now)) (drop (i + 1) (z .marks .now)) (drop (head .loop .at + z .points) (z .levels .now))
 
 -- what the rows say from here on, where row i's test gave t
 next : (c : tie.After-row-sound Inv-loop μ-loop) {t : Bool} → c .row-sound .result ≡ t
-    → rowsSound (c .before .before .before .before .before .before .before .before .before .before .before .args .points) (c .before .before .before .before .before .before .before .before .before .before .before .args .ids .now) (c .before .before .before .before .before .before .before .before .before .before .before .args .groups .now) (c .before .before .before .before .before .before .before .before .before .before .before .args .marks .now) (c .before .before .before .before .before .before .before .before .before .before .before .args .levels .now)
+    → rowsSound (start c .args .points) (start c .args .ids .now) (start c .args .groups .now) (start c .args .marks .now) (start c .args .levels .now)
     ≡ (t && rest c)
 next c e =
-    let s = c .before .before .before .before .before .before in
-    let z = c .before .before .before .before .before .before .before .before .before .before .before in
+    let turn : tie.In-loop Inv-loop μ-loop = search in
+    let s : tie.At-loop Inv-loop μ-loop = search in
+    let z : tie.Start Inv-loop μ-loop = search in
     s .loop .inv .1 .1
     ∙ rows-more (z .args .points) (z .args .ids .now) (z .args .groups .now) (z .args .marks .now) (z .args .levels .now) (s .loop .i) (s .loop .at)
-    (c .before .before .before .before .before .loop-test .taken)
+    (turn .loop-test .taken)
     (z .pre .0)
     (z .pre .1 .0)
     (sym e ∙ c .row-sound .ensures)
@@ -60,11 +74,13 @@ returns c = sym (next (c .before) (not-true _ (c .if1 .taken)))
 
 loop-again : tie.Need-loop-again Inv-loop μ-loop
 loop-again c =
-    let s = c .before .before .before .before .before .before .before in
-    (omega arith, (room-next (c .before .before .before .before .before .before .before .before .before .before .before .before .args .points) (s .loop .i) (s .loop .at) (s .loop .inv .1 .0), next (c .before) (not-false _ (c .if1 .left))))
+    let start : tie.Start Inv-loop μ-loop = search in
+    let s : tie.At-loop Inv-loop μ-loop = search in
+    (omega arith, (room-next (start .args .points) (s .loop .i) (s .loop .at) (s .loop .inv .1 .0), next (c .before) (not-false _ (c .if1 .left))))
 
 returns-2 : tie.Need-returns-2 Inv-loop μ-loop
-returns-2 c = let z = c .before .before .before .before .before .before in
+returns-2 c =
+    let z : tie.Start Inv-loop μ-loop = search in
     sym (c .before .loop .inv .1 .1 ∙ rows-end (z .args .points) (z .args .ids .now) _ _ _ (c .before .loop .i) (c .loop-test .left))
 
 pub rows-sound-spec : {M : Type 1} → statement M

@@ -27,14 +27,21 @@ returns-5 c = simp (le-leb _ _ (c .before .before .before .before .if1 .left), l
 
 returns-6 : tie.Need-returns-6
 unfolding shapeFits
-returns-6 c = simp (le-leb _ _ (c .before .before .before .before .before .if1 .left), le-leb _ _ (c .before .before .before .before .if2 .left), le-leb _ _ (c .before .before .before .if3 .left), le-leb _ _ (c .before .before .if4 .left), eq-eqb _ _ (c .before .if5 .left), ne-eqb _ _ (c .if6 .taken))
+returns-6 c =
+    let left3 : tie.Else3 = search in
+    simp (le-leb _ _ (left3 .before .before .if1 .left), le-leb _ _ (left3 .before .if2 .left), le-leb _ _ (left3 .if3 .left), le-leb _ _ (c .before .before .if4 .left), eq-eqb _ _ (c .before .if5 .left), ne-eqb _ _ (c .if6 .taken))
 
 mul-result : tie.Need-mul-result
-mul-result c = product-fits (c .before .before .before .before .before .before .args .rows) (c .before .before .before .before .before .before .args .points) (c .before .before .if4 .left) (c .before .before .before .before .if2 .left)
+mul-result c =
+    let start : tie.Start = search in
+    let left2 : tie.Else2 = search in
+    product-fits (start .args .rows) (start .args .points) (c .before .before .if4 .left) (left2 .if2 .left)
 
 returns-7 : tie.Need-returns-7
 unfolding shapeFits
-returns-7 c = simp (le-leb _ _ (c .before .before .before .before .before .if1 .left), le-leb _ _ (c .before .before .before .before .if2 .left), le-leb _ _ (c .before .before .before .if3 .left), le-leb _ _ (c .before .before .if4 .left), eq-eqb _ _ (c .before .if5 .left), eq-eqb _ _ (c .if6 .left))
+returns-7 c =
+    let left3 : tie.Else3 = search in
+    simp (le-leb _ _ (left3 .before .before .if1 .left), le-leb _ _ (left3 .before .if2 .left), le-leb _ _ (left3 .if3 .left), le-leb _ _ (c .before .before .if4 .left), eq-eqb _ _ (c .before .if5 .left), eq-eqb _ _ (c .if6 .left))
 
 pub shape-fits-spec : {M : Type 1} → statement M
 shape-fits-spec =

@@ -10,40 +10,62 @@ use Rattle.book_rules.proofs.Accepted.{Entered, entered, fields-in, keeps, meet
 use Rattle.book.proofs.core.enter.Statement.{statement}
 use Rattle.book.proofs.core.enter.Tie as tie
 
+-- the places that the facts below look back to
+abbrev start : tie.Else1 → tie.Start
+start c = search
+
 -- past the test nothing refuses the call
-ok : (c : tie.Else1) → enterRefusal (now (c .before .before .before .before .before .before .before .before .before .before .before .args .ids)) (c .before .before .before .before .before .before .before .before .before .before .before .args .identity) (c .before .before .before .before .before .before .before .before .before .before .before .args .ty) (c .before .before .before .before .before .before .before .before .before .before .before .args .kind) (c .before .before .before .before .before .before .before .before .before .before .before .args .time) (c .before .before .before .before .before .before .before .before .before .before .before .args .mass) ≡ 0
+ok : (c : tie.Else1) → enterRefusal (now (start c .args .ids)) (start c .args .identity) (start c .args .ty) (start c .args .kind) (start c .args .time) (start c .args .mass) ≡ 0
 ok c = sym (c .before .enter-refusal .ensures) ∙ c .if1 .left
 
-facts : (c : tie.Else1) → Entered (now (c .before .before .before .before .before .before .before .before .before .before .before .args .ids)) (c .before .before .before .before .before .before .before .before .before .before .before .args .identity) (c .before .before .before .before .before .before .before .before .before .before .before .args .ty) (c .before .before .before .before .before .before .before .before .before .before .before .args .kind) (c .before .before .before .before .before .before .before .before .before .before .before .args .time) (c .before .before .before .before .before .before .before .before .before .before .before .args .mass)
+facts : (c : tie.Else1) → Entered (now (start c .args .ids)) (start c .args .identity) (start c .args .ty) (start c .args .kind) (start c .args .time) (start c .args .mass)
 facts c = entered _ _ _ _ _ _ (ok c)
 
 place-of-requires : tie.Need-place-of-requires
-place-of-requires c κs = sound-rises _ _ (c .before .before .before .before .before .pre)
+place-of-requires c κs =
+    let start : tie.Start = search in
+    sound-rises _ _ (start .pre)
 
 standing-rows-requires : tie.Need-standing-rows-requires
-standing-rows-requires c κs = (sound-rises _ _ (c .before .before .before .before .before .before .before .pre), sound-identities _ _ (c .before .before .before .before .before .before .before .pre))
+standing-rows-requires c κs =
+    let start : tie.Start = search in
+    (sound-rises _ _ (start .pre), sound-identities _ _ (start .pre))
 
 enter-refusal-requires : tie.Need-enter-refusal-requires
-enter-refusal-requires c κs = (record { rising= = sound-rises _ _ (c .before .before .before .before .before .before .before .before .before .pre); place = c .before .before .before .place-of .ensures }, c .before .standing-rows .ensures)
+enter-refusal-requires c κs =
+    let start : tie.Start = search in
+    let at-place-of : tie.After-place-of = search in
+    (record { rising= = sound-rises _ _ (start .pre); place = at-place-of .place-of .ensures }, c .before .standing-rows .ensures)
 
 returns : tie.Need-returns
 unfolding soundRefusal
-returns c = keeps (c .before .before .before .before .before .before .before .before .before .before .before .pre) (c .before .enter-refusal .ensures) (c .if1 .taken)
+returns c =
+    let start : tie.Start = search in
+    keeps (start .pre) (c .before .enter-refusal .ensures) (c .if1 .taken)
 
 group-of-requires : tie.Need-group-of-requires
 group-of-requires c κs = fields-in _ _ _ _ (facts c .fields)
 
 row-in-requires : tie.Need-row-in-requires
 row-in-requires c κs =
-    let rows = c .before .before .before .before .before .before .before .before .standing-rows .ensures in
-    let at = c .before .before .before .before .before .before .before .before .before .before .place-of .ensures in
-    let below = place-below (c .before .before .before .before .before .before .before .before .before .before .before .before .before .before .before .before .args .identity) (now (c .before .before .before .before .before .before .before .before .before .before .before .before .before .before .before .before .args .ids)) in
-    let unused = stands-index 0 (now (c .before .before .before .before .before .before .before .before .before .before .before .before .before .before .before .before .args .ids)) (facts (c .before .before .before .before .before) .unused) in
-    (record { sound= = c .before .before .before .before .before .before .before .before .before .before .before .before .before .before .before .before .pre; rows= = rows; at≤ = omega arith }, omega arith)
+    let start : tie.Start = search in
+    let at-place-of : tie.After-place-of = search in
+    let at-standing-rows : tie.After-standing-rows = search in
+    let left1 : tie.Else1 = search in
+    let rows = at-standing-rows .standing-rows .ensures in
+    let at = at-place-of .place-of .ensures in
+    let below = place-below (start .args .identity) (now (start .args .ids)) in
+    let unused = stands-index 0 (now (start .args .ids)) (facts left1 .unused) in
+    (record { sound= = start .pre; rows= = rows; at≤ = omega arith }, omega arith)
 
 returns-2 : tie.Need-returns-2
 unfolding soundRefusal changed
-returns-2 c = meets (c .before .before .before .before .before .before .before .before .before .before .before .before .before .before .before .before .before .before .before .before .before .before .before .before .before .pre) (ok (c .before .before .before .before .before .before .before .before .before .before .before .before .before .before)) (c .before .before .before .before .before .before .before .before .row-in .ensures ∙ rw (c .before .before .before .before .before .before .before .before .before .before .before .before .before .before .before .before .before .before .before .place-of .ensures, c .before .before .before .before .before .before .before .before .before .before .before .before .before .group-of .ensures) refl)
+returns-2 c =
+    let start : tie.Start = search in
+    let at-place-of : tie.After-place-of = search in
+    let at-group-of : tie.After-group-of = search in
+    let at-row-in : tie.After-row-in = search in
+    meets (start .pre) (ok (at-group-of .before)) (at-row-in .row-in .ensures ∙ rw (at-place-of .place-of .ensures, at-group-of .group-of .ensures) refl)
 
 pub enter-spec : {M : Type 1} → statement M
 enter-spec =

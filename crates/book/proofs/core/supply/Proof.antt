@@ -3,7 +3,7 @@ use mathlib.Core.Path.{_≡_, refl, sym, _∙_}
 use native.Mathlib.Omega.{arith}
 use denote.Ref.{now}
 use borrow.Author.Needs.{needs}
-use Rattle.book_rules.specs.Columns.{Book, bookOf}
+use Rattle.book_rules.specs.Columns.{Book, bookNow}
 use Rattle.book_rules.specs.Calls.{supplyRefusal, soundRefusal, changed, rowMarked}
 use Rattle.book_rules.proofs.Shapes.{sound-rises}
 use Rattle.book_rules.proofs.Accepted.{supplied, levels-length, keeps, meets}
@@ -12,37 +12,57 @@ use Rattle.book.proofs.core.supply.Statement.{statement}
 use Rattle.book.proofs.core.supply.Tie as tie
 
 abbrev book : tie.Start → Book
-book s = bookOf (now (s .args .ids)) (now (s .args .groups)) (now (s .args .marks)) (now (s .args .levels))
+book s = bookNow (s .args .ids) (s .args .groups) (s .args .marks) (s .args .levels)
+
+-- the places that the facts below look back to
+abbrev start : tie.Else1 → tie.Start
+start c = search
 
 -- past the test nothing refuses the call
-ok : (c : tie.Else1) → supplyRefusal (c .before .before .before .before .before .before .before .before .args .points) (now (c .before .before .before .before .before .before .before .before .args .ids)) (c .before .before .before .before .before .before .before .before .args .identity) (now (c .before .before .before .before .before .before .before .before .args .given)) ≡ 0
+ok : (c : tie.Else1) → supplyRefusal (start c .args .points) (now (start c .args .ids)) (start c .args .identity) (now (start c .args .given)) ≡ 0
 ok c = sym (c .before .supply-refusal .ensures) ∙ c .if1 .left
 
-row : (c : tie.Else1) → RowOf (c .before .before .before .before .before .before .before .before .args .points) (book (c .before .before .before .before .before .before .before .before)) (c .before .before .before .before .before .before .before .before .args .identity) (c .before .before .place-of .result)
-row c = row-of (c .before .before .before .before .before .before .before .before .pre) (supplied _ _ _ _ (ok c) .0) (c .before .before .place-of .ensures)
+row : (c : tie.Else1) → RowOf (start c .args .points) (book (start c)) (start c .args .identity) (c .before .before .place-of .result)
+row c =
+    let start : tie.Start = search in
+    row-of (start .pre) (supplied _ _ _ _ (ok c) .0) (c .before .before .place-of .ensures)
 
 place-of-requires : tie.Need-place-of-requires
-place-of-requires c κs = sound-rises _ _ (c .before .before .before .before .before .pre)
+place-of-requires c κs =
+    let start : tie.Start = search in
+    sound-rises _ _ (start .pre)
 
 supply-refusal-requires : tie.Need-supply-refusal-requires
-supply-refusal-requires c κs = record { rising= = sound-rises _ _ (c .before .before .before .before .before .before .pre); place = c .place-of .ensures }
+supply-refusal-requires c κs =
+    let start : tie.Start = search in
+    record { rising= = sound-rises _ _ (start .pre); place = c .place-of .ensures }
 
 returns : tie.Need-returns
 unfolding soundRefusal
-returns c = keeps (c .before .before .before .before .before .before .before .before .pre) (c .before .supply-refusal .ensures) (c .if1 .taken)
+returns c =
+    let start : tie.Start = search in
+    keeps (start .pre) (c .before .supply-refusal .ensures) (c .if1 .taken)
 
 fill-at-requires : tie.Need-fill-at-requires
 fill-at-requires c κs = row (c .before) .marks<
 
 mul-copy-at : tie.Need-mul-copy-at
-mul-copy-at c = row (c .before .before .before .before .before) .fits
+mul-copy-at c =
+    let left1 : tie.Else1 = search in
+    row left1 .fits
 
 copy-at-requires : tie.Need-copy-at-requires
-copy-at-requires c κs = rw (levels-length _ _ (supplied _ _ _ _ (ok (c .before .before .before .before .before)) .1)) (row (c .before .before .before .before .before) .levels<)
+copy-at-requires c κs =
+    let left1 : tie.Else1 = search in
+    rw (levels-length _ _ (supplied _ _ _ _ (ok left1) .1)) (row left1 .levels<)
 
 returns-2 : tie.Need-returns-2
 unfolding soundRefusal changed rowMarked
-returns-2 c = meets (c .before .before .before .before .before .before .before .before .before .before .before .before .before .before .before .before .pre) (ok (c .before .before .before .before .before .before .before .before)) (rw (c .before .before .before .before .before .before .fill-at .ensures, c .before .before .copy-at .ensures, row (c .before .before .before .before .before .before .before .before) .index) refl)
+returns-2 c =
+    let start : tie.Start = search in
+    let left1 : tie.Else1 = search in
+    let at-fill-at : tie.After-fill-at = search in
+    meets (start .pre) (ok left1) (rw (at-fill-at .fill-at .ensures, c .before .before .copy-at .ensures, row left1 .index) refl)
 
 pub supply-spec : {M : Type 1} → statement M
 supply-spec =

@@ -3,7 +3,7 @@ use mathlib.Core.Path.{_≡_, refl, sym, _∙_}
 use native.Mathlib.Omega.{arith}
 use denote.Ref.{now}
 use borrow.Author.Needs.{needs}
-use Rattle.book_rules.specs.Columns.{Book, bookOf}
+use Rattle.book_rules.specs.Columns.{Book, bookNow}
 use Rattle.book_rules.specs.Calls.{takeBackRefusal, soundRefusal, changed, rowMarked}
 use Rattle.book_rules.proofs.Shapes.{sound-fits, sound-rises}
 use Rattle.book_rules.proofs.Accepted.{taken-back, keeps, meets}
@@ -12,37 +12,59 @@ use Rattle.book.proofs.core.take_back.Statement.{statement}
 use Rattle.book.proofs.core.take_back.Tie as tie
 
 abbrev book : tie.Start → Book
-book s = bookOf (now (s .args .ids)) (now (s .args .groups)) (now (s .args .marks)) (now (s .args .levels))
+book s = bookNow (s .args .ids) (s .args .groups) (s .args .marks) (s .args .levels)
+
+-- the places that the facts below look back to
+abbrev start : tie.Else1 → tie.Start
+start c = search
+
+abbrev at-place-of : tie.Else1 → tie.After-place-of
+at-place-of c = search
 
 -- past the test nothing refuses the call
-ok : (c : tie.Else1) → takeBackRefusal (now (c .before .before .before .before .before .before .before .before .args .ids)) (now (c .before .before .before .before .before .before .before .before .args .marks)) (c .before .before .before .before .before .before .before .before .args .identity) ≡ 0
+ok : (c : tie.Else1) → takeBackRefusal (now (start c .args .ids)) (now (start c .args .marks)) (start c .args .identity) ≡ 0
 ok c = sym (c .before .take-back-refusal .ensures) ∙ c .if1 .left
 
-row : (c : tie.Else1) → RowOf (c .before .before .before .before .before .before .before .before .args .points) (book (c .before .before .before .before .before .before .before .before)) (c .before .before .before .before .before .before .before .before .args .identity) (c .before .before .before .place-of .result)
-row c = row-of (c .before .before .before .before .before .before .before .before .pre) (taken-back _ _ _ (ok c)) (c .before .before .before .place-of .ensures)
+row : (c : tie.Else1) → RowOf (start c .args .points) (book (start c)) (start c .args .identity) (at-place-of c .place-of .result)
+row c =
+    let start : tie.Start = search in
+    let at-place-of : tie.After-place-of = search in
+    row-of (start .pre) (taken-back _ _ _ (ok c)) (at-place-of .place-of .ensures)
 
 place-of-requires : tie.Need-place-of-requires
 place-of-requires c κs = sound-rises _ _ (c .before .before .before .before .pre)
 
 take-back-refusal-requires : tie.Need-take-back-refusal-requires
-take-back-refusal-requires c κs = (record { rising= = sound-rises _ _ (c .before .before .before .before .before .before .pre); place = c .before .place-of .ensures }, sound-fits _ _ (c .before .before .before .before .before .before .pre) .marks=)
+take-back-refusal-requires c κs =
+    let start : tie.Start = search in
+    (record { rising= = sound-rises _ _ (start .pre); place = c .before .place-of .ensures }, sound-fits _ _ (start .pre) .marks=)
 
 returns : tie.Need-returns
 unfolding soundRefusal
-returns c = keeps (c .before .before .before .before .before .before .before .before .pre) (c .before .take-back-refusal .ensures) (c .if1 .taken)
+returns c =
+    let start : tie.Start = search in
+    keeps (start .pre) (c .before .take-back-refusal .ensures) (c .if1 .taken)
 
 fill-at-requires : tie.Need-fill-at-requires
 fill-at-requires c κs = row (c .before) .marks<
 
 mul-fill-at : tie.Need-mul-fill-at
-mul-fill-at c = row (c .before .before .before .before .before) .fits
+mul-fill-at c =
+    let left1 : tie.Else1 = search in
+    row left1 .fits
 
 fill-at-requires-2 : tie.Need-fill-at-requires-2
-fill-at-requires-2 c κs = row (c .before .before .before .before .before) .levels<
+fill-at-requires-2 c κs =
+    let left1 : tie.Else1 = search in
+    row left1 .levels<
 
 returns-2 : tie.Need-returns-2
 unfolding soundRefusal changed rowMarked
-returns-2 c = meets (c .before .before .before .before .before .before .before .before .before .before .before .before .before .before .before .before .pre) (ok (c .before .before .before .before .before .before .before .before)) (rw (c .before .before .before .before .before .before .fill-at .ensures, c .before .before .fill-at2 .ensures, row (c .before .before .before .before .before .before .before .before) .index) refl)
+returns-2 c =
+    let start : tie.Start = search in
+    let left1 : tie.Else1 = search in
+    let at-fill-at : tie.After-fill-at = search in
+    meets (start .pre) (ok left1) (rw (at-fill-at .fill-at .ensures, c .before .before .fill-at2 .ensures, row left1 .index) refl)
 
 pub take-back-spec : {M : Type 1} → statement M
 take-back-spec =

@@ -3,7 +3,7 @@ use mathlib.Core.Path.{_≡_, refl, sym, _∙_}
 use native.Mathlib.Omega.{arith}
 use denote.Ref.{now}
 use borrow.Author.Needs.{needs}
-use Rattle.book_rules.specs.Columns.{Book, bookOf}
+use Rattle.book_rules.specs.Columns.{Book, bookNow}
 use Rattle.book_rules.specs.Calls.{withdrawRefusal, soundRefusal, changed}
 use Rattle.book_rules.proofs.Shapes.{sound-rises, sound-identities}
 use Rattle.book_rules.proofs.Accepted.{withdrawn, keeps, meets}
@@ -12,37 +12,62 @@ use Rattle.book.proofs.core.withdraw.Statement.{statement}
 use Rattle.book.proofs.core.withdraw.Tie as tie
 
 abbrev book : tie.Start → Book
-book s = bookOf (now (s .args .ids)) (now (s .args .groups)) (now (s .args .marks)) (now (s .args .levels))
+book s = bookNow (s .args .ids) (s .args .groups) (s .args .marks) (s .args .levels)
+
+-- the places that the facts below look back to
+abbrev start : tie.Else1 → tie.Start
+start c = search
+
+abbrev at-place-of : tie.Else1 → tie.After-place-of
+at-place-of c = search
 
 -- past the test nothing refuses the call
-ok : (c : tie.Else1) → withdrawRefusal (now (c .before .before .before .before .before .before .before .before .before .args .ids)) (c .before .before .before .before .before .before .before .before .before .args .identity) ≡ 0
+ok : (c : tie.Else1) → withdrawRefusal (now (start c .args .ids)) (start c .args .identity) ≡ 0
 ok c = sym (c .before .withdraw-refusal .ensures) ∙ c .if1 .left
 
-row : (c : tie.Else1) → RowOf (c .before .before .before .before .before .before .before .before .before .args .points) (book (c .before .before .before .before .before .before .before .before .before)) (c .before .before .before .before .before .before .before .before .before .args .identity) (c .before .before .before .place-of .result)
-row c = row-of (c .before .before .before .before .before .before .before .before .before .pre) (withdrawn _ _ (ok c)) (c .before .before .before .place-of .ensures)
+row : (c : tie.Else1) → RowOf (start c .args .points) (book (start c)) (start c .args .identity) (at-place-of c .place-of .result)
+row c =
+    let start : tie.Start = search in
+    let at-place-of : tie.After-place-of = search in
+    row-of (start .pre) (withdrawn _ _ (ok c)) (at-place-of .place-of .ensures)
 
 place-of-requires : tie.Need-place-of-requires
-place-of-requires c κs = sound-rises _ _ (c .before .before .before .before .before .pre)
+place-of-requires c κs =
+    let start : tie.Start = search in
+    sound-rises _ _ (start .pre)
 
 withdraw-refusal-requires : tie.Need-withdraw-refusal-requires
-withdraw-refusal-requires c κs = record { rising= = sound-rises _ _ (c .before .before .before .before .before .before .before .pre); place = c .before .place-of .ensures }
+withdraw-refusal-requires c κs =
+    let start : tie.Start = search in
+    record { rising= = sound-rises _ _ (start .pre); place = c .before .place-of .ensures }
 
 returns : tie.Need-returns
 unfolding soundRefusal
-returns c = keeps (c .before .before .before .before .before .before .before .before .before .pre) (c .before .withdraw-refusal .ensures) (c .if1 .taken)
+returns c =
+    let start : tie.Start = search in
+    keeps (start .pre) (c .before .withdraw-refusal .ensures) (c .if1 .taken)
 
 standing-rows-requires : tie.Need-standing-rows-requires
-standing-rows-requires c κs = (sound-rises _ _ (c .before .before .before .before .before .before .before .before .before .before .pre), sound-identities _ _ (c .before .before .before .before .before .before .before .before .before .before .pre))
+standing-rows-requires c κs =
+    let start : tie.Start = search in
+    (sound-rises _ _ (start .pre), sound-identities _ _ (start .pre))
 
 row-out-requires : tie.Need-row-out-requires
 row-out-requires c κs =
-    let rows = c .before .before .before .before .standing-rows .ensures in
-    let used = row (c .before .before .before .before .before .before) .used in
-    (record { sound= = c .before .before .before .before .before .before .before .before .before .before .before .before .before .before .before .pre; rows= = rows; at≤ = omega arith }, omega arith)
+    let start : tie.Start = search in
+    let left1 : tie.Else1 = search in
+    let at-standing-rows : tie.After-standing-rows = search in
+    let rows = at-standing-rows .standing-rows .ensures in
+    let used = row left1 .used in
+    (record { sound= = start .pre; rows= = rows; at≤ = omega arith }, omega arith)
 
 returns-2 : tie.Need-returns-2
 unfolding soundRefusal changed
-returns-2 c = meets (c .before .before .before .before .before .before .before .before .before .before .before .before .before .before .before .before .before .before .before .before .before .before .before .before .pre) (ok (c .before .before .before .before .before .before .before .before .before .before .before .before .before .before .before)) (c .before .before .before .before .before .before .before .before .row-out .ensures ∙ rw (row (c .before .before .before .before .before .before .before .before .before .before .before .before .before .before .before) .index) refl)
+returns-2 c =
+    let start : tie.Start = search in
+    let left1 : tie.Else1 = search in
+    let at-row-out : tie.After-row-out = search in
+    meets (start .pre) (ok left1) (at-row-out .row-out .ensures ∙ rw (row left1 .index) refl)
 
 pub withdraw-spec : {M : Type 1} → statement M
 withdraw-spec =

@@ -21,7 +21,9 @@ returns-2 : tie.Need-returns-2
 returns-2 c = sym (enter-allowed _ _ _ _ _ _ (allowed (c .before .before)) ∙ simp (failed (c .before .identity-fits .ensures) (c .if2 .taken)))
 
 stands-at-requires : tie.Need-stands-at-requires
-stands-at-requires c κs = (c .before .before .before .before .before .pre .0, identity-in _ (passed (c .before .identity-fits .ensures) (c .if2 .left)) .0)
+stands-at-requires c κs =
+    let start : tie.Start = search in
+    (start .pre .0, identity-in _ (passed (c .before .identity-fits .ensures) (c .if2 .left)) .0)
 
 returns-3 : tie.Need-returns-3
 returns-3 c = sym (enter-allowed _ _ _ _ _ _ (allowed (c .before .before .before .before)) ∙ simp (passed (c .before .before .before .identity-fits .ensures) (c .before .before .if2 .left), sym (c .before .stands-at .ensures) ∙ c .if3 .taken))
@@ -29,14 +31,18 @@ returns-3 c = sym (enter-allowed _ _ _ _ _ _ (allowed (c .before .before .before
 returns-4 : tie.Need-returns-4
 unfolding stands
 returns-4 c =
-    let rows = c .before .before .before .before .before .before .before .before .pre .1 in
-    sym (enter-allowed _ _ _ _ _ _ (allowed (c .before .before .before .before .before)) ∙ simp (passed (c .before .before .before .before .identity-fits .ensures) (c .before .before .before .if2 .left), sym (c .before .before .stands-at .ensures) ∙ c .before .if3 .left, ← rows, lt-ltb _ _ (c .if4 .taken)))
+    let start : tie.Start = search in
+    let left2 : tie.Else2 = search in
+    let rows = start .pre .1 in
+    sym (enter-allowed _ _ _ _ _ _ (allowed (left2 .before .before)) ∙ simp (passed (left2 .before .identity-fits .ensures) (left2 .if2 .left), sym (c .before .before .stands-at .ensures) ∙ c .before .if3 .left, ← rows, lt-ltb _ _ (c .if4 .taken)))
 
 returns-5 : tie.Need-returns-5
 unfolding stands
 returns-5 c =
-    let rows = c .before .before .before .before .before .before .before .before .pre .1 in
-    sym (enter-allowed _ _ _ _ _ _ (allowed (c .before .before .before .before .before)) ∙ simp (passed (c .before .before .before .before .identity-fits .ensures) (c .before .before .before .if2 .left), sym (c .before .before .stands-at .ensures) ∙ c .before .if3 .left, ← rows, le-ltb _ _ (c .if4 .left)))
+    let start : tie.Start = search in
+    let left2 : tie.Else2 = search in
+    let rows = start .pre .1 in
+    sym (enter-allowed _ _ _ _ _ _ (allowed (left2 .before .before)) ∙ simp (passed (left2 .before .identity-fits .ensures) (left2 .if2 .left), sym (c .before .before .stands-at .ensures) ∙ c .before .if3 .left, ← rows, le-ltb _ _ (c .if4 .left)))
 
 pub enter-refusal-spec : {M : Type 1} → statement M
 enter-refusal-spec =

@@ -15,15 +15,22 @@ unfolding supplyRefusal
 returns-2 c = simp (passed (c .before .before .before .identity-fits .ensures) (c .before .before .if1 .left), failed (c .before .levels-fit .ensures) (c .if2 .taken))
 
 stands-at-requires : tie.Need-stands-at-requires
-stands-at-requires c κs = (c .before .before .before .before .before .before .pre, identity-in _ (passed (c .before .before .before .identity-fits .ensures) (c .before .before .if1 .left)) .0)
+stands-at-requires c κs =
+    let start : tie.Start = search in
+    let at-identity-fits : tie.After-identity-fits = search in
+    (start .pre, identity-in _ (passed (at-identity-fits .identity-fits .ensures) (c .before .before .if1 .left)) .0)
 
 returns-3 : tie.Need-returns-3
 unfolding supplyRefusal
-returns-3 c = simp (passed (c .before .before .before .before .before .identity-fits .ensures) (c .before .before .before .before .if1 .left), passed (c .before .before .before .levels-fit .ensures) (c .before .before .if2 .left), failed (c .before .stands-at .ensures) (c .if3 .taken))
+returns-3 c =
+    let at-levels-fit : tie.After-levels-fit = search in
+    simp (passed (at-levels-fit .before .before .identity-fits .ensures) (at-levels-fit .before .if1 .left), passed (at-levels-fit .levels-fit .ensures) (c .before .before .if2 .left), failed (c .before .stands-at .ensures) (c .if3 .taken))
 
 returns-4 : tie.Need-returns-4
 unfolding supplyRefusal
-returns-4 c = simp (passed (c .before .before .before .before .before .identity-fits .ensures) (c .before .before .before .before .if1 .left), passed (c .before .before .before .levels-fit .ensures) (c .before .before .if2 .left), passed (c .before .stands-at .ensures) (c .if3 .left))
+returns-4 c =
+    let at-levels-fit : tie.After-levels-fit = search in
+    simp (passed (at-levels-fit .before .before .identity-fits .ensures) (at-levels-fit .before .if1 .left), passed (at-levels-fit .levels-fit .ensures) (c .before .before .if2 .left), passed (c .before .stands-at .ensures) (c .if3 .left))
 
 pub supply-refusal-spec : {M : Type 1} → statement M
 supply-refusal-spec =

@@ -3,35 +3,51 @@ use mathlib.Core.Path.{refl}
 use borrow.Author.Needs.{needs}
 use Rattle.book_rules.specs.Calls.{rowOut}
 use Rattle.book_rules.proofs.Rooms.{RoomOut, room-out}
-use Rattle.book_rules.specs.Columns.{bookOf}
+use Rattle.book_rules.specs.Columns.{bookNow}
 use denote.Ref.{now}
 use Rattle.book.proofs.rows.row_out.Statement.{statement}
 use Rattle.book.proofs.rows.row_out.Tie as tie
 
-room : (s : tie.Start) → RoomOut (s .args .points) (bookOf (now (s .args .ids)) (now (s .args .groups)) (now (s .args .marks)) (now (s .args .levels))) (s .args .at) (s .args .rows)
+room : (s : tie.Start) → RoomOut (s .args .points) (bookNow (s .args .ids) (s .args .groups) (s .args .marks) (s .args .levels)) (s .args .at) (s .args .rows)
 room s = room-out _ _ _ _ (s .pre .0) (s .pre .1)
 
 close-at-requires : tie.Need-close-at-requires
-close-at-requires c κs = room (c .before .before .before .before .before) .ids
+close-at-requires c κs =
+    let start : tie.Start = search in
+    room start .ids
 
 close-at-requires-2 : tie.Need-close-at-requires-2
-close-at-requires-2 c κs = room (c .before .before .before .before .before .before .before .before .before) .groups
+close-at-requires-2 c κs =
+    let start : tie.Start = search in
+    room start .groups
 
 close-at-requires-3 : tie.Need-close-at-requires-3
-close-at-requires-3 c κs = room (c .before .before .before .before .before .before .before .before .before .before .before .before .before) .marks
+close-at-requires-3 c κs =
+    let start : tie.Start = search in
+    room start .marks
 
 mul-close-at : tie.Need-mul-close-at
-mul-close-at c = room (c .before .before .before .before .before .before .before .before .before .before .before .before .before .before .before .before .before) .at-fits
+mul-close-at c =
+    let start : tie.Start = search in
+    room start .at-fits
 
 mul-close-at-2 : tie.Need-mul-close-at-2
-mul-close-at-2 c = room (c .before .before .before .before .before .before .before .before .before .before .before .before .before .before .before .before .before) .count-fits
+mul-close-at-2 c =
+    let start : tie.Start = search in
+    room start .count-fits
 
 close-at-requires-4 : tie.Need-close-at-requires-4
-close-at-requires-4 c κs = room (c .before .before .before .before .before .before .before .before .before .before .before .before .before .before .before .before .before) .levels
+close-at-requires-4 c κs =
+    let start : tie.Start = search in
+    room start .levels
 
 returns : tie.Need-returns
 unfolding rowOut
-returns c = rw (c .before .before .before .before .before .before .before .before .before .before .before .before .before .before .close-at .ensures, c .before .before .before .before .before .before .before .before .before .before .close-at2 .ensures, c .before .before .before .before .before .before .close-at3 .ensures, c .before .before .close-at4 .ensures) refl
+returns c =
+    let at-close-at : tie.After-close-at = search in
+    let at-close-at2 : tie.After-close-at2 = search in
+    let at-close-at3 : tie.After-close-at3 = search in
+    rw (at-close-at .close-at .ensures, at-close-at2 .close-at2 .ensures, at-close-at3 .close-at3 .ensures, c .before .before .close-at4 .ensures) refl
 
 pub row-out-spec : {M : Type 1} → statement M
 row-out-spec =

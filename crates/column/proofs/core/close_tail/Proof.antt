@@ -5,8 +5,10 @@ use Rattle.column.proofs.core.close_tail.Statement.{statement}
 use Rattle.column.proofs.core.close_tail.Tie as tie
 
 returns : tie.Need-returns
-returns c = let s = c .before .before .before .before .before .before .before .before .before in
-    filled-end (s .args .count) (s .args .w) 0 (s .args .tail .now) (s .pre) (c .before .before .before .before .before .before .shift-down .ensures) (c .before .before .fill .ensures)
+returns c =
+    let at-shift-down : tie.After-shift-down = search in
+    let s : tie.Start = search in
+    filled-end (s .args .count) (s .args .w) 0 (s .args .tail .now) (s .pre) (at-shift-down .shift-down .ensures) (c .before .before .fill .ensures)
 
 pub close-tail-spec : {M : Type 1} → statement M
 close-tail-spec =

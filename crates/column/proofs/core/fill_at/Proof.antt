@@ -5,14 +5,15 @@ use native.Mathlib.Omega.{arith}
 use lib.ListN.{length, replicate, length-replicate}
 use borrow.Rule.Slice.PartMut.{midOf, mid-len}
 use borrow.Author.Needs.{needs}
-use Rattle.column.proofs.Parts.{replaced-part}
+use Rattle.column.proofs.Parts.{put-part}
 use Rattle.column.proofs.core.fill_at.Statement.{statement}
 use Rattle.column.proofs.core.fill_at.Tie as tie
 
 returns : tie.Need-returns
-returns c = let s = c .before .before .before .before .before in
+returns c =
+    let s : tie.Start = search in
     let m : length (midOf (s .args .at) (s .args .at + s .args .w - s .args .at) (s .args .column .now)) ≡ s .args .w = omega (arith, mid-len (s .args .at) (s .args .at + s .args .w) (s .args .column .now) (s .pre)) in
-    replaced-part (s .args .at) (s .args .w) (s .args .column .now) (c .before .before .fill .ensures ∙ ap (λ n. replicate n (s .args .v)) m) (length-replicate (s .args .w) (s .args .v))
+    put-part (s .args .at) (s .args .w) (s .args .column .now) (c .before .before .fill .ensures ∙ ap (λ n. replicate n (s .args .v)) m) (length-replicate (s .args .w) (s .args .v))
 
 pub fill-at-spec : {M : Type 1} → statement M
 fill-at-spec =

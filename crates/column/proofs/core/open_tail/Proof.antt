@@ -6,8 +6,10 @@ use Rattle.column.proofs.core.open_tail.Statement.{statement}
 use Rattle.column.proofs.core.open_tail.Tie as tie
 
 returns : tie.Need-returns
-returns c = let s = c .before .before .before .before .before .before .before .before .before in
-    filled-front (s .args .w) (s .args .v) (s .args .tail .now) _ (omega arith) (c .before .before .before .before .before .before .shift-up .ensures) (c .before .before .fill .ensures)
+returns c =
+    let at-shift-up : tie.After-shift-up = search in
+    let s : tie.Start = search in
+    filled-front (s .args .w) (s .args .v) (s .args .tail .now) _ (omega arith) (at-shift-up .shift-up .ensures) (c .before .before .fill .ensures)
 
 pub open-tail-spec : {M : Type 1} → statement M
 open-tail-spec =

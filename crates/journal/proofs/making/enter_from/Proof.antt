@@ -4,10 +4,14 @@ use Rattle.journal.proofs.making.enter_from.Statement.{statement}
 use Rattle.journal.proofs.making.enter_from.Tie as tie
 
 enter-requires : tie.Need-enter-requires
-enter-requires c κs = c .before .before .before .before .before .before .before .before .before .before .before .before .before .before .pre .0
+enter-requires c κs =
+    let start : tie.Start = search in
+    start .pre .0
 
 returns : tie.Need-returns
-returns c = c .before .before .before .before .before .before .before .before .enter .ensures
+returns c =
+    let at-enter : tie.After-enter = search in
+    at-enter .enter .ensures
 
 pub enter-from-spec : {M : Type 1} → statement M
 enter-from-spec =

@@ -1,39 +1,67 @@
 -- `journal::making::make_call` meets its contract: the first number says which call it is. Assumes nothing.
 use native.Mathlib.Omega.{arith}
 use borrow.Author.Needs.{needs}
-use Rattle.journal.proofs.Reading.{whole-two, whole-width, width-enter, width-supply, call-enter, call-supply, call-take-back, call-withdraw}
+use Rattle.journal.proofs.Reading.{complete-two, complete-width, width-enter, width-supply, call-enter, call-supply, call-take-back, call-withdraw}
 use Rattle.journal.proofs.making.make_call.Statement.{statement}
 use Rattle.journal.proofs.making.make_call.Tie as tie
 
 shared-slice-read-kind : tie.Need-shared-slice-read-kind
-shared-slice-read-kind c = omega (arith, whole-two _ (c .before .before .before .before .before .before .pre .1))
+shared-slice-read-kind c =
+    let start : tie.Start = search in
+    omega (arith, complete-two _ (start .pre .1))
 
 shared-slice-read-identity : tie.Need-shared-slice-read-identity
-shared-slice-read-identity c = omega (arith, whole-two _ (c .before .before .before .before .before .before .before .pre .1))
+shared-slice-read-identity c =
+    let start : tie.Start = search in
+    omega (arith, complete-two _ (start .pre .1))
 
 enter-from-requires : tie.Need-enter-from-requires
-enter-from-requires c κs = (c .before .before .before .before .before .before .before .before .before .before .before .before .pre .0, omega (arith, whole-width _ (c .before .before .before .before .before .before .before .before .before .before .before .before .pre .1) .1, width-enter (c .before .before .before .before .before .before .before .before .before .before .before .before .args .rest .now) (c .before .before .before .before .if1 .taken)))
+enter-from-requires c κs =
+    let start : tie.Start = search in
+    let taken1 : tie.Then1 = search in
+    (start .pre .0, omega (arith, complete-width _ (start .pre .1) .1, width-enter (start .args .rest .now) (taken1 .if1 .taken)))
 
 returns : tie.Need-returns
-returns c = rw (call-enter _ (c .before .before .before .before .before .before .before .before .before .before .before .before .before .if1 .taken)) (c .before .before .before .before .before .before .before .before .enter-from .ensures)
+returns c =
+    let taken1 : tie.Then1 = search in
+    let at-enter-from : tie.After-enter-from = search in
+    rw (call-enter _ (taken1 .if1 .taken)) (at-enter-from .enter-from .ensures)
 
 supply-from-requires : tie.Need-supply-from-requires
-supply-from-requires c κs = (c .before .before .before .before .before .before .before .before .before .before .before .before .before .pre .0, omega (arith, whole-width _ (c .before .before .before .before .before .before .before .before .before .before .before .before .before .pre .1) .1, width-supply (c .before .before .before .before .before .before .before .before .before .before .before .before .before .args .rest .now) (c .before .before .before .before .if2 .taken)))
+supply-from-requires c κs =
+    let start : tie.Start = search in
+    let taken2 : tie.Then2 = search in
+    (start .pre .0, omega (arith, complete-width _ (start .pre .1) .1, width-supply (start .args .rest .now) (taken2 .if2 .taken)))
 
 returns-2 : tie.Need-returns-2
-returns-2 c = rw (call-supply _ (c .before .before .before .before .before .before .before .before .before .if2 .taken)) (c .before .before .before .before .supply-from .ensures)
+returns-2 c =
+    let taken2 : tie.Then2 = search in
+    let at-supply-from : tie.After-supply-from = search in
+    rw (call-supply _ (taken2 .if2 .taken)) (at-supply-from .supply-from .ensures)
 
 take-back-requires : tie.Need-take-back-requires
-take-back-requires c κs = c .before .before .before .before .before .before .before .before .before .before .before .before .before .before .pre .0
+take-back-requires c κs =
+    let start : tie.Start = search in
+    start .pre .0
 
 returns-3 : tie.Need-returns-3
-returns-3 c = rw (call-take-back _ (c .before .before .before .before .before .before .before .before .before .if3 .taken)) (c .before .before .before .before .take-back .ensures)
+returns-3 c =
+    let taken3 : tie.Then3 = search in
+    let at-take-back : tie.After-take-back = search in
+    rw (call-take-back _ (taken3 .if3 .taken)) (at-take-back .take-back .ensures)
 
 withdraw-requires : tie.Need-withdraw-requires
-withdraw-requires c κs = c .before .before .before .before .before .before .before .before .before .before .before .before .before .before .pre .0
+withdraw-requires c κs =
+    let start : tie.Start = search in
+    start .pre .0
 
 returns-4 : tie.Need-returns-4
-returns-4 c = rw (call-withdraw _ (c .before .before .before .before .before .before .before .before .before .before .before .before .before .before .before .if1 .left) (c .before .before .before .before .before .before .before .before .before .before .before .before .before .before .if2 .left) (c .before .before .before .before .before .before .before .before .before .before .before .before .before .if3 .left)) (c .before .before .before .before .before .before .before .before .withdraw .ensures)
+returns-4 c =
+    let left1 : tie.Else1 = search in
+    let left2 : tie.Else2 = search in
+    let left3 : tie.Else3 = search in
+    let at-withdraw : tie.After-withdraw = search in
+    rw (call-withdraw _ (left1 .if1 .left) (left2 .if2 .left) (left3 .if3 .left)) (at-withdraw .withdraw .ensures)
 
 pub make-call-spec : {M : Type 1} → statement M
 make-call-spec =

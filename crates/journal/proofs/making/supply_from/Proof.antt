@@ -8,13 +8,17 @@ use Rattle.journal.proofs.making.supply_from.Statement.{statement}
 use Rattle.journal.proofs.making.supply_from.Tie as tie
 
 supply-requires : tie.Need-supply-requires
-supply-requires c κs = c .before .before .before .before .before .before .before .before .before .before .pre .0
+supply-requires c κs =
+    let start : tie.Start = search in
+    start .pre .0
 
 returns : tie.Need-returns
 returns c =
-    let n = getD (c .before .before .before .before .before .before .before .before .before .before .before .before .before .before .before .args .rest .now) 2 0 in
+    let start : tie.Start = search in
+    let at-supply : tie.After-supply = search in
+    let n = getD (start .args .rest .now) 2 0 in
     let e : 3 + n - 3 ≡ n = omega arith in
-    rw e at (c .before .before .before .before .supply .ensures)
+    rw e at (at-supply .supply .ensures)
 
 pub supply-from-spec : {M : Type 1} → statement M
 supply-from-spec =

@@ -23,7 +23,14 @@ loop-holds c = (omega arith, (omega arith, (c .before .pre, omega arith)))
 mul-width-of : tie.Need-mul-width-of Inv-loop μ-loop
 mul-width-of c = let g = c .before .before .before .good in omega arith
 
-step : (c : tie.After-width-of Inv-loop μ-loop) → Step (c .before .before .before .before .before .args .journal .now) (c .before .before .before .loop .at) (c .width-of .result)
+-- the places that the facts below look back to
+abbrev start : tie.After-width-of Inv-loop μ-loop → tie.Start Inv-loop μ-loop
+start c = search
+
+abbrev head : tie.After-width-of Inv-loop μ-loop → tie.At-loop Inv-loop μ-loop
+head c = search
+
+step : (c : tie.After-width-of Inv-loop μ-loop) → Step (start c .args .journal .now) (head c .loop .at) (c .width-of .result)
 step c = step-laid _ _ _ (c .width-of .ensures) (c .before .before .loop-test .taken) (c .before .before .before .loop .inv .1 .1 .0)
 
 add-at : tie.Need-add-at Inv-loop μ-loop

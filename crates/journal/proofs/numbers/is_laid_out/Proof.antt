@@ -23,10 +23,20 @@ returns : tie.Need-returns Inv-loop μ-loop
 returns c = sym (c .before .before .before .before .loop .inv .1 ∙ laid-cut _ _ _ (c .before .width-of .ensures) (c .before .before .before .loop-test .taken) (inl (c .if1 .taken)))
 
 returns-2 : tie.Need-returns-2 Inv-loop μ-loop
-returns-2 c = sym (c .before .before .before .before .before .loop .inv .1 ∙ laid-cut _ _ _ (c .before .before .width-of .ensures) (c .before .before .before .before .loop-test .taken) (inr (c .if2 .taken)))
+returns-2 c =
+    let head : tie.At-loop Inv-loop μ-loop = search in
+    let turn : tie.In-loop Inv-loop μ-loop = search in
+    sym (head .loop .inv .1 ∙ laid-cut _ _ _ (c .before .before .width-of .ensures) (turn .loop-test .taken) (inr (c .if2 .taken)))
 
--- past the tests the call is whole
-step : (c : tie.Else2 Inv-loop μ-loop) → Step (c .before .before .before .before .before .before .before .args .journal .now) (c .before .before .before .before .before .loop .at) (c .before .before .width-of .result)
+-- the places that the facts below look back to
+abbrev start : tie.Else2 Inv-loop μ-loop → tie.Start Inv-loop μ-loop
+start c = search
+
+abbrev head : tie.Else2 Inv-loop μ-loop → tie.At-loop Inv-loop μ-loop
+head c = search
+
+-- past the tests the call is complete
+step : (c : tie.Else2 Inv-loop μ-loop) → Step (start c .args .journal .now) (head c .loop .at) (c .before .before .width-of .result)
 step c = step-tested _ _ _ (c .before .before .width-of .ensures) (c .before .before .before .before .loop-test .taken) (c .before .if1 .left) (c .if2 .left)
 
 add-at : tie.Need-add-at Inv-loop μ-loop
@@ -36,7 +46,9 @@ loop-less : tie.Need-loop-less Inv-loop μ-loop
 loop-less c = let s = step c in omega (arith, s .some, s .fits)
 
 loop-again : tie.Need-loop-again Inv-loop μ-loop
-loop-again c = (step c .fits, c .before .before .before .before .before .loop .inv .1 ∙ step c .laid)
+loop-again c =
+    let head : tie.At-loop Inv-loop μ-loop = search in
+    (step c .fits, head .loop .inv .1 ∙ step c .laid)
 
 returns-3 : tie.Need-returns-3 Inv-loop μ-loop
 returns-3 c =

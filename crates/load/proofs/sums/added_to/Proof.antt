@@ -6,7 +6,7 @@ use native.Mathlib.Omega.{arith}
 use borrow.Author.Tests.{eq-eqb, ne-eqb}
 use Rattle.load_rules.specs.Factors.{known, unknown}
 use Rattle.load_rules.specs.Load.{scaledEnergy}
-use Rattle.load.specs.Steps.{Scalable, addedTo}
+use Rattle.load.specs.InnerSteps.{Scalable, addedTo}
 use Rattle.load.proofs.BoundLaws.{scaled-by-le}
 use borrow.Author.Needs.{needs}
 use Rattle.load.proofs.sums.added_to.Statement.{statement}

@@ -5,8 +5,8 @@ use Prim.Native.Nat.{_-_, _≤_}
 use native.Mathlib.Numerals.{add-one}
 use native.Mathlib.Omega.{arith}
 use borrow.Author.Needs.{needs}
-use Rattle.load_rules.specs.Tally.{groupAt}
 use Rattle.load_rules.specs.Load.{countsOf}
+use Rattle.load.specs.InnerSteps.{groupAt}
 use Rattle.load.proofs.CellLaws.{filled}
 use Rattle.load.proofs.sums.counts_of.Tie as tie
 use Rattle.load.proofs.sums.counts_of.Statement.{statement}

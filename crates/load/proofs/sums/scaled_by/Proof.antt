@@ -5,7 +5,7 @@ use native.Mathlib.Omega.{arith}
 use borrow.Author.Tests.{ne-eqb}
 use Rattle.level.specs.Limits.{maxEnergy}
 use Rattle.level.proofs.ScaleLaws.{scaled-le}
-use Rattle.load_rules.specs.Factors.{over, scaledBy}
+use Rattle.load_rules.specs.Factors.{ratio, scaledBy}
 use Rattle.load_rules.proofs.FactorLaws.{never-divided}
 use Rattle.load.proofs.sums.scaled_by.Statement.{statement}
 use Rattle.load.proofs.sums.scaled_by.Tie as tie
@@ -13,7 +13,7 @@ use Rattle.load.proofs.sums.scaled_by.Tie as tie
 returns : tie.Need-returns
 returns c =
     let a = c .before .args in
-    sym (never-divided (over (a .upper) (a .lower)) (a .energy) (c .if1 .taken))
+    sym (never-divided (ratio (a .upper) (a .lower)) (a .energy) (c .if1 .taken))
 
 scaled-requires : tie.Need-scaled-requires
 scaled-requires c κs =

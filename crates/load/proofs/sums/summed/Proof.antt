@@ -5,9 +5,8 @@ use Prim.Native.Nat.{_-_, _≤_}
 use native.Mathlib.Numerals.{add-one}
 use native.Mathlib.Omega.{arith}
 use borrow.Author.Needs.{needs}
-use Rattle.load_rules.specs.Tally.{groupAt}
 use Rattle.load_rules.specs.Factors.{sumTo}
-use Rattle.load.specs.Steps.{sumsOf, addedTo}
+use Rattle.load.specs.InnerSteps.{groupAt, sumsOf, addedTo}
 use Rattle.load.proofs.BoundLaws.{fits-next}
 use Rattle.load.proofs.sums.summed.Tie as tie
 use Rattle.load.proofs.sums.summed.Statement.{statement}

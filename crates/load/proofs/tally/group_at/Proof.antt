@@ -1,7 +1,7 @@
 -- `load::tally::group_at` meets its contract: by definition.
 -- Assumes nothing.
-use Rattle.load_rules.specs.Tally.{groupAt}
 use borrow.Author.Needs.{needs}
+use Rattle.load.specs.InnerSteps.{groupAt}
 use Rattle.load.proofs.tally.group_at.Statement.{statement}
 use Rattle.load.proofs.tally.group_at.Tie as tie
 

@@ -5,10 +5,10 @@ use Prim.Native.Nat.{_-_, _≤_}
 use native.Mathlib.Omega.{arith}
 use lib.ListN.{length, getD}
 use borrow.Author.Needs.{needs}
-use Rattle.book_rules.specs.Columns.{Book, bookOf}
+use Rattle.book_rules.specs.Columns.{Book, bookOf, bookNow}
 use Rattle.load_rules.specs.Shares.{sharesTo, bookShares}
-use Rattle.load_rules.specs.Tally.{tally, table, groupAt, withGroup}
-use Rattle.load.specs.Steps.{Room}
+use Rattle.load_rules.specs.Tally.{tally}
+use Rattle.load.specs.InnerSteps.{table, groupAt, withGroup, RoomForOne}
 use Rattle.load.proofs.RowLaws.{Row, row-at, row-next}
 use Rattle.load.proofs.tally.tallied.Statement.{statement}
 use Rattle.load.proofs.tally.tallied.Tie as tie
@@ -21,10 +21,10 @@ abbrev μ-loop : tie.MeasureT-loop
 
 -- the function's entry, and the book there
 abbrev entry : tie.In-loop Inv-loop μ-loop → tie.Start Inv-loop μ-loop
-entry c = c .before .before .before .before .before .before
+entry c = search
 
 abbrev book : tie.Start Inv-loop μ-loop → Book
-book s = bookOf (s .args .ids .now) (s .args .groups .now) (s .args .marks .now) (s .args .levels .now)
+book s = bookNow (s .args .ids) (s .args .groups) (s .args .marks) (s .args .levels)
 
 -- the row that a turn reads
 row : (c : tie.In-loop Inv-loop μ-loop) → Row (entry c .args .points) (entry c .args .point) (book (entry c)) (c .before .loop .i)
@@ -39,30 +39,36 @@ shared-slice-read-group : tie.Need-shared-slice-read-group Inv-loop μ-loop
 shared-slice-read-group c = row (c .before) .in-groups
 
 mul-at : tie.Need-mul-at Inv-loop μ-loop
-mul-at c = omega (arith, row (c .before) .in-levels, entry (c .before) .good .1 .1 .1 .1 .1 .1 .0)
+mul-at c = omega (arith, row (c .before) .in-levels, entry (c .before) .good)
 
 add-at : tie.Need-add-at Inv-loop μ-loop
-add-at c = omega (arith, row (c .before) .in-levels, entry (c .before) .good .1 .1 .1 .1 .1 .1 .0)
+add-at c = omega (arith, row (c .before) .in-levels, entry (c .before) .good)
 
 shared-slice-read-with-row-2 : tie.Need-shared-slice-read-with-row-2 Inv-loop μ-loop
-shared-slice-read-with-row-2 c = row (c .before .before .before .before) .in-marks
+shared-slice-read-with-row-2 c =
+    let turn : tie.In-loop Inv-loop μ-loop = search in
+    row turn .in-marks
 
 mul-with-row-3 : tie.Need-mul-with-row-3 Inv-loop μ-loop
-mul-with-row-3 c = omega (arith, row (c .before .before .before .before) .in-levels, entry (c .before .before .before .before) .good .1 .1 .1 .1 .1 .1 .0)
+mul-with-row-3 c =
+    let turn : tie.In-loop Inv-loop μ-loop = search in
+    omega (arith, row turn .in-levels, entry turn .good)
 
 shared-slice-read-with-row-3 : tie.Need-shared-slice-read-with-row-3 Inv-loop μ-loop
-shared-slice-read-with-row-3 c = row (c .before .before .before .before .before) .in-levels
+shared-slice-read-with-row-3 c =
+    let turn : tie.In-loop Inv-loop μ-loop = search in
+    row turn .in-levels
 
 with-row-requires : tie.Need-with-row-requires Inv-loop μ-loop
 unfolding groupAt
 with-row-requires c κs =
-    let d = c .before .before .before .before .before in
+    let d : tie.In-loop Inv-loop μ-loop = search in
     let g = getD (entry d .args .groups .now) (d .before .loop .i) 0 in
-    ((subst (λ cs. Room (groupAt cs g)) (sym (d .before .loop .inv .1)) (row d .room), row d .group<, row d .level≤), entry d .pre .0 .1)
+    ((subst (λ cs. RoomForOne (groupAt cs g)) (sym (d .before .loop .inv .1)) (row d .room), row d .group<, row d .level≤), entry d .pre .0 .1)
 
 -- the turn that stores
 abbrev turn : tie.After-with-row Inv-loop μ-loop → tie.In-loop Inv-loop μ-loop
-turn c = c .before .before .before .before .before .before
+turn c = search
 
 loop-again : tie.Need-loop-again Inv-loop μ-loop
 unfolding groupAt withGroup
@@ -76,7 +82,7 @@ loop-again c =
 returns : tie.Need-returns Inv-loop μ-loop
 unfolding bookShares
 returns c =
-    let s = c .before .before .before .before .before .before in
+    let s : tie.Start Inv-loop μ-loop = search in
     let e : c .before .loop .i ≡ length (s .args .ids .now) = omega arith in
     c .before .loop .inv .1 ∙ ap (λ n. table (tally (sharesTo (s .args .points) (s .args .point) (book s) n))) e
 

@@ -39,13 +39,16 @@ known-energy c = c .energy .ensures ∙ ap (λ w. energyOf (c .before .before .b
 
 add-t13 : tie.Need-add-t13
 add-t13 c =
-    let s = c .before .before .before .before .before .before in
+    let s : tie.Start = search in
     omega (arith, known-energy (c .before .before), energy-in-small (s .args .group) (s .args .level) (s .pre .0 .2), s .pre .0 .0 .energy)
 
 returns-3 : tie.Need-returns-3
 returns-3 c =
-    let a = c .before .before .before .before .before .before .args in
-    row-computed (a .seen) (a .identity) (a .group) (a .mark) (a .level) (c .before .before .energy .result) (c .before .before .before .before .before .if1 .left) (c .before .before .before .before .if2 .left) (known-energy (c .before .before))
+    let start : tie.Start = search in
+    let left1 : tie.Else1 = search in
+    let left2 : tie.Else2 = search in
+    let a = start .args in
+    row-computed (a .seen) (a .identity) (a .group) (a .mark) (a .level) (c .before .before .energy .result) (left1 .if1 .left) (left2 .if2 .left) (known-energy (c .before .before))
 
 pub with-row-spec : {M : Type 1} → statement M
 with-row-spec =

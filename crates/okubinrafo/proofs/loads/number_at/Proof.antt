@@ -44,7 +44,8 @@ cast-result-3 c = search needs
 
 returns-4 : tie.Need-returns-4
 returns-4 c =
-    let a = c .before .before .before .before .before .before .args in
+    let start : tie.Start = search in
+    let a = start .args in
     number-computed (a .total) (a .level) (a .t3) (omega arith) (a .k) (omega arith) (omega arith)
 
 mul-c-2 : tie.Need-mul-c-2
@@ -58,7 +59,8 @@ cast-result-4 c = search needs
 
 returns-5 : tie.Need-returns-5
 returns-5 c =
-    let a = c .before .before .before .before .before .before .args in
+    let start : tie.Start = search in
+    let a = start .args in
     number-missing (a .total) (a .level) (a .t3) (omega arith) (a .k) (omega arith)
 
 pub number-at-spec : {M : Type 1} → statement M

@@ -2,7 +2,7 @@
 use mathlib.Core.Path.{_≡_, sym, ap, _∙_}
 use native.Mathlib.Omega.{arith}
 use lib.ListN.{length}
-use Rattle.book_rules.specs.Columns.{bookOf}
+use Rattle.book_rules.specs.Columns.{bookNow}
 use Rattle.load_rules.specs.declared.Load.{Load}
 use Rattle.load_rules.specs.Load.{bookLoad}
 use Rattle.mapping.specs.Many.{over}
@@ -14,14 +14,14 @@ use Rattle.okubinrafo.proofs.loads.okubinrafo_load.Statement.{statement
 use Rattle.okubinrafo.proofs.loads.okubinrafo_load.Tie as tie
 
 abbrev start : tie.After-load-at → tie.Start
-start c = c .before .before .before .before .before .before
+start c = search
 
 -- the load of the book, and its 39 numbers
 abbrev the-load : tie.Start → Load
-the-load s = bookLoad (s .args .points) (s .args .point) (bookOf (s .args .identities .now) (s .args .groups .now) (s .args .marks .now) (s .args .levels .now)) (s .args .days)
+the-load s = bookLoad (s .args .points) (s .args .point) (bookNow (s .args .identities) (s .args .groups) (s .args .marks) (s .args .levels)) (s .args .days)
 
 long : (s : tie.Start) → length (loadNumbers (the-load s)) ≡ 39
-long s = length-load (s .args .points) (s .args .point) (bookOf (s .args .identities .now) (s .args .groups .now) (s .args .marks .now) (s .args .levels .now)) (s .args .days)
+long s = length-load (s .args .points) (s .args .point) (bookNow (s .args .identities) (s .args .groups) (s .args .marks) (s .args .levels)) (s .args .days)
 
 -- past the first test it is not refused
 fine : (c : tie.Else1) → the-load (start (c .before)) .refused ≡ 0

@@ -1,6 +1,6 @@
 -- `okubinrafo::loads::okubinrafo_verdict` meets its contract: a refusal, or a verdict that is written. Assumes nothing.
 use mathlib.Core.Path.{sym, _∙_}
-use Rattle.book_rules.specs.Columns.{bookOf}
+use Rattle.book_rules.specs.Columns.{bookNow}
 use Rattle.load_rules.specs.declared.Judged.{Judged}
 use Rattle.load_rules.specs.Verdict.{bookVerdict}
 use Rattle.okubinrafo.proofs.Numbers.{judged-refused, judged-given}
@@ -11,8 +11,8 @@ use Rattle.okubinrafo.proofs.loads.okubinrafo_verdict.Tie as tie
 -- the verdict on the book
 abbrev verdict : tie.After-verdict-at → Judged
 verdict c =
-    let s = c .before .before .before .before .before .before in
-    bookVerdict (s .args .points) (s .args .point) (bookOf (s .args .identities .now) (s .args .groups .now) (s .args .marks .now) (s .args .levels .now)) (s .args .days) (s .args .limit)
+    let s : tie.Start = search in
+    bookVerdict (s .args .points) (s .args .point) (bookNow (s .args .identities) (s .args .groups) (s .args .marks) (s .args .levels)) (s .args .days) (s .args .limit)
 
 verdict-at-requires : tie.Need-verdict-at-requires
 verdict-at-requires c κs = search needs

@@ -1,4 +1,5 @@
--- What the functions below the calls ask of the columns they are lent: facts that a call has found before it changes a row. Assumes nothing.
+-- Inner steps: no promise uses them. What the functions below the calls ask of the columns they are lent: facts that a
+-- call has found before it changes a row. Assumes nothing.
 use Prim.Native.Nat.{ℕ, _-_, _≤_}
 use mathlib.Core.Path.{_≡_}
 use mathlib.Core.Bool.{true}
