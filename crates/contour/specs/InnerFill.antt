@@ -1,4 +1,4 @@
--- The waiting list while it is filled, row by row. Assumes nothing.
+-- Inner steps: no promise uses them. The waiting list while it is filled, row by row. Assumes nothing.
 use mathlib.Core.Path.{_≡_}
 use mathlib.Core.Bool.{Bool, cond}
 use mathlib.Core.List.{List, _++_}
@@ -20,5 +20,6 @@ abbrev pub rowCount : Bool → ℕ → ℕ
 rowCount up ny = cond up (ny - 1) ny
 
 -- a list on which the edges below n stood has those below n' now, and is else as it was
-abbrev pub Fills : Picture → ℕ → ℕ → List ℕ → List ℕ → Type 0
-Fills g n n' list list' = (d : List ℕ) → list ≡ crossedTo g n ++ drop n d → list' ≡ crossedTo g n' ++ drop n' d
+abbrev pub Fills : (g : Picture) (n n' : ℕ) (list list' : List ℕ) → Type 0
+Fills g n n' list list' =
+    (d : List ℕ) → list ≡ crossedTo g n ++ drop n d → list' ≡ crossedTo g n' ++ drop n' d

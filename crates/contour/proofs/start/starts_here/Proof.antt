@@ -1,12 +1,12 @@
--- `contour::sweep::starts_here` meets its contract. Assumes nothing.
+-- `contour::start::starts_here` meets its contract. Assumes nothing.
 use borrow.Author.Needs.{needs}
 use mathlib.Core.Path.{_≡_, refl, sym, _∙_}
 use mathlib.Core.Bool.{Bool, true, false, _&&_, _||_}
 use denote.Ref.{now}
 use Rattle.contour_rules.specs.Picture.{picture}
 use Rattle.contour_rules.specs.Crossings.{entersAt}
-use Rattle.contour.proofs.sweep.starts_here.Statement.{statement}
-use Rattle.contour.proofs.sweep.starts_here.Tie as tie
+use Rattle.contour.proofs.start.starts_here.Statement.{statement}
+use Rattle.contour.proofs.start.starts_here.Tie as tie
 
 abbrev starts : tie.Start → Bool
 starts s = s .args .closes || entersAt (picture (now (s .args .levels)) (s .args .nx) (s .args .ny) (s .args .v)) (s .args .n)

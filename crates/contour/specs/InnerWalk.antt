@@ -1,9 +1,10 @@
--- A line walked square by square, and what tracing one leaves. Assumes nothing.
+-- Inner steps: no promise uses them. A line walked square by square, and what tracing one leaves. Assumes nothing.
 use mathlib.Core.Path.{_≡_}
 use mathlib.Core.Bool.{true}
-use mathlib.Core.List.{List, _++_}
+use mathlib.Core.List.{List}
 use Prim.Native.Nat.{ℕ, _+_, _≤_, _<_}
-use lib.ListN.{length, take, drop}
+use lib.ListN.{length}
+use Rattle.room.specs.Room.{put}
 use Rattle.contour_rules.specs.declared.Ahead.{Ahead}
 use Rattle.contour_rules.specs.declared.Ahead.the-variants.{Square, Outside}
 use Rattle.contour_rules.specs.Picture.{Picture}
@@ -35,12 +36,8 @@ pub record Traceable (g : Picture) (list edges : List ℕ) (from n : ℕ) (ahead
   pub heads : n < edgesIn g → ahead ≡ aheadOf g (edgeOf g n)
   pub room : from + waiting list ≤ length edges
 
--- b, with these numbers from a place on, and else as it was
-abbrev pub written : List ℕ → ℕ → List ℕ → List ℕ
-written b from ns = take from b ++ ns ++ drop (from + length ns) b
-
 -- what tracing a contour leaves
 pub record Traced (g : Picture) (list edges : List ℕ) (from n r : ℕ) (list' edges' : List ℕ) : Type 0 where
   pub ends : r ≡ from + length (contourFrom g list n)
-  pub listed : edges' ≡ written edges from (contourFrom g list n)
+  pub listed : edges' ≡ put edges from (contourFrom g list n)
   pub taken : list' ≡ without list (contourFrom g list n)

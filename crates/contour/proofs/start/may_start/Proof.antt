@@ -1,7 +1,7 @@
--- `contour::sweep::may_start` meets its contract. Assumes nothing.
+-- `contour::start::may_start` meets its contract. Assumes nothing.
 use borrow.Author.Needs.{needs}
-use Rattle.contour.proofs.sweep.may_start.Statement.{statement}
-use Rattle.contour.proofs.sweep.may_start.Tie as tie
+use Rattle.contour.proofs.start.may_start.Statement.{statement}
+use Rattle.contour.proofs.start.may_start.Tie as tie
 
 returns-2 : tie.Need-returns-2
 returns-2 c = rw (c .before .if1 .left) (c .enters-at .ensures)

@@ -1,4 +1,4 @@
--- `contour::sweep::enters_at` meets its contract. Assumes nothing.
+-- `contour::start::enters_at` meets its contract. Assumes nothing.
 use borrow.Author.Needs.{needs}
 use mathlib.Core.Path.{_≡_, sym, subst, _∙_}
 use denote.Ref.{now}
@@ -6,8 +6,8 @@ use Rattle.network.specs.Edges.{WithinEdge}
 use Rattle.network.proofs.Numbers.{edge-within}
 use Rattle.contour_rules.specs.Picture.{picture}
 use Rattle.contour_rules.specs.Crossings.{crossedAt}
-use Rattle.contour.proofs.sweep.enters_at.Statement.{statement}
-use Rattle.contour.proofs.sweep.enters_at.Tie as tie
+use Rattle.contour.proofs.start.enters_at.Statement.{statement}
+use Rattle.contour.proofs.start.enters_at.Tie as tie
 
 -- the edge of the number is in the network
 within : (c : tie.After-edge-at) → WithinEdge (c .before .before .args .nx) (c .before .before .args .ny) (c .edge-at .result)

@@ -1,10 +1,10 @@
--- `contour::sweep::stand_at` meets its contract. Assumes nothing.
+-- `contour::start::stand_at` meets its contract. Assumes nothing.
 use borrow.Author.Needs.{needs}
 use mathlib.Core.Path.{refl, sym, subst, _∙_}
 use Rattle.network.specs.Edges.{WithinEdge}
 use Rattle.network.proofs.Numbers.{edge-within}
-use Rattle.contour.proofs.sweep.stand_at.Statement.{statement}
-use Rattle.contour.proofs.sweep.stand_at.Tie as tie
+use Rattle.contour.proofs.start.stand_at.Statement.{statement}
+use Rattle.contour.proofs.start.stand_at.Tie as tie
 
 -- the edge of the number is in the network
 within : (c : tie.After-edge-at) → WithinEdge (c .before .before .args .nx) (c .before .before .args .ny) (c .edge-at .result)

@@ -1,10 +1,10 @@
--- `contour::sweep::first_in` meets its contract. Assumes nothing.
+-- `contour::start::first_in` meets its contract. Assumes nothing.
 use borrow.Author.Needs.{needs}
 use mathlib.Core.Path.{subst}
 use native.Mathlib.Omega.{arith}
 use Rattle.network.specs.Edges.{WithinEdge}
-use Rattle.contour.proofs.sweep.first_in.Statement.{statement}
-use Rattle.contour.proofs.sweep.first_in.Tie as tie
+use Rattle.contour.proofs.start.first_in.Statement.{statement}
+use Rattle.contour.proofs.start.first_in.Tie as tie
 
 inside-requires : tie.Need-inside-requires
 inside-requires c κs =
