@@ -15,7 +15,7 @@ use Rattle.contour_rules.specs.Picture.{Picture}
 use Rattle.contour_rules.specs.Crossings.{onBorder, edgesIn, edgeOf, entersAt}
 use Rattle.contour_rules.specs.Contours.{waiting, swept, noneListed, allListed, crossedTo}
 use Rattle.contour_rules.proofs.Steps.{enters-border}
-use Rattle.contour.specs.Desk.{Desk, desk, Holds, Room, Grows, Sweeps, tried}
+use Rattle.contour.specs.InnerDesk.{Desk, desk, Holds, Room, Grows, Sweeps, tried}
 use Rattle.contour.proofs.Listings.{sweep-begins, sweep-goes-on, sweep-joins, sweep-skips, none-held}
 
 neither : (a b : Bool) → a ≡ false → b ≡ false → (a || b) ≡ false

@@ -1,7 +1,7 @@
 -- Buffers filled from the front, one number at a time. Assumes nothing.
 use mathlib.Core.Path.{_≡_, refl, sym, ap, _∙_, subst}
 use mathlib.Core.Bool.{Bool, true, _&&_}
-use mathlib.Core.List.{List, [], _∷_, _++_, append-assoc}
+use mathlib.Core.List.{List, _++_, append-assoc}
 use Prim.Native.Nat.{ℕ, suc, _+_, _-_, _≤_, _<_}
 use native.Mathlib.Numerals.{add-one}
 use native.Mathlib.Omega.{arith}
@@ -14,15 +14,16 @@ use Rattle.contour_rules.specs.Picture.{Picture}
 use Rattle.contour_rules.specs.Crossings.{crossedAt}
 use Rattle.contour_rules.specs.Contours.{bit, crossedTo}
 use Rattle.contour_rules.proofs.Waiting.{length-crossed}
-use Rattle.contour.specs.Answers.{front}
 
-pub copy-more : (s d : List ℕ) (i : ℕ) → i < length s → i < length d → set (take i s ++ drop i d) i (getD s i 0) ≡ take (i + 1) s ++ drop (i + 1) d
+pub copy-more : (s d : List ℕ) (i : ℕ) → i < length s → i < length d
+    → set (take i s ++ drop i d) i (getD s i 0) ≡ take (i + 1) s ++ drop (i + 1) d
 copy-more s d i h k =
     rw (add-one, drop-cons d i 0 k, take-suc s i 0 h, append-assoc)
     (set-at (take i s) (getD d i 0) (drop (suc i) d) (getD s i 0) i (length-take-le i s (omega arith)))
 
 -- one edge more on the waiting list
-pub crossed-more : (g : Picture) (d : List ℕ) (n x : ℕ) → n < length d → x ≡ bit (crossedAt g n) → set (crossedTo g n ++ drop n d) n x ≡ crossedTo g (n + 1) ++ drop (n + 1) d
+pub crossed-more : (g : Picture) (d : List ℕ) (n x : ℕ) → n < length d → x ≡ bit (crossedAt g n)
+    → set (crossedTo g n ++ drop n d) n x ≡ crossedTo g (n + 1) ++ drop (n + 1) d
 unfolding crossedTo
 crossed-more g d n x h e =
     rw (add-one, drop-cons d n 0 h, append-assoc, e)
@@ -31,12 +32,6 @@ crossed-more g d n x h e =
 pub crossed-none : (g : Picture) (d : List ℕ) → d ≡ crossedTo g 0 ++ drop 0 d
 unfolding crossedTo
 crossed-none g d = refl
-
--- two numbers at the front
-pub front-two : (b : List ℕ) (x y : ℕ) → 2 ≤ length b → set (set b 0 x) 1 y ≡ front (x ∷ y ∷ []) b
-front-two [] x y h = absurd (omega arith)
-front-two (a ∷ []) x y h = absurd (omega arith)
-front-two (a ∷ (a' ∷ b)) x y h = refl
 
 -- tests joined by &&
 pub all-fit : (n m a b c d : ℕ) → (leb n a && leb m b && leb m c && leb 2 d) ≡ true → (n ≤ a) × ((m ≤ b) × ((m ≤ c) × (2 ≤ d)))

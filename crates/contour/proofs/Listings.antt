@@ -1,48 +1,24 @@
 -- What buffers hold while contours are listed. Assumes nothing.
 use mathlib.Core.Path.{_≡_, refl, sym, ap, _∙_, subst}
 use mathlib.Core.Bool.{Bool, true, false, _&&_, _||_, cond}
-use mathlib.Core.List.{List, [], _∷_, _++_, append-assoc}
+use mathlib.Core.List.{List, [], _∷_, _++_}
 use Prim.Native.Nat.{ℕ, zero, suc, _+_, _-_, _≤_, _<_}
 use native.Mathlib.Numerals.{add-one}
 use native.Mathlib.Nat.{add-zero, add-suc}
 use native.Mathlib.Omega.{arith}
-use lib.ListN.{length, take, drop, set, length-set, length-append, length-drop}
-use lib.Seq.{drop-cons, set-at, take-at, drop-append-add, drop-drop, length-take-le}
+use lib.ListN.{length, drop, set, length-set, length-append, length-drop}
 use lib.Dec.{ltb}
+use Rattle.room.specs.Room.{front, put}
+use Rattle.room.proofs.Laws.{length-put}
+use Rattle.room.proofs.Fronts.{front-more, front-grows}
 use Rattle.network.proofs.Refusals.{both}
 use Rattle.contour_rules.specs.Picture.{Picture}
 use Rattle.contour_rules.specs.Crossings.{crossedAt, entersAt, nextAt, edgesIn}
 use Rattle.contour_rules.specs.Contours.{Contour, bit, waits, waiting, follow, contourFrom, without, Listing, add, try, swept, noneListed, openListed, allListed, contoursOf, crossedTo, edgesOf, countsOf, closedOf}
 use Rattle.contour_rules.proofs.Waiting.{clash, stays-out, length-without, waiting-without, waiting-le, follow-on, length-crossed, crossed-waits-all}
 use Rattle.contour_rules.proofs.Sums.{edges-append, counts-append, closed-append, length-counts, length-closed}
-use Rattle.contour.specs.Answers.{front}
-use Rattle.contour.specs.Walk.{OnlyCrossed, written, Traced}
-use Rattle.contour.specs.Desk.{Desk, desk, Holds, Room, Grows, Sweeps, Listed, added, tried}
-
--- ---- the front of a buffer
-
-pub front-none : (b : List ℕ) → b ≡ front [] b
-front-none b = refl
-
--- one number more
-pub front-set : (ns b : List ℕ) (n x : ℕ) → n ≡ length ns → n < length b → set (front ns b) n x ≡ front (ns ++ (x ∷ [])) b
-front-set ns b n x e h =
-    let l : length ns < length b = subst (λ (k : ℕ). k < length b) e h in
-    let m : length (ns ++ (x ∷ [])) ≡ suc (length ns) = length-append ns (x ∷ []) ∙ omega arith in
-    rw (m, append-assoc, e, drop-cons b (length ns) 0 l) (set-at ns _ (drop (suc (length ns)) b) x (length ns) refl)
-
--- some numbers more
-pub front-written : (ns b cs : List ℕ) (n : ℕ) → n ≡ length ns → written (front ns b) n cs ≡ front (ns ++ cs) b
-front-written ns b cs n e =
-    let m : length (ns ++ cs) ≡ length ns + length cs = length-append ns cs in
-    let p : take n (front ns b) ≡ ns = take-at ns _ n (sym e) in
-    let q : drop (n + length cs) (front ns b) ≡ drop (length ns + length cs) b =
-    ap (λ (k : ℕ). drop (k + length cs) (front ns b)) e ∙ drop-append-add ns (drop (length ns) b) (length cs) ∙ drop-drop (length cs) (length ns) b in
-    rw (p, q, m)
-
-pub length-written : (b : List ℕ) (n : ℕ) (cs : List ℕ) → n + length cs ≤ length b → length (written b n cs) ≡ length b
-length-written b n cs h =
-    rw (length-append, length-append, length-drop, length-take-le n b (omega arith)) (omega arith)
+use Rattle.contour.specs.InnerWalk.{OnlyCrossed, Traced}
+use Rattle.contour.specs.InnerDesk.{Desk, desk, Holds, Room, Grows, Sweeps, Listed, added, tried}
 
 -- ---- one contour more
 
@@ -75,7 +51,8 @@ module _ (g : Picture) (closes : Bool) (d : Desk) (n end : ℕ) (list' edges' : 
   grown-room : Room g after
   grown-room =
       let f = fewer-wait in
-      let l : length edges' ≡ length (d .edges) = ap length (t .listed) ∙ length-written (d .edges) (d .at) line (omega (arith, f .0, r .for-edges)) in
+      let l : length edges' ≡ length (d .edges) =
+      ap length (t .listed) ∙ length-put (d .edges) (d .at) line (omega (arith, f .0, r .for-edges)) in
       record {
         long = ap length (t .taken) ∙ length-without (d .list) line ∙ r .long;
         only = λ m h. r .only m (before-taken (d .list) line m (subst (λ (l : List ℕ). waits l m ≡ true) (t .taken) h));
@@ -95,11 +72,14 @@ module _ (g : Picture) (closes : Bool) (d : Desk) (n end : ℕ) (list' edges' : 
       (rw (length-closed (l .found)) (omega (arith, h .contours, fits .1)))) in
       rw (← h .the-list) (record {
         the-list = t .taken;
-        the-edges = rw (edges-append (l .found) c) (t .listed ∙ ap (λ (b : List ℕ). written b (d .at) line) (h .the-edges) ∙ front-written (edgesOf (l .found)) (old .edges) line (d .at) (h .edge-places));
+        the-edges = rw (edges-append (l .found) c) (t .listed ∙ ap (λ (b : List ℕ). put b (d .at) line) (h .the-edges)
+            ∙ front-grows (edgesOf (l .found)) (old .edges) (d .at) line (sym (h .edge-places)));
         the-counts = rw (counts-append (l .found) c, ← count) (ap (λ (b : List ℕ). set b (d .made) (end - d .at)) (h .the-counts)
-            ∙ front-set (countsOf (l .found)) (old .counts) (d .made) (end - d .at) (h .contours ∙ sym (length-counts (l .found))) (omega (arith, fits .0, old-counts)));
+            ∙ front-more (countsOf (l .found)) (old .counts) (d .made) (end - d .at)
+            (length-counts (l .found) ∙ sym (h .contours)) (omega (arith, fits .0, old-counts)));
         the-closed = rw (closed-append (l .found) c) (ap (λ (b : List ℕ). set b (d .made) (bit closes)) (h .the-closed)
-            ∙ front-set (closedOf (l .found)) (old .closed) (d .made) (bit closes) (h .contours ∙ sym (length-closed (l .found))) (omega (arith, fits .1, old-closed)));
+            ∙ front-more (closedOf (l .found)) (old .closed) (d .made) (bit closes)
+            (length-closed (l .found) ∙ sym (h .contours)) (omega (arith, fits .1, old-closed)));
         edge-places = rw (edges-append (l .found) c) (sym ne);
         contours = ap (λ (k : ℕ). k + 1) (h .contours) ∙ sym (length-append (l .found) (c ∷ []));
       })

@@ -13,7 +13,7 @@ use Rattle.contour_rules.specs.Picture.{Picture}
 use Rattle.contour_rules.specs.Crossings.{crossed, edgesIn, edgeOf, crossedAt}
 use Rattle.contour_rules.specs.Contours.{bit, crossedTo}
 use Rattle.contour_rules.proofs.Waiting.{length-crossed}
-use Rattle.contour.specs.Fill.{edgeIn, rowWidth, rowCount, Fills}
+use Rattle.contour.specs.InnerFill.{edgeIn, rowWidth, rowCount, Fills}
 use Rattle.contour.proofs.Buffers.{crossed-none, crossed-more}
 
 pub row-within : (up : Bool) (nx ny row col : ℕ) → row < rowCount up ny → col < rowWidth up nx → WithinEdge nx ny (edgeIn up row col)

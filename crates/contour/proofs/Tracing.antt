@@ -7,6 +7,7 @@ use native.Mathlib.Numerals.{add-one}
 use native.Mathlib.Omega.{arith}
 use lib.ListN.{length, take, drop, set, length-set, length-append, take-append-drop}
 use lib.Seq.{take-suc-set, drop-set-lt, drop-drop, length-take-le, append-snoc}
+use Rattle.room.specs.Room.{put}
 use Rattle.network.specs.Edges.{WithinEdge}
 use Rattle.network.proofs.Numbers.{edge-within, at-number}
 use Rattle.contour_rules.specs.declared.Ahead.{Ahead}
@@ -19,7 +20,7 @@ use Rattle.contour_rules.specs.Contours.{waits, waiting, contourFrom, without}
 use Rattle.contour_rules.proofs.Heading.{Entered, entered, next-within}
 use Rattle.contour_rules.proofs.Back.{goes-beyond}
 use Rattle.contour_rules.proofs.Waiting.{waits-lt, waiting-set, waited, follow-on, follow-stop}
-use Rattle.contour.specs.Walk.{WithinAhead, stepEdge, stepAhead, OnlyCrossed, Traceable, written, Traced}
+use Rattle.contour.specs.InnerWalk.{WithinAhead, stepEdge, stepAhead, OnlyCrossed, Traceable, Traced}
 
 -- what lies ahead of a crossed edge is in the network
 pub ahead-within : (g : Picture) → 2 ≤ g .nx → (n : ℕ) (a : Ahead) → n < edgesIn g → a ≡ aheadOf g (edgeOf g n) → WithinAhead (g .nx) (g .ny) a
@@ -82,7 +83,7 @@ module _ (g : Picture) (list₀ edges₀ : List ℕ) (from start : ℕ) where
         }
 
     pub ended : from ≤ length edges₀ → waits list n ≡ false → Traced g list₀ edges₀ from start at list edges
-    unfolding without
+    unfolding without put
     ended k h =
         let t = contourFrom g list₀ start in
         let stop : contourFrom g list n ≡ [] = follow-stop (nextAt g) (waiting list) list n h in

@@ -1,5 +1,5 @@
 pub mod Answers
-pub mod Walk
-pub mod Desk
-pub mod Fill
+pub mod InnerWalk
+pub mod InnerDesk
+pub mod InnerFill
 pub mod Told

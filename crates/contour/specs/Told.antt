@@ -1,5 +1,6 @@
--- What the call for contours leaves in the room lent to it, read back: RULES, "Network and contours": an answer lists edge
--- numbers, and for each contour its count and whether it closes; room past the answer keeps its bytes. Assumes nothing.
+-- What the call for contours leaves in the room lent to it, read back: RULES, "Network and contours": an answer lists
+-- edge numbers, and for each contour its count and whether it closes; room past the answer keeps its bytes.
+-- Assumes nothing.
 use mathlib.Core.Path.{_≡_}
 use mathlib.Core.List.{List, [], _∷_}
 use Prim.Native.Nat.{ℕ, _≤_}
@@ -39,7 +40,10 @@ module _ (levels : List ℕ) (f : Frame) (v : ℕ) (edges counts closed sizes : 
         (take (getD (o .sizes) 1 0) (o .closed))
         ≡ found
     -- the rest stays
-    pub edges-kept : o .answer ≡ 0 → (i : ℕ) → getD (o .sizes) 0 0 ≤ i → getD (o .edges) i 0 ≡ getD edges i 0
-    pub counts-kept : o .answer ≡ 0 → (i : ℕ) → getD (o .sizes) 1 0 ≤ i → getD (o .counts) i 0 ≡ getD counts i 0
-    pub closed-kept : o .answer ≡ 0 → (i : ℕ) → getD (o .sizes) 1 0 ≤ i → getD (o .closed) i 0 ≡ getD closed i 0
+    pub edges-kept : o .answer ≡ 0
+        → (i : ℕ) → getD (o .sizes) 0 0 ≤ i → getD (o .edges) i 0 ≡ getD edges i 0
+    pub counts-kept : o .answer ≡ 0
+        → (i : ℕ) → getD (o .sizes) 1 0 ≤ i → getD (o .counts) i 0 ≡ getD counts i 0
+    pub closed-kept : o .answer ≡ 0
+        → (i : ℕ) → getD (o .sizes) 1 0 ≤ i → getD (o .closed) i 0 ≡ getD closed i 0
     pub sizes-kept : o .answer ≡ 0 → (i : ℕ) → 2 ≤ i → getD (o .sizes) i 0 ≡ getD sizes i 0

@@ -4,9 +4,9 @@ ghost use mathlib.Core.List.{_++_};
 ghost use Prim.Native.Nat.{_+_, _≤_, _<_};
 ghost use lib.ListN.{length, take, drop};
 ghost use Rattle.network.specs.Edges.{Sized, numberOf, edges as edgeCount};
-ghost use Rattle.contour_rules.specs.Picture.{picture};
 ghost use Rattle.contour_rules.specs.Contours.{bit, crossedTo};
-ghost use Rattle.contour.specs.Fill.{edgeIn, rowWidth, rowCount, Fills};
+ghost use Rattle.contour.specs.InnerDesk.{pictureBefore};
+ghost use Rattle.contour.specs.InnerFill.{edgeIn, rowWidth, rowCount, Fills};
 use network::Edge;
 
 // 1 for an edge that is crossed.
@@ -60,8 +60,10 @@ fn fill_row(
     first: usize,
     list: &mut [u8],
 )
-    requires { ⌜ Sized (now levels) nx ny × ((row < rowCount up ny) × ((first ≡ numberOf nx ny (edgeIn up row 0)) × (length (now list) ≡ edgeCount nx ny))) ⌝ }
-    ensures { λ _. ⌜ Fills (picture (now (levels .entry)) nx ny v) first (first + rowWidth up nx) (now (list .entry)) (now (list .exit)) ⌝ }
+    requires { ⌜ Sized (now levels) nx ny × ((row < rowCount up ny)
+        × ((first ≡ numberOf nx ny (edgeIn up row 0)) × (length (now list) ≡ edgeCount nx ny))) ⌝ }
+    ensures { λ _. ⌜ Fills (pictureBefore levels nx ny v) first (first + rowWidth up nx)
+        (now (list .entry)) (now (list .exit)) ⌝ }
 {
     let width = row_width(up, nx);
     let mut col = 0;
@@ -74,8 +76,10 @@ fn fill_row(
 
 // The same for all rows of one kind.
 fn fill_rows(levels: &[u32], nx: usize, ny: usize, v: u32, up: bool, first: usize, list: &mut [u8])
-    requires { ⌜ Sized (now levels) nx ny × ((first ≡ numberOf nx ny (edgeIn up 0 0)) × (length (now list) ≡ edgeCount nx ny)) ⌝ }
-    ensures { λ _. ⌜ Fills (picture (now (levels .entry)) nx ny v) first (numberOf nx ny (edgeIn up (rowCount up ny) 0)) (now (list .entry)) (now (list .exit)) ⌝ }
+    requires { ⌜ Sized (now levels) nx ny
+        × ((first ≡ numberOf nx ny (edgeIn up 0 0)) × (length (now list) ≡ edgeCount nx ny)) ⌝ }
+    ensures { λ _. ⌜ Fills (pictureBefore levels nx ny v) first
+        (numberOf nx ny (edgeIn up (rowCount up ny) 0)) (now (list .entry)) (now (list .exit)) ⌝ }
 {
     let width = row_width(up, nx);
     let rows = row_count(up, ny);
@@ -91,7 +95,7 @@ fn fill_rows(levels: &[u32], nx: usize, ny: usize, v: u32, up: bool, first: usiz
 // Puts the crossed edges, and no others, on the waiting list.
 pub(crate) fn fill_list(levels: &[u32], nx: usize, ny: usize, v: u32, list: &mut [u8])
     requires { ⌜ Sized (now levels) nx ny × (length (now list) ≡ edgeCount nx ny) ⌝ }
-    ensures { λ _. ⌜ now (list .exit) ≡ crossedTo (picture (now (levels .entry)) nx ny v) (edgeCount nx ny) ⌝ }
+    ensures { λ _. ⌜ now (list .exit) ≡ crossedTo (pictureBefore levels nx ny v) (edgeCount nx ny) ⌝ }
 {
     fill_rows(levels, nx, ny, v, false, 0, list);
     fill_rows(levels, nx, ny, v, true, ny * (nx - 1), list);

@@ -1,26 +1,32 @@
 // The contours of a network at a level: RULES, "Network and contours".
 ghost use mathlib.Core.Path.{_≡_};
 ghost use mathlib.Core.Bool.{_&&_};
-ghost use mathlib.Core.List.{_++_, _∷_, []};
+ghost use mathlib.Core.List.{_∷_, []};
 ghost use Prim.Native.Nat.{_≤_};
 ghost use lib.Dec.{leb};
 ghost use lib.ListN.{length, take};
-ghost use Rattle.network.specs.Edges.{Sized, edges as edgeCount};
-ghost use Rattle.contour_rules.specs.Picture.{picture};
+ghost use Rattle.room.specs.Room.{front};
+ghost use Rattle.network.specs.Limits.{maxEdges};
+ghost use Rattle.network.specs.Edges.{Sized};
 ghost use Rattle.contour_rules.specs.Contours.{contoursOf};
-ghost use Rattle.contour.specs.Answers.{front, handedOut, contoursOut, outcome, Leaves};
-use crate::core::MAX_EDGES;
+ghost use Rattle.contour.specs.Answers.{answerFrom, answerOf, handedOut, listsBefore, outcomeLeft, outcomeDue};
+ghost use Rattle.contour.specs.InnerDesk.{pictureBefore, RoomForAll};
 use crate::core::Progress;
 use network::Frame;
+use network::limits::MAX_EDGES;
+use network::limits::MAX_NETWORK_LEVEL;
 
+mod add;
+mod border;
 pub mod core;
 mod fill;
+mod start;
 mod sweep;
 mod walk;
 
 // Writes how many edges are listed and how many contours.
 fn put_sizes(sizes: &mut [u32], got: Progress)
-    requires { ⌜ (2 ≤ length (now sizes)) × ((got .edges ≤ 130560) × (got .contours ≤ 130560)) ⌝ }
+    requires { ⌜ (2 ≤ length (now sizes)) × ((got .edges ≤ maxEdges) × (got .contours ≤ maxEdges)) ⌝ }
     ensures { λ _. ⌜ now (sizes .exit) ≡ front (got .edges ∷ got .contours ∷ []) (now (sizes .entry)) ⌝ }
 {
     sizes[0] = got.edges as u32;
@@ -60,9 +66,13 @@ fn hand_out(
     closed: &mut [u32],
     sizes: &mut [u32],
 ) -> u32
-    requires { ⌜ (got .edges ≤ 130560) × ((got .contours ≤ 130560) × ((got .edges ≤ length (now «all_edges»)) × ((got .contours ≤ length (now «all_counts»)) × (got .contours ≤ length (now «all_closed»))))) ⌝ }
-    ensures { λ r. ⌜ Leaves (handedOut (take (got .edges) (now («all_edges» .entry))) (take (got .contours) (now («all_counts» .entry))) (take (got .contours) (now («all_closed» .entry)))
-        (now (edges .entry)) (now (counts .entry)) (now (closed .entry)) (now (sizes .entry))) r (now (edges .exit)) (now (counts .exit)) (now (closed .exit)) (now (sizes .exit)) ⌝ }
+    requires { ⌜ (got .edges ≤ maxEdges) × ((got .contours ≤ maxEdges)
+        × ((got .edges ≤ length (now «all_edges»)) × ((got .contours ≤ length (now «all_counts»))
+        × (got .contours ≤ length (now «all_closed»))))) ⌝ }
+    ensures { λ r. ⌜ outcomeLeft r edges counts closed sizes ≡ handedOut 0
+        (answerFrom (take (got .edges) (now («all_edges» .entry)))
+        (take (got .contours) (now («all_counts» .entry))) (take (got .contours) (now («all_closed» .entry))))
+        (listsBefore edges counts closed sizes) ⌝ }
 {
     let n = got.edges;
     let m = got.contours;
@@ -88,8 +98,8 @@ fn list_apart(
     sizes: &mut [u32],
 ) -> u32
     requires { ⌜ Sized (now levels) nx ny ⌝ }
-    ensures { λ r. ⌜ Leaves (contoursOut (contoursOf (picture (now (levels .entry)) nx ny v)) (now (edges .entry)) (now (counts .entry)) (now (closed .entry)) (now (sizes .entry)))
-        r (now (edges .exit)) (now (counts .exit)) (now (closed .exit)) (now (sizes .exit)) ⌝ }
+    ensures { λ r. ⌜ outcomeLeft r edges counts closed sizes ≡ handedOut 0
+        (answerOf (contoursOf (pictureBefore levels nx ny v))) (listsBefore edges counts closed sizes) ⌝ }
 {
     let mut all_edges = [0u32; MAX_EDGES];
     let mut all_counts = [0u32; MAX_EDGES];
@@ -126,16 +136,18 @@ fn list_straight(
     closed: &mut [u32],
     sizes: &mut [u32],
 ) -> u32
-    requires { ⌜ Sized (now levels) nx ny × ((edgeCount nx ny ≤ length (now edges)) × ((edgeCount nx ny ≤ length (now counts)) × ((edgeCount nx ny ≤ length (now closed)) × (2 ≤ length (now sizes))))) ⌝ }
-    ensures { λ r. ⌜ Leaves (contoursOut (contoursOf (picture (now (levels .entry)) nx ny v)) (now (edges .entry)) (now (counts .entry)) (now (closed .entry)) (now (sizes .entry)))
-        r (now (edges .exit)) (now (counts .exit)) (now (closed .exit)) (now (sizes .exit)) ⌝ }
+    requires { ⌜ Sized (now levels) nx ny
+        × (RoomForAll nx ny edges counts closed × (2 ≤ length (now sizes))) ⌝ }
+    ensures { λ r. ⌜ outcomeLeft r edges counts closed sizes ≡ handedOut 0
+        (answerOf (contoursOf (pictureBefore levels nx ny v))) (listsBefore edges counts closed sizes) ⌝ }
 {
     let got = core::list_contours(levels, nx, ny, v, edges, counts, closed);
     put_sizes(sizes, got);
     0
 }
 
-// The contours of a checked network. Where each buffer has room for every edge they are listed straight into the buffers.
+// The contours of a checked network. Where each buffer has room for every edge they are listed straight into the
+// buffers.
 fn list_out(
     levels: &[u32],
     nx: usize,
@@ -147,8 +159,8 @@ fn list_out(
     sizes: &mut [u32],
 ) -> u32
     requires { ⌜ Sized (now levels) nx ny ⌝ }
-    ensures { λ r. ⌜ Leaves (contoursOut (contoursOf (picture (now (levels .entry)) nx ny v)) (now (edges .entry)) (now (counts .entry)) (now (closed .entry)) (now (sizes .entry)))
-        r (now (edges .exit)) (now (counts .exit)) (now (closed .exit)) (now (sizes .exit)) ⌝ }
+    ensures { λ r. ⌜ outcomeLeft r edges counts closed sizes ≡ handedOut 0
+        (answerOf (contoursOf (pictureBefore levels nx ny v))) (listsBefore edges counts closed sizes) ⌝ }
 {
     let total = network::core::edge_count(nx, ny);
     if room_for(
@@ -164,9 +176,9 @@ fn list_out(
     list_apart(levels, nx, ny, v, edges, counts, closed, sizes)
 }
 
-// The contours at level v of a network of levels, from the south row, west to east. Their edges, one contour after the other, go to `edges`,
-// the number of edges of each to `counts`, 1 to `closed` for each that closes and 0 for each that doesn't, and to `sizes` how many edges
-// and contours there are. Returns 0, or the refusal's number.
+// The contours at level v of a network of levels, from the south row, west to east. Their edges, one contour after the
+// other, go to `edges`, the number of edges of each to `counts`, 1 to `closed` for each that closes and 0 for each that
+// doesn't, and to `sizes` how many edges and contours there are. Returns 0, or the refusal's number.
 pub fn contours(
     levels: &[u32],
     frame: Frame,
@@ -176,10 +188,10 @@ pub fn contours(
     closed: &mut [u32],
     sizes: &mut [u32],
 ) -> u32
-    ensures { λ r. ⌜ Leaves (outcome (now (levels .entry)) frame v (now (edges .entry)) (now (counts .entry)) (now (closed .entry)) (now (sizes .entry)))
-        r (now (edges .exit)) (now (counts .exit)) (now (closed .exit)) (now (sizes .exit)) ⌝ }
+    ensures { λ r. ⌜ outcomeLeft r edges counts closed sizes
+        ≡ outcomeDue levels frame v edges counts closed sizes ⌝ }
 {
-    let why = network::contour_refusal(levels, frame, v);
+    let why = network::contour_refusal(levels, frame, v, MAX_NETWORK_LEVEL);
     if why == 0 {
         let nx = frame.columns as usize;
         let ny = frame.rows as usize;

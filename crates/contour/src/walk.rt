@@ -1,12 +1,14 @@
 // A line walked from square to square.
 ghost use mathlib.Core.Path.{_≡_};
-ghost use Prim.Native.Nat.{_<_};
+ghost use Prim.Native.Nat.{_<_, _≤_};
+ghost use Rattle.network.specs.Limits.{maxSide};
 ghost use Rattle.network.specs.Edges.{Sides, Sized, WithinEdge};
-ghost use Rattle.contour_rules.specs.Picture.{picture, cutOf};
+ghost use Rattle.contour_rules.specs.Picture.{cutOf};
 ghost use Rattle.contour_rules.specs.Squares.{WithinSquare, turn, corner, exitOf, sideEdge};
 ghost use Rattle.contour_rules.specs.Crossings.{northOf, southOf, westOf, eastOf, beyond, acrossOf};
 ghost use Rattle.contour_rules.specs.Contours.{waits};
-ghost use Rattle.contour.specs.Walk.{WithinAhead, stepEdge, stepAhead, Traceable, Traced};
+ghost use Rattle.contour.specs.InnerWalk.{WithinAhead, stepEdge, stepAhead, Traceable, Traced};
+ghost use Rattle.contour.specs.InnerDesk.{pictureNow, pictureBefore};
 use contour_rules::Ahead;
 use contour_rules::Side;
 use network::Edge;
@@ -26,7 +28,7 @@ fn turned(s: Side) -> Side
 // Whether the corner to the left of who enters by `s` is in.
 fn corner_in(levels: &[u32], nx: usize, ny: usize, v: u32, row: usize, col: usize, s: Side) -> bool
     requires { ⌜ Sized (now levels) nx ny × WithinSquare nx ny row col ⌝ }
-    ensures { λ r. ⌜ r ≡ corner (picture (now (levels .entry)) nx ny v) row col s ⌝ }
+    ensures { λ r. ⌜ r ≡ corner (pictureBefore levels nx ny v) row col s ⌝ }
 {
     match s {
         Side::South => network::core::inside(levels, nx, ny, v, row, col),
@@ -57,7 +59,7 @@ fn cuts_out(levels: &[u32], nx: usize, ny: usize, v: u32, row: usize, col: usize
 // The side by which a line leaves the square that it entered by `s`. The corners are added up at a saddle only.
 fn exit_side(levels: &[u32], nx: usize, ny: usize, v: u32, row: usize, col: usize, s: Side) -> Side
     requires { ⌜ Sized (now levels) nx ny × WithinSquare nx ny row col ⌝ }
-    ensures { λ r. ⌜ r ≡ exitOf (picture (now (levels .entry)) nx ny v) row col s ⌝ }
+    ensures { λ r. ⌜ r ≡ exitOf (pictureBefore levels nx ny v) row col s ⌝ }
 {
     let on_right = turned(s);
     let across = turned(on_right);
@@ -81,7 +83,7 @@ fn exit_side(levels: &[u32], nx: usize, ny: usize, v: u32, row: usize, col: usiz
 
 // The square's edge at a side.
 fn side_edge(row: usize, col: usize, s: Side) -> Edge
-    requires { ⌜ (row < 256) × (col < 256) ⌝ }
+    requires { ⌜ (row < maxSide) × (col < maxSide) ⌝ }
     ensures { λ r. ⌜ r ≡ sideEdge row col s ⌝ }
 {
     match s {
@@ -94,7 +96,7 @@ fn side_edge(row: usize, col: usize, s: Side) -> Edge
 
 // What lies north, south, west and east of an edge.
 fn north_of(ny: usize, row: usize, col: usize) -> Ahead
-    requires { ⌜ row < 257 ⌝ }
+    requires { ⌜ row ≤ maxSide ⌝ }
     ensures { λ r. ⌜ r ≡ northOf ny row col ⌝ }
 {
     if row + 1 < ny {
@@ -122,7 +124,7 @@ fn west_of(row: usize, col: usize) -> Ahead
 }
 
 fn east_of(nx: usize, row: usize, col: usize) -> Ahead
-    requires { ⌜ col < 257 ⌝ }
+    requires { ⌜ col ≤ maxSide ⌝ }
     ensures { λ r. ⌜ r ≡ eastOf nx row col ⌝ }
 {
     if col + 1 < nx {
@@ -133,7 +135,7 @@ fn east_of(nx: usize, row: usize, col: usize) -> Ahead
 
 // What lies beyond a side of the square.
 fn beyond_side(nx: usize, ny: usize, row: usize, col: usize, s: Side) -> Ahead
-    requires { ⌜ (row < 256) × (col < 256) ⌝ }
+    requires { ⌜ (row < maxSide) × (col < maxSide) ⌝ }
     ensures { λ r. ⌜ r ≡ beyond nx ny row col s ⌝ }
 {
     match s {
@@ -171,10 +173,12 @@ pub struct Stand {
     pub ahead: Ahead,
 }
 
-// Through the square ahead to the edge by which the line leaves it. Outside the network stands the number of edges, which is no edge's.
+// Through the square ahead to the edge by which the line leaves it. Outside the network stands the number of edges,
+// which is no edge's.
 fn step(levels: &[u32], nx: usize, ny: usize, v: u32, ahead: Ahead) -> Stand
     requires { ⌜ Sized (now levels) nx ny × WithinAhead nx ny ahead ⌝ }
-    ensures { λ r. ⌜ (r .edge ≡ stepEdge (picture (now (levels .entry)) nx ny v) ahead) × (r .ahead ≡ stepAhead (picture (now (levels .entry)) nx ny v) ahead) ⌝ }
+    ensures { λ r. ⌜ (r .edge ≡ stepEdge (pictureBefore levels nx ny v) ahead)
+        × (r .ahead ≡ stepAhead (pictureBefore levels nx ny v) ahead) ⌝ }
 {
     match ahead {
         Ahead::Square(row, col, s) => {
@@ -202,7 +206,8 @@ pub(crate) fn still_waits(list: &[u8], n: usize) -> bool
     false
 }
 
-// Writes the contour from an edge on into `edges` from the place `from` on, and takes its edges from the waiting list. Returns the place after it.
+// Writes the contour from an edge on into `edges` from the place `from` on, and takes its edges from the waiting list.
+// Returns the place after it.
 pub(crate) fn trace(
     levels: &[u32],
     nx: usize,
@@ -213,8 +218,10 @@ pub(crate) fn trace(
     edges: &mut [u32],
     from: usize,
 ) -> usize
-    requires { ⌜ Sized (now levels) nx ny × Traceable (picture (now levels) nx ny v) (now list) (now edges) from (start .edge) (start .ahead) ⌝ }
-    ensures { λ r. ⌜ Traced (picture (now (levels .entry)) nx ny v) (now (list .entry)) (now (edges .entry)) from (start .edge) r (now (list .exit)) (now (edges .exit)) ⌝ }
+    requires { ⌜ Sized (now levels) nx ny
+        × Traceable (pictureNow levels nx ny v) (now list) (now edges) from (start .edge) (start .ahead) ⌝ }
+    ensures { λ r. ⌜ Traced (pictureBefore levels nx ny v) (now (list .entry)) (now (edges .entry)) from
+        (start .edge) r (now (list .exit)) (now (edges .exit)) ⌝ }
 {
     let mut here = start;
     let mut at = from;

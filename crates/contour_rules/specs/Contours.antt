@@ -27,8 +27,9 @@ unfoldable pub waiting : List ℕ → ℕ
 waiting [] = 0
 waiting (m ∷ list) = bit (eqb m 1) + waiting list
 
--- the edges from n on, each leading to the next one, until a crossing leaves the network or leads to an edge that no longer waits; at most as many as the first number says
-unfoldable pub follow : (ℕ → ℕ) → ℕ → List ℕ → ℕ → List ℕ
+-- the edges from n on, each leading to the next one, until a crossing leaves the network or leads to an edge that no
+-- longer waits; at most as many as `most` says
+unfoldable pub follow : (next : ℕ → ℕ) (most : ℕ) (list : List ℕ) (n : ℕ) → List ℕ
 follow next zero list n = []
 follow next (suc most) list n = cond (waits list n) (n ∷ follow next most (set list n 0) (next n)) []
 
@@ -49,14 +50,16 @@ pub record Listing : Type 0 where
 
 -- one contour more
 abbrev pub add : Bool → Listing → List ℕ → Listing
-add closes l ns = record { list = without (l .list) ns; found = l .found ++ (record { edges = ns; closes = closes } ∷ []) }
+add closes l ns =
+    record { list = without (l .list) ns; found = l .found ++ (record { edges = ns; closes = closes } ∷ []) }
 
 -- an open contour starts at an edge where it enters; a closed one, once all open ones are found, at any edge that waits
-abbrev pub try : Picture → Bool → Listing → ℕ → Listing
-try g closes l n = cond ((closes || entersAt g n) && waits (l .list) n) (add closes l (contourFrom g (l .list) n)) l
+abbrev pub try : (g : Picture) (closes : Bool) (l : Listing) (n : ℕ) → Listing
+try g closes l n =
+    cond ((closes || entersAt g n) && waits (l .list) n) (add closes l (contourFrom g (l .list) n)) l
 
 -- the edges below n are tried in the order of their numbers
-unfoldable pub swept : Picture → Bool → Listing → ℕ → Listing
+unfoldable pub swept : (g : Picture) (closes : Bool) (l : Listing) (n : ℕ) → Listing
 swept g closes l zero = l
 swept g closes l (suc n) = try g closes (swept g closes l n) n
 
@@ -68,7 +71,8 @@ crossedTo g (suc n) = crossedTo g n ++ (bit (crossedAt g n) ∷ [])
 abbrev pub noneListed : Picture → Listing
 noneListed g = record { list = crossedTo g (edgesIn g); found = [] }
 
--- open contours come first, by the number of the border edge where they enter; then closed ones by lowest edge, each starting there
+-- open contours come first, by the number of the border edge where they enter; then closed ones by lowest edge, each
+-- starting there
 abbrev pub openListed : Picture → Listing
 openListed g = swept g false (noneListed g) (edgesIn g)
 

@@ -32,7 +32,7 @@ abbrev pub eastOf : ℕ → ℕ → ℕ → Ahead
 eastOf nx row col = cond (ltb (col + 1) nx) (Square row col West) Outside
 
 -- what lies beyond a square's side
-abbrev pub beyond : ℕ → ℕ → ℕ → ℕ → Side → Ahead
+abbrev pub beyond : (nx ny row col : ℕ) (s : Side) → Ahead
 beyond nx ny row col South = southOf row col
 beyond nx ny row col East = eastOf nx row (col + 1)
 beyond nx ny row col North = northOf ny (row + 1) col
@@ -43,8 +43,9 @@ abbrev pub firstIn : Picture → Edge → Bool
 firstIn g (Horizontal row col) = g .inside row col
 firstIn g (Vertical row col) = g .inside row col
 
--- across an edge with that end on the left, or on the right: from a west end north or south, from a south end west or east
-abbrev pub acrossOf : ℕ → ℕ → Bool → Edge → Ahead
+-- across an edge with that end on the left, or on the right: from a west end north or south, from a south end west or
+-- east
+abbrev pub acrossOf : (nx ny : ℕ) (left : Bool) (e : Edge) → Ahead
 acrossOf nx ny left (Horizontal row col) = cond left (northOf ny row col) (southOf row col)
 acrossOf nx ny left (Vertical row col) = cond left (westOf row col) (eastOf nx row col)
 

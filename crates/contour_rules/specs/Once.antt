@@ -49,7 +49,7 @@ pub record Exits (g : Picture) (n : ℕ) : Type 0 where
   pub no-next : nextAt g n ≡ edgesIn g
 
 -- from n on each edge leads to the one listed after it, and the last one has the property
-abbrev pub Chain : Picture → (ℕ → Type 0) → ℕ → List ℕ → Type 0
+abbrev pub Chain : (g : Picture) (Last : ℕ → Type 0) (n : ℕ) (ms : List ℕ) → Type 0
 Chain g Last n [] = Last n
 Chain g Last n (m ∷ ms) = Follows g n m × Chain g Last m ms
 
@@ -75,7 +75,8 @@ firstEdge c = getD (c .edges) 0 0
 
 -- c is listed before d: it is open and d closes, or both are of one kind and c starts at the lower edge
 abbrev pub Before : Contour → Contour → Type 0
-Before c d = ((c .closes ≡ false) × (d .closes ≡ true)) ⊎ ((c .closes ≡ d .closes) × (firstEdge c < firstEdge d))
+Before c d =
+    ((c .closes ≡ false) × (d .closes ≡ true)) ⊎ ((c .closes ≡ d .closes) × (firstEdge c < firstEdge d))
 
 -- every contour of a list has the property
 abbrev pub All : (Contour → Type 0) → List Contour → Type 0

@@ -45,7 +45,8 @@ module _ (levels : List ℕ) (nx ny v : ℕ) where
   -- so is the edge of its number, r·(nx−1)+c for a horizontal one and ny·(nx−1)+r·nx+c for a vertical one.
   pub record CrossesExactly (row col : ℕ) : Type 0 where
     pub lying : row < ny → col + 1 < nx → IsCrossed (Horizontal row col) ↔ OneIn levels nx v row col row (col + 1)
-    pub standing : row + 1 < ny → col < nx → IsCrossed (Vertical row col) ↔ OneIn levels nx v row col (row + 1) col
+    pub standing : row + 1 < ny → col < nx
+        → IsCrossed (Vertical row col) ↔ OneIn levels nx v row col (row + 1) col
     pub lying-at : row < ny → col + 1 < nx
         → (crossedAt lines (row * (nx - 1) + col) ≡ true) ↔ OneIn levels nx v row col row (col + 1)
     pub standing-at : row + 1 < ny → col < nx

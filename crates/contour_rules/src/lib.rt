@@ -1,4 +1,5 @@
-// The sides of a network's squares, by which contour lines enter and leave them. The theory of these lines stands in specs/ and proofs/.
+// The sides of a network's squares, by which contour lines enter and leave them. The theory of these lines stands in
+// specs/ and proofs/.
 
 // A side of a square, counterclockwise.
 pub enum Side {

@@ -1,6 +1,5 @@
 // The sheet on standard output. Each part is put together in a buffer and handed to one write, where it is due: behind
 // the part before it. The text of a level's contours goes out in parts of up to 4,096 bytes, so it may have any length.
-use contour::core::MAX_EDGES;
 use contour::core::Progress;
 use contours_steps::core::intake::Turn;
 use contours_steps::core::put::put_refused;
@@ -8,13 +7,14 @@ use contours_steps::core::put::put_start;
 use contours_steps::words::Given;
 use libc::STDOUT_FILENO;
 use network::Frame;
+use network::limits::MAX_EDGES;
 use wkt::core::first;
 use wkt::core::print_part;
 ghost use mathlib.Core.Path.{_≡_};
 ghost use Prim.Native.Nat.{_+_, _≤_, _<_};
 ghost use lib.ListN.{length, getD, take};
 ghost use Rattle.wkt.specs.Calls.{networkText};
-ghost use Rattle.wkt.specs.Parts.{Printable, linesFrom};
+ghost use Rattle.wkt.specs.InnerParts.{Printable, linesFrom};
 ghost use Rattle.wkt.specs.Text.{textOf};
 ghost use Rattle.contours_steps.specs.Sheet.{lineStart, levelLine, sheetOf, refusedLine, lineBegun, overlongLine};
 ghost use Rattle.contours_steps.specs.Words.{Gathered};

@@ -17,7 +17,7 @@ use Rattle.contour_rules.specs.Picture.{Picture, picture}
 use Rattle.contour_rules.specs.Contours.{contoursOf, edgesOf, countsOf, closedOf}
 use Rattle.wkt.specs.declared.Cursor.{Cursor}
 use Rattle.wkt.specs.Text.{textOf}
-use Rattle.wkt.specs.Parts.{linesFrom, Printable, Reached, leftOf, pieceOf, nextOf}
+use Rattle.wkt.specs.InnerParts.{linesFrom, Printable, Reached, leftOf, pieceOf, nextOf}
 use Rattle.wkt.specs.Calls.{networkText}
 use Rattle.wkt.proofs.Lengths.{piece-short}
 use Rattle.wkt.proofs.Steps.{ahead, goes, left-end, left-first, reached-first, count-total}

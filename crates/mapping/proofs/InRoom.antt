@@ -1,56 +1,40 @@
 -- What the calls leave in lent room, place by place. Assumes nothing.
 use mathlib.Core.Path.{_≡_, refl, sym, ap, _∙_, subst}
-use mathlib.Core.Bool.{Bool, true, false, _&&_, cond, true≢false}
-use mathlib.Core.Logic.{_⊎_, inl, inr, _↔_}
-use mathlib.Core.List.{List, [], _∷_, _++_}
-use Prim.Native.Nat.{ℕ, zero, suc, _+_, _-_, _*_, _≤_, _<_}
+use mathlib.Core.Bool.{Bool, true, _&&_}
+use mathlib.Core.Logic.{_↔_}
+use mathlib.Core.List.{List, [], _∷_}
+use Prim.Native.Nat.{ℕ, zero, suc, _+_, _*_, _≤_, _<_}
 use native.Mathlib.Omega.{arith}
-use borrow.Author.Tests.{leb-true, le-leb, eqb-true, eqb-false, eq-eqb, ne-eqb}
-use lib.Dec.{leb, eqb}
+use borrow.Author.Tests.{leb-true, le-leb}
+use lib.Dec.{leb}
 use lib.Ieee.{Float}
-use lib.ListN.{length, getD, drop, List·getD-append}
-use lib.Seq.{getD-append-add, getD-drop}
+use lib.ListN.{length, getD}
+use Rattle.refusal.specs.Refuse.{refuse}
+use Rattle.room.specs.Room.{front, fitsIn, thenRoom}
+use Rattle.room.proofs.Fronts.{front-at, front-past, left-alone}
+use Rattle.room.proofs.Answers.{first-none}
 use Rattle.network.specs.declared.Frame.{Frame}
 use Rattle.network.specs.Ranges.{RoomRefused}
-use Rattle.network.specs.Refusals.{contourChecked, contourRefusal}
-use Rattle.network.proofs.Refusals.{both, contour-off}
+use Rattle.network.specs.Refusals.{contourRefusal}
+use Rattle.network.proofs.Refusals.{both}
 use Rattle.network.proofs.Ranges.{room-refused}
-use Rattle.mapping.specs.Fractions.{whole, crossingOf, whichOf, fractionShown, askedWhich, askedFraction, crossingAsked}
+use Rattle.mapping.specs.Fractions.{whole, crossingOf, whichOf, fractionShown, askedWhich, askedFraction}
+use Rattle.mapping.specs.Fractions.{crossingAsked}
 use Rattle.mapping.specs.Places.{locatedOf, shownOf, mappedShown, mappedOf}
-use Rattle.mapping.specs.Many.{numbersOf, placesOf, over, manyRefusal, Many}
-use Rattle.mapping.specs.Lent.{lentRefusal, Lent}
+use Rattle.mapping.specs.Many.{numbersOf, placesOf, Many}
+use Rattle.mapping.specs.Lent.{Lent}
 use Rattle.mapping.specs.Room.{shownAt, ManyInRoom, CrossingInRoom}
 use Rattle.mapping.proofs.Fill.{length-numbers, length-places}
-
--- ---- an answer at the front of old room
-
-module _ {A : Type 0} (old new : List A) (i : ℕ) (d : A) where
-  over-at : i < length new → getD (over old new) i d ≡ getD new i d
-  unfolding over
-  over-at h = List·getD-append new (drop (length new) old) d i h
-
-  over-past : length new ≤ i → getD (over old new) i d ≡ getD old i d
-  unfolding over
-  over-past h =
-      let e : i ≡ length new + (i - length new) = omega arith in
-      ap (λ (k : ℕ). getD (new ++ drop (length new) old) k d) e
-      ∙ getD-append-add new (drop (length new) old) (i - length new) d
-      ∙ getD-drop (length new) old (i - length new) d
-      ∙ ap (λ (k : ℕ). getD old k d) (sym e)
 
 -- ---- refusals
 
 both-leb : (a b c d : ℕ) → ((leb a b && leb c d) ≡ true) ↔ ((a ≤ b) × (c ≤ d))
-both-leb a b c d = (λ h. let p = both (leb a b) (leb c d) h in (leb-true _ _ (p .0), leb-true _ _ (p .1)), λ h. rw (le-leb a b (h .0), le-leb c d (h .1)))
+both-leb a b c d = (
+  λ h. let p = both (leb a b) (leb c d) h in (leb-true _ _ (p .0), leb-true _ _ (p .1)),
+  λ h. rw (le-leb a b (h .0), le-leb c d (h .1)),
+)
 
 module _ (levels : List ℕ) (f : Frame) (v : ℕ) where
-  not-refused : (rest : ℕ) → contourChecked levels f v rest ≡ 0 → contourRefusal levels f v ≡ 0
-  not-refused rest h = go (eqb (contourRefusal levels f v) 0) refl
-    where
-      go : (b : Bool) → eqb (contourRefusal levels f v) 0 ≡ b → contourRefusal levels f v ≡ 0
-      go true e = eqb-true _ _ e
-      go false e = sym (contour-off levels f v rest (eqb-false _ _ e)) ∙ h
-
   -- ---- many
 
   numbers-at : (ns : List ℕ) (i : ℕ) → i < length ns → getD (numbersOf levels f v ns) i 0 ≡ shownOf (locatedOf levels f v (getD ns i 0)) .which
@@ -70,60 +54,107 @@ module _ (levels : List ℕ) (f : Frame) (v : ℕ) where
       let r = places-at ns i d (omega arith) in
       (ap (λ (k : ℕ). getD (placesOf levels f v (n ∷ ns)) k d) e ∙ r .0, ap (λ (k : ℕ). getD (placesOf levels f v (n ∷ ns)) k d) e' ∙ r .1)
 
-  module _ (edges which : List ℕ) (places : List Float) (answer : ℕ) (which' : List ℕ) (places' : List Float) (m : Many levels f v edges which places answer which' places') where
+  module _ (edges which : List ℕ) (places : List Float) (answer : ℕ) (which' : List ℕ) (places' : List Float)
+      (m : Many levels f v edges which places answer which' places') where
+    abbrev fits : Bool
+    fits = fitsIn (numbersOf levels f v edges) which && fitsIn (placesOf levels f v edges) places
+
+    abbrev Enough : Type 0
+    Enough = (length edges ≤ length which) × (2 * length edges ≤ length places)
+
+    enough : (fits ≡ true) ↔ Enough
+    enough =
+        let n = length-numbers levels f v edges in
+        let p = length-places levels f v edges in
+        let i = both-leb (length (numbersOf levels f v edges)) (length which) (length (placesOf levels f v edges)) (length places) in (
+          λ h. let k = i .0 h in (omega (arith, k .0, n), omega (arith, k .1, p)),
+          λ h. i .1 (omega (arith, h .0, n), omega (arith, h .1, p)),
+        )
+
     module _ (z : answer ≡ 0) where
-      none : manyRefusal levels f v edges which places ≡ 0
+      none : thenRoom (contourRefusal levels f v) fits ≡ 0
       none = sym (m .number) ∙ z
 
-      numbers : which' ≡ over which (numbersOf levels f v edges)
-      numbers = m .numbers ∙ rw none refl
+      numbers : which' ≡ front (numbersOf levels f v edges) which
+      numbers = m .left-first ∙ rw none refl
 
-      coordinates : places' ≡ over places (placesOf levels f v edges)
-      coordinates = m .coordinates ∙ rw none refl
+      coordinates : places' ≡ front (placesOf levels f v edges) places
+      coordinates = m .left-second ∙ rw none refl
 
       shown : (n : ℕ) → shownOf (locatedOf levels f v n) ≡ shownAt levels f v n
-      shown n = rw (not-refused _ none)
+      shown n = rw (first-none (contourRefusal levels f v) (refuse 14 fits 0) none .0)
 
     pub many-in-room : ManyInRoom levels f v edges which places answer which' places'
     many-in-room = record {
-      refusal = subst (RoomRefused levels f v ((length edges ≤ length which) × (2 * length edges ≤ length places))) (sym (m .number))
-          (room-refused levels f v ((length edges ≤ length which) × (2 * length edges ≤ length places)) _ (both-leb (length edges) (length which) (2 * length edges) (length places)));
-      refused = λ h.
-          let n : eqb (manyRefusal levels f v edges which places) 0 ≡ false = ne-eqb _ 0 (λ e. h (m .number ∙ e)) in
-          (m .numbers ∙ rw n refl, m .coordinates ∙ rw n refl);
-      number = λ z i h. rw (numbers z, over-at which (numbersOf levels f v edges) i 0 (rw (length-numbers levels f v edges) h), numbers-at edges i h) (ap (λ s. s .which) (shown z (getD edges i 0)));
+      refusal = subst (RoomRefused levels f v Enough) (sym (m .number)) (room-refused levels f v Enough fits enough);
+      refused = λ h. (
+        m .left-first ∙ left-alone (thenRoom (contourRefusal levels f v) fits) (numbersOf levels f v edges) which (λ e. h (m .number ∙ e)),
+        m .left-second ∙ left-alone (thenRoom (contourRefusal levels f v) fits) (placesOf levels f v edges) places (λ e. h (m .number ∙ e)),
+      );
+      number = λ z i h. rw (
+        numbers z,
+        front-at (numbersOf levels f v edges) which i 0 (rw (length-numbers levels f v edges) h),
+        numbers-at edges i h,
+      ) (ap (λ s. s .which) (shown z (getD edges i 0)));
       east = λ z i h.
           let l : length (placesOf levels f v edges) ≡ 2 * length edges = length-places levels f v edges in
-          rw (coordinates z, over-at places (placesOf levels f v edges) (2 * i) (whole 0) (omega arith), places-at edges i (whole 0) h .0) (ap (λ s. s .x) (shown z (getD edges i 0)));
+          rw (
+            coordinates z,
+            front-at (placesOf levels f v edges) places (2 * i) (whole 0) (omega arith),
+            places-at edges i (whole 0) h .0,
+          ) (ap (λ s. s .x) (shown z (getD edges i 0)));
       north = λ z i h.
           let l : length (placesOf levels f v edges) ≡ 2 * length edges = length-places levels f v edges in
-          rw (coordinates z, over-at places (placesOf levels f v edges) (2 * i + 1) (whole 0) (omega arith), places-at edges i (whole 0) h .1) (ap (λ s. s .y) (shown z (getD edges i 0)));
-      which-kept = λ z i h. rw (numbers z) (over-past which (numbersOf levels f v edges) i 0 (rw (length-numbers levels f v edges) h));
-      places-kept = λ z i h. rw (coordinates z) (over-past places (placesOf levels f v edges) i (whole 0) (rw (length-places levels f v edges) h));
+          rw (
+            coordinates z,
+            front-at (placesOf levels f v edges) places (2 * i + 1) (whole 0) (omega arith),
+            places-at edges i (whole 0) h .1,
+          ) (ap (λ s. s .y) (shown z (getD edges i 0)));
+      which-kept = λ z i h. rw (numbers z)
+          (front-past (numbersOf levels f v edges) which i 0 (rw (length-numbers levels f v edges) h));
+      places-kept = λ z i h. rw (coordinates z)
+          (front-past (placesOf levels f v edges) places i (whole 0) (rw (length-places levels f v edges) h));
     }
 
   -- ---- one crossing
 
-  module _ (n : ℕ) (which : List ℕ) (fraction : List Float) (answer : ℕ) (which' : List ℕ) (fraction' : List Float) (m : Lent levels f v n which fraction answer which' fraction') where
+  module _ (n : ℕ) (which : List ℕ) (fraction : List Float) (answer : ℕ) (which' : List ℕ) (fraction' : List Float)
+      (m : Lent levels f v n which fraction answer which' fraction') where
+    abbrev kinds : List ℕ
+    kinds = whichOf (crossingOf levels f v n) ∷ []
+
+    abbrev parts : List Float
+    parts = fractionShown (crossingOf levels f v n) ∷ []
+
+    abbrev lent-fits : Bool
+    lent-fits = fitsIn kinds which && fitsIn parts fraction
+
+    abbrev LentEnough : Type 0
+    LentEnough = (1 ≤ length which) × (1 ≤ length fraction)
+
     module _ (z : answer ≡ 0) where
-      lent-none : lentRefusal levels f v which fraction ≡ 0
+      lent-none : thenRoom (contourRefusal levels f v) lent-fits ≡ 0
       lent-none = sym (m .number) ∙ z
 
-      kind : which' ≡ over which (whichOf (crossingOf levels f v n) ∷ [])
-      kind = m .kind ∙ rw lent-none refl
+      kind : which' ≡ front kinds which
+      kind = m .left-first ∙ rw lent-none refl
 
-      part : fraction' ≡ over fraction (fractionShown (crossingOf levels f v n) ∷ [])
-      part = m .place ∙ rw lent-none refl
+      part : fraction' ≡ front parts fraction
+      part = m .left-second ∙ rw lent-none refl
+
+      right : contourRefusal levels f v ≡ 0
+      right = first-none (contourRefusal levels f v) (refuse 14 lent-fits 0) lent-none .0
 
     pub crossing-in-room : CrossingInRoom levels f v n which fraction answer which' fraction'
     crossing-in-room = record {
-      refusal = subst (RoomRefused levels f v ((1 ≤ length which) × (1 ≤ length fraction))) (sym (m .number))
-          (room-refused levels f v ((1 ≤ length which) × (1 ≤ length fraction)) _ (both-leb 1 (length which) 1 (length fraction)));
-      refused = λ h.
-          let k : eqb (lentRefusal levels f v which fraction) 0 ≡ false = ne-eqb _ 0 (λ e. h (m .number ∙ e)) in
-          (m .kind ∙ rw k refl, m .place ∙ rw k refl);
-      number = λ z. rw (kind z, over-at which (whichOf (crossingOf levels f v n) ∷ []) 0 0 (omega arith), not-refused _ (lent-none z)) refl;
-      place = λ z. rw (part z, over-at fraction (fractionShown (crossingOf levels f v n) ∷ []) 0 (whole 0) (omega arith), not-refused _ (lent-none z)) refl;
-      which-kept = λ z i h. rw (kind z) (over-past which (whichOf (crossingOf levels f v n) ∷ []) i 0 h);
-      fraction-kept = λ z i h. rw (part z) (over-past fraction (fractionShown (crossingOf levels f v n) ∷ []) i (whole 0) h);
+      refusal = subst (RoomRefused levels f v LentEnough) (sym (m .number))
+          (room-refused levels f v LentEnough lent-fits (both-leb 1 (length which) 1 (length fraction)));
+      refused = λ h. (
+        m .left-first ∙ left-alone (thenRoom (contourRefusal levels f v) lent-fits) kinds which (λ e. h (m .number ∙ e)),
+        m .left-second ∙ left-alone (thenRoom (contourRefusal levels f v) lent-fits) parts fraction (λ e. h (m .number ∙ e)),
+      );
+      number = λ z. rw (kind z, right z) refl;
+      place = λ z. rw (part z, right z) refl;
+      which-kept = λ z i h. rw (kind z) (front-past kinds which i 0 h);
+      fraction-kept = λ z i h. rw (part z) (front-past parts fraction i (whole 0) h);
     }

@@ -5,6 +5,5 @@ pub mod Ends
 pub mod Zero
 pub mod Fill
 pub mod Rooms
-pub mod Lends
 pub mod Ranges
 pub mod InRoom

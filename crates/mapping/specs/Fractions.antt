@@ -32,18 +32,18 @@ abbrev pub fractionOf : ℕ → ℕ → ℕ → Float
 fractionOf v a b = round binary64 false (distance v a) (distance b a)
 
 -- the crossing of an edge of the network that is crossed
-abbrev pub alongEdge : List ℕ → ℕ → ℕ → Edge → Crossing
+abbrev pub alongEdge : (levels : List ℕ) (nx v : ℕ) (e : Edge) → Crossing
 alongEdge levels nx v (Horizontal row col) =
     AlongHorizontal (fractionOf v (levelAt levels nx row col) (levelAt levels nx row (col + 1)))
 alongEdge levels nx v (Vertical row col) =
     AlongVertical (fractionOf v (levelAt levels nx row col) (levelAt levels nx (row + 1) col))
 
 -- whether the edge of that number is in the network and crossed
-abbrev pub isCrossed : List ℕ → Frame → ℕ → ℕ → Bool
+abbrev pub isCrossed : (levels : List ℕ) (f : Frame) (v n : ℕ) → Bool
 isCrossed levels f v n = ltb n (edges (f .columns) (f .rows)) && crossedAt levels (f .columns) (f .rows) v n
 
 -- the crossing of the edge of a number: none exactly where that edge isn't in the network or isn't crossed
-abbrev pub crossingOf : List ℕ → Frame → ℕ → ℕ → Crossing
+abbrev pub crossingOf : (levels : List ℕ) (f : Frame) (v n : ℕ) → Crossing
 crossingOf levels f v n =
     cond (isCrossed levels f v n) (alongEdge levels (f .columns) v (edgeAt (f .columns) (f .rows) n)) Nowhere
 
@@ -72,6 +72,6 @@ askedFraction (Crossed c) = fractionShown c
 askedFraction (Refused n) = whole 0
 
 -- the call: 12, 13, 15, and then the crossing
-abbrev pub crossingAsked : List ℕ → Frame → ℕ → ℕ → Asked
+abbrev pub crossingAsked : (levels : List ℕ) (f : Frame) (v n : ℕ) → Asked
 crossingAsked levels f v n =
     cond (eqb (contourRefusal levels f v) 0) (Crossed (crossingOf levels f v n)) (Refused (contourRefusal levels f v))

@@ -21,7 +21,7 @@ use Rattle.mapping.specs.Fractions.{whole, crossingOf}
 
 -- the coordinate that moves along the edge: ((index + fraction) * spacing) + origin in that order, each step rounded
 -- once; and the other, exact
-abbrev pub moving : ℕ → Float → ℕ → ℕ → Float
+abbrev pub moving : (index : ℕ) (f : Float) (spacing origin : ℕ) → Float
 moving index f spacing origin =
     add binary64 (mul binary64 (add binary64 (whole index) f) (whole spacing)) (whole origin)
 
@@ -38,7 +38,7 @@ colOf (Horizontal row col) = col
 colOf (Vertical row col) = col
 
 -- the map point of a crossing on the edge whose west or south end is at that row and column
-abbrev pub locate : Crossing → ℕ → ℕ → Frame → Located
+abbrev pub locate : (c : Crossing) (row col : ℕ) (f : Frame) → Located
 locate Nowhere row col f = Off
 locate (AlongHorizontal t) row col f =
     OnHorizontal (record { x = moving col t (f .spacing) (f .west); y = still row (f .spacing) (f .south) })
@@ -46,7 +46,7 @@ locate (AlongVertical t) row col f =
     OnVertical (record { x = still col (f .spacing) (f .west); y = moving row t (f .spacing) (f .south) })
 
 -- the map point of the edge of a number: none where its crossing is
-abbrev pub locatedOf : List ℕ → Frame → ℕ → ℕ → Located
+abbrev pub locatedOf : (levels : List ℕ) (f : Frame) (v n : ℕ) → Located
 locatedOf levels f v n =
     locate (crossingOf levels f v n) (rowOf (edgeAt (f .columns) (f .rows) n))
     (colOf (edgeAt (f .columns) (f .rows) n)) f
@@ -67,6 +67,6 @@ mappedShown (Place l) = shownOf l
 mappedShown (Denied n) = shownOf Off
 
 -- the call: 12, 13, 15, and then the map point
-abbrev pub mappedOf : List ℕ → Frame → ℕ → ℕ → Mapped
+abbrev pub mappedOf : (levels : List ℕ) (f : Frame) (v n : ℕ) → Mapped
 mappedOf levels f v n =
     cond (eqb (contourRefusal levels f v) 0) (Place (locatedOf levels f v n)) (Denied (contourRefusal levels f v))

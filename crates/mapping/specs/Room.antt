@@ -18,7 +18,8 @@ module _ (levels : List ℕ) (f : Frame) (v : ℕ) where
   -- many edges, into room for numbers and room for coordinates
   pub record ManyInRoom (edges which : List ℕ) (places : List Float) (answer : ℕ) (which' : List ℕ)
       (places' : List Float) : Type 0 where
-    pub refusal : RoomRefused levels f v ((length edges ≤ length which) × (2 * length edges ≤ length places)) answer
+    pub refusal
+        : RoomRefused levels f v ((length edges ≤ length which) × (2 * length edges ≤ length places)) answer
     pub refused : (answer ≡ 0 → ⊥) → (which' ≡ which) × (places' ≡ places)
     pub number : answer ≡ 0 → (i : ℕ) → i < length edges → getD which' i 0 ≡ shownAt (getD edges i 0) .which
     pub east : answer ≡ 0 → (i : ℕ) → i < length edges
@@ -37,4 +38,5 @@ module _ (levels : List ℕ) (f : Frame) (v : ℕ) where
     pub number : answer ≡ 0 → getD which' 0 0 ≡ askedWhich (crossingAsked levels f v n)
     pub place : answer ≡ 0 → getD fraction' 0 (whole 0) ≡ askedFraction (crossingAsked levels f v n)
     pub which-kept : answer ≡ 0 → (i : ℕ) → 1 ≤ i → getD which' i 0 ≡ getD which i 0
-    pub fraction-kept : answer ≡ 0 → (i : ℕ) → 1 ≤ i → getD fraction' i (whole 0) ≡ getD fraction i (whole 0)
+    pub fraction-kept : answer ≡ 0
+        → (i : ℕ) → 1 ≤ i → getD fraction' i (whole 0) ≡ getD fraction i (whole 0)

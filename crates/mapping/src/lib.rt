@@ -2,18 +2,21 @@
 ghost use mathlib.Core.Path.{_≡_};
 ghost use Prim.Native.Nat.{_*_, _≤_};
 ghost use lib.ListN.{length};
+ghost use Rattle.room.specs.Room.{front};
 ghost use Rattle.network.specs.Edges.{Checked};
 ghost use Rattle.mapping.specs.Fractions.{whichOf, fractionShown, crossingAsked};
 ghost use Rattle.mapping.specs.Places.{shownOf, mappedOf};
-ghost use Rattle.mapping.specs.Many.{numbersOf, placesOf, over, Many};
+ghost use Rattle.mapping.specs.Many.{numbersOf, placesOf, Many};
 ghost use Rattle.mapping.specs.Lent.{Lent};
 ghost use mathlib.Core.List.{_∷_, []};
 use network::Frame;
+use network::limits::MAX_NETWORK_LEVEL;
 
 mod edge;
 mod place;
 
-// Where a contour crosses an edge: not at all, or at a fraction of a horizontal or a vertical edge from its west or south end.
+// Where a contour crosses an edge: not at all, or at a fraction of a horizontal or a vertical edge from its west or
+// south end.
 pub enum Crossing {
     Nowhere,
     AlongHorizontal(f64),
@@ -101,7 +104,7 @@ pub fn shown_of(l: Located) -> Shown
 pub fn crossing_at(levels: &[u32], frame: Frame, v: u32, n: u32) -> Asked
     ensures { λ r. ⌜ r ≡ crossingAsked (now (levels .entry)) frame v n ⌝ }
 {
-    let why = network::contour_refusal(levels, frame, v);
+    let why = network::contour_refusal(levels, frame, v, MAX_NETWORK_LEVEL);
     if why == 0 {
         return Asked::Crossed(edge::crossing_of(levels, frame, v, n));
     }
@@ -112,7 +115,7 @@ pub fn crossing_at(levels: &[u32], frame: Frame, v: u32, n: u32) -> Asked
 pub fn map_point(levels: &[u32], frame: Frame, v: u32, n: u32) -> Mapped
     ensures { λ r. ⌜ r ≡ mappedOf (now (levels .entry)) frame v n ⌝ }
 {
-    let why = network::contour_refusal(levels, frame, v);
+    let why = network::contour_refusal(levels, frame, v, MAX_NETWORK_LEVEL);
     if why == 0 {
         return Mapped::Place(place::locate_at(levels, frame, v, n));
     }
@@ -128,8 +131,12 @@ fn fill_points(
     which: &mut [u32],
     places: &mut [f64],
 )
-    requires { ⌜ Checked (now levels) frame × ((length (now edges) ≤ length (now which)) × (2 * length (now edges) ≤ length (now places))) ⌝ }
-    ensures { λ _. ⌜ (now (which .exit) ≡ over (now (which .entry)) (numbersOf (now (levels .entry)) frame v (now (edges .entry)))) × (now (places .exit) ≡ over (now (places .entry)) (placesOf (now (levels .entry)) frame v (now (edges .entry)))) ⌝ }
+    requires { ⌜ Checked (now levels) frame
+        × ((length (now edges) ≤ length (now which)) × (2 * length (now edges) ≤ length (now places))) ⌝ }
+    ensures { λ _. ⌜ (now (which .exit)
+        ≡ front (numbersOf (now (levels .entry)) frame v (now (edges .entry))) (now (which .entry)))
+        × (now (places .exit)
+        ≡ front (placesOf (now (levels .entry)) frame v (now (edges .entry))) (now (places .entry))) ⌝ }
 {
     let mut i = 0;
     while i < edges.len() {
@@ -150,9 +157,10 @@ pub fn map_points(
     which: &mut [u32],
     places: &mut [f64],
 ) -> u32
-    ensures { λ r. ⌜ Many (now (levels .entry)) frame v (now (edges .entry)) (now (which .entry)) (now (places .entry)) r (now (which .exit)) (now (places .exit)) ⌝ }
+    ensures { λ r. ⌜ Many (now (levels .entry)) frame v (now (edges .entry)) (now (which .entry))
+        (now (places .entry)) r (now (which .exit)) (now (places .exit)) ⌝ }
 {
-    let why = network::contour_refusal(levels, frame, v);
+    let why = network::contour_refusal(levels, frame, v, MAX_NETWORK_LEVEL);
     if why == 0 {
         if edges.len() <= which.len() {
             if edges.len() <= places.len() / 2 {
@@ -174,9 +182,10 @@ pub fn put_crossing(
     which: &mut [u32],
     fraction: &mut [f64],
 ) -> u32
-    ensures { λ r. ⌜ Lent (now (levels .entry)) frame v n (now (which .entry)) (now (fraction .entry)) r (now (which .exit)) (now (fraction .exit)) ⌝ }
+    ensures { λ r. ⌜ Lent (now (levels .entry)) frame v n (now (which .entry)) (now (fraction .entry)) r
+        (now (which .exit)) (now (fraction .exit)) ⌝ }
 {
-    let why = network::contour_refusal(levels, frame, v);
+    let why = network::contour_refusal(levels, frame, v, MAX_NETWORK_LEVEL);
     if why == 0 {
         if 1 <= which.len() {
             if 1 <= fraction.len() {
@@ -200,7 +209,8 @@ pub fn put_map_point(
     which: &mut [u32],
     place: &mut [f64],
 ) -> u32
-    ensures { λ r. ⌜ Many (now (levels .entry)) frame v (n ∷ []) (now (which .entry)) (now (place .entry)) r (now (which .exit)) (now (place .exit)) ⌝ }
+    ensures { λ r. ⌜ Many (now (levels .entry)) frame v (n ∷ []) (now (which .entry)) (now (place .entry)) r
+        (now (which .exit)) (now (place .exit)) ⌝ }
 {
     let edges = [n];
     map_points(levels, frame, v, &edges, which, place)

@@ -28,7 +28,8 @@ fn stay(index: u32, spacing: u32, origin: u32) -> f64
 
 // The map point of a crossing on the edge whose west or south end is at that row and column.
 fn locate_crossing(c: Crossing, row: u32, col: u32, frame: Frame) -> Located
-    requires { ⌜ ((row < maxSide) × (col < maxSide)) × ((frame .spacing ≤ maxSpacing) × ((frame .west ≤ maxOrigin) × (frame .south ≤ maxOrigin))) ⌝ }
+    requires { ⌜ ((row < maxSide) × (col < maxSide))
+        × ((frame .spacing ≤ maxSpacing) × ((frame .west ≤ maxOrigin) × (frame .south ≤ maxOrigin))) ⌝ }
     ensures { λ r. ⌜ r ≡ locate c row col frame ⌝ }
 {
     let spacing = frame.spacing;

@@ -9,6 +9,7 @@ use lib.Arith.{digits-lt, digits-div, digits-mod}
 use lib.Dec.{ltb}
 use Rattle.network.specs.declared.Edge.{Edge}
 use Rattle.network.specs.declared.Edge.the-variants.{Horizontal, Vertical}
+use Rattle.network.specs.Limits.{maxSide, maxEdges}
 use Rattle.network.specs.Edges.{Sides, horizontals, edges, numberOf, edgeAt, WithinEdge}
 
 -- by which way a test went
@@ -35,7 +36,10 @@ module _ (nx ny : ℕ) (wide : 2 ≤ nx) where
   edge-within n h =
       by-cond (WithinEdge nx ny) (ltb n (horizontals nx ny)) _ _
       (λ t. (row-lt n (nx - 1) ny (omega arith) (ltb-true _ _ t), more-one _ _ (mod-lt n (omega arith))))
-      (λ f. (more-one _ _ (row-lt (n - horizontals nx ny) nx (ny - 1) (omega arith) (omega (arith, ltb-false n (horizontals nx ny) f))), mod-lt (n - horizontals nx ny) (omega arith)))
+      (λ f. (
+        more-one _ _ (row-lt (n - horizontals nx ny) nx (ny - 1) (omega arith) (omega (arith, ltb-false n (horizontals nx ny) f))),
+        mod-lt (n - horizontals nx ny) (omega arith),
+      ))
 
   pub at-number : (e : Edge) → WithinEdge nx ny e → edgeAt nx ny (numberOf nx ny e) ≡ e
   at-number (Horizontal row col) w = simp (lt-ltb _ _ (digits-lt (w .0) (less-one col nx (w .1))), digits-div row (less-one col nx (w .1)), digits-mod row (less-one col nx (w .1)))
@@ -51,11 +55,11 @@ module _ (nx ny : ℕ) (wide : 2 ≤ nx) where
       (λ f. omega (arith, ltb-false n (horizontals nx ny) f, div-add-mod' (n - horizontals nx ny) nx))
 
 -- a network has at most 130,560 edges
-pub edges-le : (nx ny : ℕ) → nx ≤ 256 → ny ≤ 256 → edges nx ny ≤ 130560
+pub edges-le : (nx ny : ℕ) → nx ≤ maxSide → ny ≤ maxSide → edges nx ny ≤ maxEdges
 edges-le nx ny h k =
     let h' : nx - 1 ≤ 255 = omega arith in
     let k' : ny - 1 ≤ 255 = omega arith in
     omega (arith, mul-le-mul k h', mul-le-mul k' h)
 
-pub number-small : {nx ny : ℕ} (e : Edge) → Sides nx ny → WithinEdge nx ny e → numberOf nx ny e < 130560
+pub number-small : {nx ny : ℕ} (e : Edge) → Sides nx ny → WithinEdge nx ny e → numberOf nx ny e < maxEdges
 number-small {nx} {ny} e s w = omega (arith, number-lt nx ny (s .wide) e w, edges-le nx ny (s .narrow) (s .low))

@@ -1,5 +1,5 @@
 -- Refusals 12, 13 and 15 are given exactly where the rules say. Assumes nothing.
-use mathlib.Core.Path.{_≡_, refl, sym, ap, _∙_}
+use mathlib.Core.Path.{_≡_, refl, sym, ap, _∙_, subst}
 use mathlib.Core.Bool.{Bool, true, false, _&&_, cond, true≢false}
 use mathlib.Core.Logic.{_⊎_, inl, inr, ⊎-elim, _↔_}
 use mathlib.Core.List.{List, [], _∷_}
@@ -9,12 +9,15 @@ use borrow.Author.Tests.{le-leb, eq-eqb, leb-true, eqb-true}
 use lib.Dec.{leb, eqb}
 use lib.ListN.{length, getD}
 use Rattle.refusal.specs.Range.{allWithin}
-use Rattle.refusal.specs.Refuse.{refuse}
+use Rattle.refusal.specs.Refuse.{refuse, first}
 use Rattle.refusal.proofs.Ranges.{within-at}
 use Rattle.network.specs.declared.Frame.{Frame}
-use Rattle.network.specs.Refusals.{between, sided, placed, filled, checked, networkRefusal, contourChecked}
-use Rattle.network.specs.Ranges.{RightFrame, RightLevels, RightContour, NetworkRefused, ContourRefused, RoomRefused}
-use Rattle.network.proofs.Refusals.{both, in-between}
+use Rattle.network.specs.Limits.{maxNetworkLevel}
+use Rattle.network.specs.Refusals.{between, sided, placed, filled, checked, networkRefusal}
+use Rattle.network.specs.Refusals.{contourChecked, contourRefusal}
+use Rattle.network.specs.Ranges.{RightFrame, RightLevels, RightContour}
+use Rattle.network.specs.Ranges.{NetworkRefused, ContourRefused, RoomRefused}
+use Rattle.network.proofs.Refusals.{both, in-between, contour-then}
 
 -- ---- each test passes exactly if what it stands for holds
 
@@ -95,23 +98,38 @@ module _ (A B C : Type 0) (rest : ℕ) (no12 : rest ≡ 12 → ⊥) (no13 : rest
     ((λ h. absurd (omega arith), λ n. absurd (fails p refl (n .0))), (λ h. absurd (no12 (sym h)), λ n. absurd (fails p refl (n .0)))),
   )
 
-pub contour-refused : (levels : List ℕ) (f : Frame) (v rest : ℕ) → (rest ≡ 0) ⊎ (rest ≡ 14) → ContourRefused levels f v rest (contourChecked levels f v rest)
+pub contour-refused : (levels : List ℕ) (f : Frame) (v rest : ℕ) → (rest ≡ 0) ⊎ (rest ≡ 14)
+    → ContourRefused levels f v rest (contourChecked maxNetworkLevel levels f v rest)
 contour-refused levels f v rest e =
-    let i = in-order (RightFrame levels f) (RightLevels levels) (RightContour v) rest (other 12 (λ h. omega arith) (λ h. omega arith))
+    let i = in-order (RightFrame levels f) (RightLevels levels) (RightContour v) rest
+    (other 12 (λ h. omega arith) (λ h. omega arith))
     (other 13 (λ h. omega arith) (λ h. omega arith)) (other 15 (λ h. omega arith) (λ h. omega arith))
-    (sided f && placed f && filled levels f) (allWithin 15000 levels) (between 1 v 15000) (frame-right levels f) (levels-right levels) (contour-right v) in
+    (sided f && placed f && filled levels f) (allWithin 15000 levels) (between 1 v 15000)
+    (frame-right levels f) (levels-right levels) (contour-right v) in
     record { twelve = i .0 .0; thirteen = i .0 .1; fifteen = i .1 .0; others = i .1 .1 }
   where
     other : (n : ℕ) → (0 ≡ n → ⊥) → (14 ≡ n → ⊥) → rest ≡ n → ⊥
     other n a b h = ⊎-elim (λ k. a (sym k ∙ h)) (λ k. b (sym k ∙ h)) e
 
-pub room-refused : (levels : List ℕ) (f : Frame) (v : ℕ) (Enough : Type 0) (b : Bool) → (b ≡ true) ↔ Enough → RoomRefused levels f v Enough (contourChecked levels f v (refuse 14 b 0))
-room-refused levels f v Enough true i = record { enough = λ _. contour-refused levels f v 0 (inl refl); short = λ n. absurd (n (i .0 refl)) }
-room-refused levels f v Enough false i = record { enough = λ e. absurd (fails i refl e); short = λ _. contour-refused levels f v 14 (inr refl) }
+pub room-refused : (levels : List ℕ) (f : Frame) (v : ℕ) (Enough : Type 0) (b : Bool) → (b ≡ true) ↔ Enough
+    → RoomRefused levels f v Enough (first (contourRefusal levels f v) (refuse 14 b 0))
+room-refused levels f v Enough b i =
+    subst (RoomRefused levels f v Enough) (contour-then maxNetworkLevel levels f v (refuse 14 b 0)) (go b i)
+  where
+    go : (b : Bool) → (b ≡ true) ↔ Enough
+        → RoomRefused levels f v Enough (contourChecked maxNetworkLevel levels f v (refuse 14 b 0))
+    go true i = record { enough = λ _. contour-refused levels f v 0 (inl refl); short = λ n. absurd (n (i .0 refl)) }
+    go false i = record { enough = λ e. absurd (fails i refl e); short = λ _. contour-refused levels f v 14 (inr refl) }
 
 -- without a contour level, the same with a third test that always passes
 pub network-refused : (levels : List ℕ) (f : Frame) → NetworkRefused levels f (networkRefusal levels f)
 network-refused levels f =
-    let i = in-order (RightFrame levels f) (RightLevels levels) (Unit {0}) 0 (λ h. omega arith) (λ h. omega arith) (λ h. omega arith)
-    (sided f && placed f && filled levels f) (allWithin 15000 levels) true (frame-right levels f) (levels-right levels) (λ _. tt, λ _. refl) in
-    record { twelve = i .0 .0; thirteen = i .0 .1; none = (λ h. (i .1 .1 .0 h .0, i .1 .1 .0 h .1 .0), λ h. i .1 .1 .1 (h .0, (h .1, tt))) }
+    let i = in-order (RightFrame levels f) (RightLevels levels) (Unit {0}) 0
+    (λ h. omega arith) (λ h. omega arith) (λ h. omega arith)
+    (sided f && placed f && filled levels f) (allWithin 15000 levels) true
+    (frame-right levels f) (levels-right levels) (λ _. tt, λ _. refl) in
+    record {
+      twelve = i .0 .0;
+      thirteen = i .0 .1;
+      none = (λ h. (i .1 .1 .0 h .0, i .1 .1 .0 h .1 .0), λ h. i .1 .1 .1 (h .0, (h .1, tt)));
+    }

@@ -31,7 +31,7 @@ pub record Checked (levels : List ℕ) (f : Frame) : Type 0 where
   pub quiet : (i : ℕ) → getD levels i 0 ≤ maxNetworkLevel
 
 -- points are numbered from the south row, west to east
-abbrev pub levelAt : List ℕ → ℕ → ℕ → ℕ → ℕ
+abbrev pub levelAt : (levels : List ℕ) (nx row col : ℕ) → ℕ
 levelAt levels nx row col = getD levels (row * nx + col) 0
 
 -- how many horizontal edges there are, and how many edges

@@ -8,6 +8,10 @@ leastSide = 2
 abbrev pub maxSide : ℕ
 maxSide = 256
 
+-- the edges of a network of 256 by 256 points
+abbrev pub maxEdges : ℕ
+maxEdges = 130560
+
 -- spacing of the points in whole metres
 abbrev pub leastSpacing : ℕ
 leastSpacing = 1

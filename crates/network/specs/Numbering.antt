@@ -58,4 +58,5 @@ pub record CrossedExactly (levels : List ℕ) (nx ny v : ℕ) : Type 0 where
   pub lying : (row col : ℕ) → row < ny → col + 1 < nx
       → (crossedAt levels nx ny v (row * (nx - 1) + col) ≡ true) ↔ OneIn levels nx v row col row (col + 1)
   pub standing : (row col : ℕ) → row + 1 < ny → col < nx
-      → (crossedAt levels nx ny v (ny * (nx - 1) + row * nx + col) ≡ true) ↔ OneIn levels nx v row col (row + 1) col
+      → (crossedAt levels nx ny v (ny * (nx - 1) + row * nx + col) ≡ true)
+      ↔ OneIn levels nx v row col (row + 1) col

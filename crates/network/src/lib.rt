@@ -1,12 +1,12 @@
-// A network of levels: its frame and check, its edges by number, and which of them a contour crosses. The rules, "Network and contours".
+// A network of levels: its frame and check, its edges by number, and which of them a contour crosses: RULES,
+// "Network and contours".
 ghost use mathlib.Core.Path.{_≡_};
 ghost use mathlib.Core.Bool.{_&&_};
-ghost use Rattle.network.specs.Refusals.{between, sided, placed, filled, networkRefusal, contourRefusal};
+ghost use Rattle.network.specs.Refusals.{between, sided, placed, filled, checked, contourChecked};
 use crate::limits::LEAST_CONTOUR;
 use crate::limits::LEAST_SIDE;
 use crate::limits::LEAST_SPACING;
 use crate::limits::MAX_CONTOUR;
-use crate::limits::MAX_NETWORK_LEVEL;
 use crate::limits::MAX_ORIGIN;
 use crate::limits::MAX_SIDE;
 use crate::limits::MAX_SPACING;
@@ -80,12 +80,12 @@ fn is_whole(levels: &[u32], frame: Frame) -> bool
     false
 }
 
-// The refusal of a network, 12 or 13, or 0.
-pub fn refusal(levels: &[u32], frame: Frame) -> u32
-    ensures { λ r. ⌜ r ≡ networkRefusal (now (levels .entry)) frame ⌝ }
+// The refusal of a network whose levels go up to `max`, 12 or 13, or 0.
+pub fn refusal(levels: &[u32], frame: Frame, max: u32) -> u32
+    ensures { λ r. ⌜ r ≡ checked max (now (levels .entry)) frame 0 ⌝ }
 {
     if is_whole(levels, frame) {
-        if refusal::all_within(levels, MAX_NETWORK_LEVEL) {
+        if refusal::all_within(levels, max) {
             return 0;
         }
         return 13;
@@ -93,11 +93,11 @@ pub fn refusal(levels: &[u32], frame: Frame) -> u32
     12
 }
 
-// The refusal of a network with a contour level, 12, 13 or 15, or 0.
-pub fn contour_refusal(levels: &[u32], frame: Frame, v: u32) -> u32
-    ensures { λ r. ⌜ r ≡ contourRefusal (now (levels .entry)) frame v ⌝ }
+// The refusal of such a network with a contour level, 12, 13 or 15, or 0.
+pub fn contour_refusal(levels: &[u32], frame: Frame, v: u32, max: u32) -> u32
+    ensures { λ r. ⌜ r ≡ contourChecked max (now (levels .entry)) frame v 0 ⌝ }
 {
-    let why = refusal(levels, frame);
+    let why = refusal(levels, frame, max);
     if why == 0 {
         if lies_between(LEAST_CONTOUR, v, MAX_CONTOUR) {
             return 0;

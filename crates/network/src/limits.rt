@@ -3,6 +3,8 @@ pub const LEAST_SIDE: u32 = 2;
 
 pub const MAX_SIDE: u32 = 256;
 
+pub const MAX_EDGES: usize = 130_560;
+
 pub const LEAST_SPACING: u32 = 1;
 
 pub const MAX_SPACING: u32 = 500;

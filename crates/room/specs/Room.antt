@@ -33,7 +33,8 @@ thenRoom refusal enough = first refusal (refuse 14 enough 0)
 abbrev pub leaves : {A : Type 0} (refusal : ℕ) (answer room : List A) → List A
 leaves refusal answer room = cond (eqb refusal 0) (front answer room) room
 
--- a call that answers one list, with the refusal `why` that it has without its room: its number r, and the room at the end
+-- a call that answers one list, with the refusal `why` that it has without its room: its number r, and the room at the
+-- end
 pub record Writes {A : Type 0} (why : ℕ) (answer room : List A) (r : ℕ) (room′ : List A) : Type 0 where
   pub number : r ≡ thenRoom why (fitsIn answer room)
   pub left : room′ ≡ leaves (thenRoom why (fitsIn answer room)) answer room

@@ -7,7 +7,7 @@ use native.Mathlib.Omega.{arith}
 use borrow.Author.Tests.{ltb-true, eq-eqb}
 use lib.Dec.{ltb, eqb}
 use lib.ListN.{length, getD, take, drop, length-append}
-use lib.Seq.{take-append-seam, drop-append-seam, take-at}
+use lib.Seq.{take-append-seam, drop-append-seam}
 use Rattle.network.specs.declared.Frame.{Frame}
 use Rattle.network.specs.Edges.{edges, Checked}
 use Rattle.network.specs.Crossed.{crossedAt}
@@ -18,10 +18,11 @@ use Rattle.contour_rules.specs.Contours.{Contour, bit, contoursOf, edgesOf, cou
 use Rattle.contour_rules.specs.Once.{occurs, Sound, AllSound}
 use Rattle.contour_rules.proofs.Sums.{length-counts, length-closed, crossings-le, all-listed}
 use Rattle.contour_rules.proofs.Every.{every-crossing}
-use Rattle.contour.specs.Answers.{front}
-use Rattle.contour.specs.Desk.{Listed}
+use Rattle.room.specs.Room.{front}
+use Rattle.room.proofs.Fronts.{front-is}
+use Rattle.contour.specs.InnerDesk.{Listed}
 use Rattle.wkt.specs.Text.{textOf, pointsOf, contoursText}
-use Rattle.wkt.specs.Parts.{linesFrom, total, Printable}
+use Rattle.wkt.specs.InnerParts.{linesFrom, total, Printable}
 
 -- ---- lists of contours
 
@@ -100,7 +101,7 @@ module _ (levels : List ℕ) (f : Frame) (v : ℕ) (k : Checked levels f) where
 
 module _ {cs : List Contour} {e c d e' c' d' : List ℕ} {at made : ℕ} (l : Listed cs e c d e' c' d' at made) where
   front-of : (ns b b' : List ℕ) (n : ℕ) → b' ≡ front ns b → n ≡ length ns → take n b' ≡ ns
-  front-of ns b b' n p q = ap (take n) p ∙ take-at ns (drop (length ns) b) n (sym q)
+  front-of ns b b' n p q = ap (take n) p ∙ front-is ns b n (sym q)
 
   pub edges-front : take at e' ≡ edgesOf cs
   edges-front = front-of (edgesOf cs) e e' at (l .the-edges) (l .edge-places)

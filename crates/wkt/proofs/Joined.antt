@@ -13,8 +13,8 @@ use Rattle.network.specs.declared.Frame.{Frame}
 use Rattle.wkt.specs.declared.Cursor.{Cursor}
 use Rattle.wkt.specs.Text.{textOf}
 use Rattle.wkt.specs.declared.Part.{Part}
-use Rattle.wkt.specs.Parts.{linesFrom, leftOf, pieceOf, walk, pieces, Printed}
-use Rattle.wkt.specs.Runs.{Run, ended, printed}
+use Rattle.wkt.specs.InnerParts.{linesFrom, leftOf, pieceOf, walk, pieces, Printed}
+use Rattle.wkt.specs.InnerRuns.{Run, ended, printed}
 use Rattle.wkt.proofs.Steps.{left-end, left-first}
 
 module _ (levels : List ℕ) (f : Frame) (v : ℕ) (listed counts closed : List ℕ) where

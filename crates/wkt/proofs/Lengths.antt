@@ -14,7 +14,7 @@ use Rattle.wkt.specs.declared.Cursor.{Cursor}
 use Rattle.wkt.specs.declared.Spot.{Spot}
 use Rattle.wkt.specs.Places.{spotOf}
 use Rattle.wkt.specs.Text.{showThree, showMetres, showSpot, placeText, comma, multilinestring, empty}
-use Rattle.wkt.specs.Parts.{lineAt, pointsAt, endText, beforeText, pieceOf}
+use Rattle.wkt.specs.InnerParts.{lineAt, pointsAt, endText, beforeText, pieceOf}
 
 shown-short : (k n : ℕ) → length (shown k n) ≤ k
 unfolding shown

@@ -1,22 +1,22 @@
--- A text that has room is printed whole in one part, and what the printing call leaves by each way out. Assumes nothing.
+-- A text that has room is printed whole in one part. Assumes nothing.
 use mathlib.Core.Path.{_≡_, refl, sym, ap, _∙_, subst}
 use mathlib.Core.Bool.{Bool, true, false, cond}
 use mathlib.Core.Logic.{_⊎_, inl, inr, ⊎-elim}
 use mathlib.Core.List.{List, [], _∷_, _++_, append-nil}
 use Prim.Native.Nat.{ℕ, zero, suc, _+_, _*_, _≤_, _<_}
 use native.Mathlib.Omega.{arith}
-use borrow.Author.Tests.{le-leb, lt-leb, ne-eqb, ltb-true, ltb-false}
+use borrow.Author.Tests.{ltb-true, ltb-false}
 use lib.Dec.{ltb}
-use lib.ListN.{length, take, drop, set, length-append, take-append-drop}
+use lib.ListN.{length, take, drop, length-append, take-append-drop}
 use lib.Seq.{length-take-le}
 use Rattle.network.specs.declared.Frame.{Frame}
+use Rattle.network.specs.Limits.{maxEdges}
 use Rattle.network.proofs.Numbers.{edges-le}
-use Rattle.contour.specs.Answers.{front}
+use Rattle.room.specs.Room.{front}
 use Rattle.wkt.specs.declared.Cursor.{Cursor}
 use Rattle.wkt.specs.declared.Part.{Part}
 use Rattle.wkt.specs.Text.{textOf}
-use Rattle.wkt.specs.Parts.{linesFrom, Printable, Reached, leftOf, pieceOf, nextOf, Printed}
-use Rattle.wkt.specs.Calls.{roomFor, Leaves}
+use Rattle.wkt.specs.InnerParts.{linesFrom, Printable, Reached, leftOf, pieceOf, nextOf, Printed}
 use Rattle.wkt.proofs.Lengths.{piece-short}
 use Rattle.wkt.proofs.Steps.{ahead, left-end, left-first, reached-first, count-total, goes}
 
@@ -45,7 +45,8 @@ module _ (levels : List ℕ) (f : Frame) (v : ℕ) (listed counts closed : List 
       let c : Cursor = record { line = 0; start = 0; point = 0 } in
       let first : (c .line ≡ 0) × ((c .start ≡ 0) × (c .point ≡ 0)) = (refl, (refl, refl)) in
       let short = left-short (suc (ahead listed counts c)) c (reached-first levels f v listed counts closed (k .summed) c first) (omega arith) in
-      let e : length listed ≤ 130560 = omega (arith, k .few, edges-le (f .columns) (f .rows) (k .checked .sized .sides .narrow) (k .checked .sized .sides .low)) in
+      let e : length listed ≤ maxEdges =
+      omega (arith, k .few, edges-le (f .columns) (f .rows) (k .checked .sized .sides .narrow) (k .checked .sized .sides .low)) in
       omega (arith, ap length (left-first levels f v listed counts closed c first), short, e, k .summed, count-total counts (k .some))
 
   -- ---- one part
@@ -77,29 +78,3 @@ module _ (levels : List ℕ) (f : Frame) (v : ℕ) (listed counts closed : List 
         let here : text ≡ take (part .size) room' = all ∙ ap (λ (t : List ℕ). take (part .size) room' ++ t) none ∙ append-nil (take (part .size) room') in
         let size : part .size ≡ length text = omega (arith, sizes, ap length none) in
         sym (take-append-drop (part .size) room') ∙ ap (λ (t : List ℕ). t ++ drop (part .size) room') (sym here) ∙ ap (λ (t : List ℕ). text ++ t) (p .kept ∙ ap (λ (n : ℕ). drop n room) size)
-
--- ---- the call
-
-pub put-size : (size : List ℕ) (n : ℕ) → 1 ≤ length size → set size 0 n ≡ front (n ∷ []) size
-put-size [] n h = absurd (omega arith)
-put-size (a ∷ size) n h = refl
-
-module _ (text room size : List ℕ) where
-  pub has-room : length text ≤ length room → 1 ≤ length size → roomFor text room size ≡ 0
-  has-room h k = rw (le-leb _ _ h, le-leb _ _ k)
-
-  pub no-room : length room < length text → roomFor text room size ≡ 14
-  no-room h = rw (lt-leb _ _ h)
-
-  pub no-size : length text ≤ length room → length size < 1 → roomFor text room size ≡ 14
-  no-size h k = rw (le-leb _ _ h, lt-leb _ _ k)
-
-  pub leaves-text : (why : ℕ) (room' size' : List ℕ) → why ≡ 0 → room' ≡ front text room → size' ≡ front (length text ∷ []) size → Leaves why text room size 0 room' size'
-  leaves-text why room' size' e p q = record { number = sym e; bytes = rw e p; told = rw e q }
-
-  pub leaves-all : (why n : ℕ) → why ≡ n → (n ≡ 0 → ⊥) → Leaves why text room size n room size
-  leaves-all why n e h = record { number = sym e; bytes = rw (e, ne-eqb n 0 h); told = rw (e, ne-eqb n 0 h) }
-
-  -- two outcomes of one call are equal
-  pub one-outcome : {why n n' : ℕ} {r r' s s' : List ℕ} → Leaves why text room size n r s → Leaves why text room size n' r' s' → (n ≡ n') × ((r ≡ r') × (s ≡ s'))
-  one-outcome a b = (a .number ∙ sym (b .number), (a .bytes ∙ sym (b .bytes), a .told ∙ sym (b .told)))

@@ -29,9 +29,11 @@ use Rattle.contour_rules.specs.Once.{Sound, AllSound}
 use Rattle.contour_rules.proofs.Every.{every-crossing}
 use Rattle.wkt.specs.declared.Spot.{Spot}
 use Rattle.wkt.specs.Places.{nearest, offsetOf, slideOf, standOf, spotOf}
-use Rattle.wkt.specs.Text.{showMetres, showSpot, placeText, bracket, comma, pointsText, linesText, multilinestring, textOf, pointsOf, contoursText}
+use Rattle.wkt.specs.Text.{showMetres, showSpot, placeText, bracket, comma, closing, pointsText, linesText}
+use Rattle.wkt.specs.Text.{multilinestring, textOf, pointsOf, contoursText}
 use Rattle.wkt.specs.Calls.{networkText, printRefusal}
-use Rattle.wkt.specs.Printout.{Rounds, Offset, Metres, Pair, RowPlace, ColumnPlace, PlacesPrinted, parted, lineText, found, TextPrinted}
+use Rattle.wkt.specs.Printout.{Rounds, Offset, Metres, Pair, RowPlace, ColumnPlace, PlacesPrinted}
+use Rattle.wkt.specs.Printout.{parted, lineText, found, TextPrinted}
 use Rattle.wkt.proofs.Nearest.{nearest-is, offset-small, metres-small}
 
 -- ---- numbers
@@ -143,7 +145,7 @@ module _ (levels : List ℕ) (f : Frame) (v : ℕ) (k : Checked levels f) where
 -- ---- the text around the places
 
 module _ (levels : List ℕ) (f : Frame) (v : ℕ) where
-  points-text : (before : List ℕ) (n : ℕ) (ns : List ℕ) → pointsText levels f v before (n ∷ ns) ≡ before ++ parted levels f v (map (placeText levels f v) (n ∷ ns)) ++ (41 ∷ [])
+  points-text : (before : List ℕ) (n : ℕ) (ns : List ℕ) → pointsText levels f v before (n ∷ ns) ≡ before ++ parted levels f v (map (placeText levels f v) (n ∷ ns)) ++ closing
   unfolding pointsText
   points-text before n [] = refl
   points-text before n (m ∷ ns) = ap (λ (t : List ℕ). before ++ placeText levels f v n ++ t) (points-text comma m ns) ∙ simp append-assoc
@@ -156,7 +158,8 @@ module _ (levels : List ℕ) (f : Frame) (v : ℕ) where
   line-text : (c : Contour) → 0 < length (c .edges) → pointsText levels f v bracket (pointsOf (c .edges) (bit (c .closes))) ≡ lineText levels f v c
   line-text c h = ap (pointsText levels f v bracket) (closed-points (c .closes) (c .edges) h) ∙ go (c .edges) h
     where
-      go : (es : List ℕ) → 0 < length es → pointsText levels f v bracket (es ++ cond (c .closes) (getD es 0 0 ∷ []) []) ≡ 40 ∷ parted levels f v (map (placeText levels f v) (es ++ cond (c .closes) (getD es 0 0 ∷ []) [])) ++ (41 ∷ [])
+      go : (es : List ℕ) → 0 < length es → pointsText levels f v bracket (es ++ cond (c .closes) (getD es 0 0 ∷ []) [])
+          ≡ bracket ++ parted levels f v (map (placeText levels f v) (es ++ cond (c .closes) (getD es 0 0 ∷ []) [])) ++ closing
       go [] h = absurd (omega arith)
       go (e ∷ es) h = points-text bracket e (es ++ cond (c .closes) (e ∷ []) [])
 
@@ -167,10 +170,14 @@ module _ (levels : List ℕ) (f : Frame) (v : ℕ) where
   abbrev points : Contour → List ℕ
   points c = pointsOf (c .edges) (bit (c .closes))
 
-  lines-text : (before : List ℕ) (c : Contour) (cs : List Contour) → Some (c ∷ cs) → linesText levels f v before (map points (c ∷ cs)) ≡ before ++ parted levels f v (map (lineText levels f v) (c ∷ cs)) ++ (41 ∷ [])
+  lines-text : (before : List ℕ) (c : Contour) (cs : List Contour) → Some (c ∷ cs) → linesText levels f v before (map points (c ∷ cs)) ≡ before ++ parted levels f v (map (lineText levels f v) (c ∷ cs)) ++ closing
   unfolding linesText
-  lines-text before c [] s = ap (λ (t : List ℕ). before ++ t ++ (41 ∷ [])) (line-text c (s .0))
-  lines-text before c (d ∷ cs) s = rw (line-text c (s .0), lines-text comma d cs (s .1)) (simp append-assoc)
+  lines-text before c [] s = ap (λ (t : List ℕ). before ++ t ++ closing) (line-text c (s .0))
+  lines-text before c (d ∷ cs) s =
+      let line = lineText levels f v c in
+      let others = comma ++ parted levels f v (map (lineText levels f v) (d ∷ cs)) in
+      rw (line-text c (s .0), lines-text comma d cs (s .1))
+      (sym (append-assoc (before ++ line) others closing) ∙ ap (λ (t : List ℕ). t ++ closing) (append-assoc before line others))
 
   some-edges : (g : Picture) (cs : List Contour) → AllSound g cs → Some cs
   some-edges g [] a = tt
@@ -191,9 +198,13 @@ module _ (levels : List ℕ) (f : Frame) (v : ℕ) where
   }
 
   -- the call is refused by 12, 13, 15, and by 14 last, exactly where the text or its size has no room
-  pub print-refused : (room size : List ℕ) → RoomRefused levels f v ((length (networkText levels f v) ≤ length room) × (1 ≤ length size)) (printRefusal levels f v room size)
+  pub print-refused : (room size : List ℕ)
+      → RoomRefused levels f v ((length (networkText levels f v) ≤ length room) × (1 ≤ length size))
+      (printRefusal levels f v room size)
   print-refused room size =
-      room-refused levels f v ((length (networkText levels f v) ≤ length room) × (1 ≤ length size)) (leb (length (networkText levels f v)) (length room) && leb 1 (length size)) (
-        λ h. let p = both (leb (length (networkText levels f v)) (length room)) (leb 1 (length size)) h in (leb-true _ _ (p .0), leb-true _ _ (p .1)),
+      let text-fits = leb (length (networkText levels f v)) (length room) in
+      let size-fits = leb 1 (length size) in
+      room-refused levels f v ((length (networkText levels f v) ≤ length room) × (1 ≤ length size)) (text-fits && size-fits) (
+        λ h. let p = both text-fits size-fits h in (leb-true _ _ (p .0), leb-true _ _ (p .1)),
         λ h. rw (le-leb _ _ (h .0), le-leb _ _ (h .1)),
       )

@@ -12,7 +12,7 @@ use Rattle.room.specs.Room.{put, Wrote}
 use Rattle.room.proofs.Laws.{length-wrote}
 use Rattle.network.specs.declared.Frame.{Frame}
 use Rattle.wkt.specs.declared.Cursor.{Cursor}
-use Rattle.wkt.specs.Parts.{Reached, leftOf, pieceOf, nextOf, walk, pieces}
+use Rattle.wkt.specs.InnerParts.{Reached, leftOf, pieceOf, nextOf, walk, pieces}
 
 module _ (old room piece : List ℕ) (size : ℕ) (fits : size + length piece ≤ length room) where
   front-long : length (take size room ++ piece) ≡ size + length piece

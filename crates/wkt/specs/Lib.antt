@@ -1,6 +1,6 @@
 pub mod Places
 pub mod Text
-pub mod Parts
-pub mod Runs
+pub mod InnerParts
+pub mod InnerRuns
 pub mod Calls
 pub mod Printout

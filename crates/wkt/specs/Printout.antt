@@ -5,6 +5,7 @@ use mathlib.Core.Bool.{cond}
 use mathlib.Core.List.{List, [], _∷_, _++_, map}
 use Prim.Native.Nat.{ℕ, _+_, _-_, _*_, _≤_, _<_}
 use lib.ListN.{getD}
+use Rattle.text.specs.Spelled.{bytes}
 use Rattle.text.specs.Number.{wholeOf}
 use Rattle.text.specs.declared.number.Number.the-variants.{Got}
 use Rattle.network.specs.declared.Frame.{Frame}
@@ -80,23 +81,20 @@ module _ (levels : List ℕ) (f : Frame) (v : ℕ) where
   abbrev pub parted : List (List ℕ) → List ℕ
   parted [] = []
   parted (t ∷ []) = t
-  parted (t ∷ u ∷ ts) = t ++ (44 ∷ 32 ∷ parted (u ∷ ts))
+  parted (t ∷ u ∷ ts) = t ++ (bytes ", " ++ parted (u ∷ ts))
 
   -- a line in parentheses; a closed line repeats its first point
   abbrev pub lineText : Contour → List ℕ
   lineText c =
-      40 ∷ parted (map (placeText levels f v) (c .edges ++ cond (c .closes) (getD (c .edges) 0 0 ∷ []) [])) ++ (41 ∷ [])
+      bytes "(" ++ parted (map (placeText levels f v) (c .edges ++ cond (c .closes) (getD (c .edges) 0 0 ∷ []) []))
+      ++ bytes ")"
 
   abbrev pub found : List Contour
   found = contoursOf (picture levels (f .columns) (f .rows) v)
 
   pub record TextPrinted : Type 0 where
     -- none prints `MULTILINESTRING EMPTY`
-    pub none : found ≡ []
-        → networkText levels f v
-        ≡ 77 ∷ 85 ∷ 76 ∷ 84 ∷ 73 ∷ 76 ∷ 73 ∷ 78 ∷ 69 ∷ 83 ∷ 84 ∷ 82 ∷ 73 ∷ 78 ∷ 71 ∷ 32 ∷ 69 ∷ 77 ∷ 80 ∷ 84 ∷ 89 ∷ []
+    pub none : found ≡ [] → networkText levels f v ≡ bytes "MULTILINESTRING EMPTY"
     -- contours as `MULTILINESTRING (..)`, in their order
     pub some : (c : Contour) (cs : List Contour) → found ≡ c ∷ cs
-        → networkText levels f v
-        ≡ 77 ∷ 85 ∷ 76 ∷ 84 ∷ 73 ∷ 76 ∷ 73 ∷ 78 ∷ 69 ∷ 83 ∷ 84 ∷ 82 ∷ 73 ∷ 78 ∷ 71 ∷ 32 ∷ 40 ∷ []
-        ++ parted (map lineText (c ∷ cs)) ++ (41 ∷ [])
+        → networkText levels f v ≡ bytes "MULTILINESTRING (" ++ parted (map lineText (c ∷ cs)) ++ bytes ")"

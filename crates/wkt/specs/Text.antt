@@ -1,8 +1,8 @@
--- The text of contours: RULES, "Files and the report program". A byte is a number: 32 space, 40 and 41 parentheses, 44 comma, 46 point, 48 to 57 digits.
--- Assumes nothing.
+-- The text of contours: RULES, "Files and the report program". Assumes nothing.
 use mathlib.Core.List.{List, [], _∷_, _++_, map}
 use Prim.Native.Nat.{ℕ, _+_, _/_, _%_}
 use lib.ListN.{take}
+use Rattle.text.specs.Spelled.{bytes}
 use Rattle.text.specs.Number.{showWhole, showTwo}
 use Rattle.network.specs.declared.Frame.{Frame}
 use Rattle.network.specs.Edges.{edgeAt}
@@ -23,34 +23,39 @@ abbrev pub showSpot : Spot → List ℕ
 showSpot s = showMetres (s .x) ++ (32 ∷ showMetres (s .y))
 
 -- the place of the crossing on the edge of a number
-unfoldable pub placeText : List ℕ → Frame → ℕ → ℕ → List ℕ
+unfoldable pub placeText : (levels : List ℕ) (f : Frame) (v : ℕ) (n : ℕ) → List ℕ
 placeText levels f v n = showSpot (spotOf levels f v (edgeAt (f .columns) (f .rows) n))
 
--- `(` and `, `
+-- what stands before points and lines, and after them
 abbrev pub bracket : List ℕ
-bracket = 40 ∷ []
+bracket = bytes "("
 
 abbrev pub comma : List ℕ
-comma = 44 ∷ 32 ∷ []
+comma = bytes ", "
+
+abbrev pub closing : List ℕ
+closing = bytes ")"
 
 -- points, `before` before the first, a comma and a space before each other, and a parenthesis that closes the line
-unfoldable pub pointsText : List ℕ → Frame → ℕ → List ℕ → List ℕ → List ℕ
-pointsText levels f v before [] = 41 ∷ []
+unfoldable pub pointsText : (levels : List ℕ) (f : Frame) (v : ℕ) (before ns : List ℕ) → List ℕ
+pointsText levels f v before [] = closing
 pointsText levels f v before (n ∷ ns) = before ++ placeText levels f v n ++ pointsText levels f v comma ns
 
 -- lines, by the edges of their points, in the same way
-unfoldable pub linesText : List ℕ → Frame → ℕ → List ℕ → List (List ℕ) → List ℕ
-linesText levels f v before [] = 41 ∷ []
-linesText levels f v before (l ∷ ls) = before ++ pointsText levels f v bracket l ++ linesText levels f v comma ls
+unfoldable pub linesText : (levels : List ℕ) (f : Frame) (v : ℕ) (before : List ℕ) (ls : List (List ℕ))
+    → List ℕ
+linesText levels f v before [] = closing
+linesText levels f v before (l ∷ ls) =
+    before ++ pointsText levels f v bracket l ++ linesText levels f v comma ls
 
--- `MULTILINESTRING ` and `EMPTY`
+-- how the text begins, and ends where there is no line
 abbrev pub multilinestring : List ℕ
-multilinestring = 77 ∷ 85 ∷ 76 ∷ 84 ∷ 73 ∷ 76 ∷ 73 ∷ 78 ∷ 69 ∷ 83 ∷ 84 ∷ 82 ∷ 73 ∷ 78 ∷ 71 ∷ 32 ∷ []
+multilinestring = bytes "MULTILINESTRING "
 
 abbrev pub empty : List ℕ
-empty = 69 ∷ 77 ∷ 80 ∷ 84 ∷ 89 ∷ []
+empty = bytes "EMPTY"
 
-unfoldable pub textOf : List ℕ → Frame → ℕ → List (List ℕ) → List ℕ
+unfoldable pub textOf : (levels : List ℕ) (f : Frame) (v : ℕ) (ls : List (List ℕ)) → List ℕ
 textOf levels f v [] = multilinestring ++ empty
 textOf levels f v (l ∷ ls) = multilinestring ++ linesText levels f v bracket (l ∷ ls)
 
@@ -59,5 +64,6 @@ abbrev pub pointsOf : List ℕ → ℕ → List ℕ
 pointsOf edges closed = edges ++ take closed edges
 
 -- the text of contours
-abbrev pub contoursText : List ℕ → Frame → ℕ → List Contour → List ℕ
-contoursText levels f v cs = textOf levels f v (map (λ (c : Contour). pointsOf (c .edges) (bit (c .closes))) cs)
+abbrev pub contoursText : (levels : List ℕ) (f : Frame) (v : ℕ) (cs : List Contour) → List ℕ
+contoursText levels f v cs =
+    textOf levels f v (map (λ (c : Contour). pointsOf (c .edges) (bit (c .closes))) cs)

@@ -1,11 +1,7 @@
 // Printing of listed contours: part by part into any room, and how long the whole text is.
 ghost use mathlib.Core.Path.{_≡_};
-ghost use mathlib.Core.Bool.{true};
-ghost use mathlib.Core.List.{[]};
-ghost use Prim.Native.Nat.{_+_, _≤_, _<_};
 ghost use lib.ListN.{length};
-ghost use Rattle.wkt.specs.Text.{textOf};
-ghost use Rattle.wkt.specs.Parts.{Printable, Reached, Printed, linesFrom};
+ghost use Rattle.wkt.specs.InnerParts.{Reached, PrintableNow, PrintedIn, textBefore};
 use crate::Cursor;
 use crate::Part;
 use crate::put::put_step;
@@ -33,8 +29,9 @@ pub fn print_part(
     from: Cursor,
     room: &mut [u8],
 ) -> Part
-    requires { ⌜ Printable (now levels) frame v (now edges) (now counts) (now closed) × Reached (now edges) (now counts) (now closed) from ⌝ }
-    ensures { λ r. ⌜ Printed (now (levels .entry)) frame v (now (edges .entry)) (now (counts .entry)) (now (closed .entry)) from (now (room .entry)) r (now (room .exit)) ⌝ }
+    requires { ⌜ PrintableNow levels frame v edges counts closed
+        × Reached (now edges) (now counts) (now closed) from ⌝ }
+    ensures { λ r. ⌜ PrintedIn levels frame v edges counts closed from room r ⌝ }
 {
     let mut piece = [0u8; 64];
     let mut at = from;
@@ -66,8 +63,8 @@ pub fn text_size(
     counts: &[u32],
     closed: &[u32],
 ) -> usize
-    requires { ⌜ Printable (now levels) frame v (now edges) (now counts) (now closed) ⌝ }
-    ensures { λ r. ⌜ r ≡ length (textOf (now (levels .entry)) frame v (linesFrom (now (edges .entry)) (now (counts .entry)) (now (closed .entry)))) ⌝ }
+    requires { ⌜ PrintableNow levels frame v edges counts closed ⌝ }
+    ensures { λ r. ⌜ r ≡ length (textBefore levels frame v edges counts closed) ⌝ }
 {
     let mut piece = [0u8; 64];
     let mut at = first();

@@ -1,14 +1,15 @@
 // Contours printed as well-known text: RULES, "Files and the report program", last paragraph.
-ghost use mathlib.Core.Path.{_≡_};
 ghost use Prim.Native.Nat.{_≤_};
 ghost use lib.ListN.{length, take};
 ghost use Rattle.network.specs.Edges.{Checked};
+ghost use Rattle.network.specs.Refusals.{contourRefusal};
 ghost use Rattle.wkt.specs.Text.{textOf};
-ghost use Rattle.wkt.specs.Parts.{linesFrom, Printable};
-ghost use Rattle.wkt.specs.Calls.{networkText, roomFor, printRefusal, Leaves};
-use contour::core::MAX_EDGES;
+ghost use Rattle.wkt.specs.Calls.{networkText, Prints};
+ghost use Rattle.wkt.specs.InnerParts.{linesFrom, Printable, PrintableNow, textBefore};
 use contour::core::Progress;
 use network::Frame;
+use network::limits::MAX_EDGES;
+use network::limits::MAX_NETWORK_LEVEL;
 
 pub mod core;
 mod place;
@@ -45,9 +46,8 @@ fn print_listed(
     text: &mut [u8],
     size: &mut [u32],
 ) -> u32
-    requires { ⌜ Printable (now levels) frame v (now edges) (now counts) (now closed) ⌝ }
-    ensures { λ r. ⌜ Leaves (roomFor (textOf (now (levels .entry)) frame v (linesFrom (now (edges .entry)) (now (counts .entry)) (now (closed .entry)))) (now (text .entry)) (now (size .entry)))
-        (textOf (now (levels .entry)) frame v (linesFrom (now (edges .entry)) (now (counts .entry)) (now (closed .entry)))) (now (text .entry)) (now (size .entry)) r (now (text .exit)) (now (size .exit)) ⌝ }
+    requires { ⌜ PrintableNow levels frame v edges counts closed ⌝ }
+    ensures { λ r. ⌜ Prints 0 (textBefore levels frame v edges counts closed) text size r ⌝ }
 {
     let needed = core::text_size(levels, frame, v, edges, counts, closed);
     if needed <= text.len() {
@@ -72,10 +72,13 @@ fn print_fronts(
     text: &mut [u8],
     size: &mut [u32],
 ) -> u32
-    requires { ⌜ ((got .edges ≤ length (now edges)) × ((got .contours ≤ length (now counts)) × (got .contours ≤ length (now closed))))
-        × Printable (now levels) frame v (take (got .edges) (now edges)) (take (got .contours) (now counts)) (take (got .contours) (now closed)) ⌝ }
-    ensures { λ r. ⌜ Leaves (roomFor (textOf (now (levels .entry)) frame v (linesFrom (take (got .edges) (now (edges .entry))) (take (got .contours) (now (counts .entry))) (take (got .contours) (now (closed .entry))))) (now (text .entry)) (now (size .entry)))
-        (textOf (now (levels .entry)) frame v (linesFrom (take (got .edges) (now (edges .entry))) (take (got .contours) (now (counts .entry))) (take (got .contours) (now (closed .entry))))) (now (text .entry)) (now (size .entry)) r (now (text .exit)) (now (size .exit)) ⌝ }
+    requires { ⌜ ((got .edges ≤ length (now edges))
+        × ((got .contours ≤ length (now counts)) × (got .contours ≤ length (now closed))))
+        × Printable (now levels) frame v (take (got .edges) (now edges)) (take (got .contours) (now counts))
+        (take (got .contours) (now closed)) ⌝ }
+    ensures { λ r. ⌜ Prints 0
+        (textOf (now (levels .entry)) frame v (linesFrom (take (got .edges) (now (edges .entry)))
+        (take (got .contours) (now (counts .entry))) (take (got .contours) (now (closed .entry))))) text size r ⌝ }
 {
     let n = got.edges;
     let m = got.contours;
@@ -94,7 +97,7 @@ fn print_fronts(
 // The text of the contours of a network that is not refused.
 fn print_checked(levels: &[u32], frame: Frame, v: u32, text: &mut [u8], size: &mut [u32]) -> u32
     requires { ⌜ Checked (now levels) frame ⌝ }
-    ensures { λ r. ⌜ Leaves (roomFor (networkText (now (levels .entry)) frame v) (now (text .entry)) (now (size .entry))) (networkText (now (levels .entry)) frame v) (now (text .entry)) (now (size .entry)) r (now (text .exit)) (now (size .exit)) ⌝ }
+    ensures { λ r. ⌜ Prints 0 (networkText (now (levels .entry)) frame v) text size r ⌝ }
 {
     let mut edges = [0u32; MAX_EDGES];
     let mut counts = [0u32; MAX_EDGES];
@@ -113,9 +116,10 @@ pub fn print_contours(
     text: &mut [u8],
     size: &mut [u32],
 ) -> u32
-    ensures { λ r. ⌜ Leaves (printRefusal (now (levels .entry)) frame v (now (text .entry)) (now (size .entry))) (networkText (now (levels .entry)) frame v) (now (text .entry)) (now (size .entry)) r (now (text .exit)) (now (size .exit)) ⌝ }
+    ensures { λ r. ⌜ Prints (contourRefusal (now (levels .entry)) frame v)
+        (networkText (now (levels .entry)) frame v) text size r ⌝ }
 {
-    let why = network::contour_refusal(levels, frame, v);
+    let why = network::contour_refusal(levels, frame, v, MAX_NETWORK_LEVEL);
     if why == 0 {
         return print_checked(levels, frame, v, text, size);
     }

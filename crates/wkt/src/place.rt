@@ -43,7 +43,8 @@ fn stand(index: usize, spacing: u32, origin: u32) -> u32
 
 // The place of a crossed edge.
 pub(crate) fn spot_of(levels: &[u32], frame: Frame, v: u32, e: Edge) -> Spot
-    requires { ⌜ Checked (now levels) frame × (WithinEdge (frame .columns) (frame .rows) e × (crossedEdge (now levels) (frame .columns) v e ≡ true)) ⌝ }
+    requires { ⌜ Checked (now levels) frame × (WithinEdge (frame .columns) (frame .rows) e
+        × (crossedEdge (now levels) (frame .columns) v e ≡ true)) ⌝ }
     ensures { λ r. ⌜ r ≡ spotOf (now (levels .entry)) frame v e ⌝ }
 {
     let nx = frame.columns as usize;

@@ -8,7 +8,7 @@ ghost use Rattle.room.specs.Room.{Wrote};
 ghost use Rattle.network.specs.Edges.{edges, Checked};
 ghost use Rattle.network.specs.Crossed.{crossedAt};
 ghost use Rattle.wkt.specs.Text.{showThree, showMetres, showSpot, placeText};
-ghost use Rattle.wkt.specs.Parts.{Printable, Reached, endText, beforeText, pieceOf, nextOf};
+ghost use Rattle.wkt.specs.InnerParts.{Reached, PrintableNow, endText, beforeText, pieceBefore, nextOf};
 use crate::Cursor;
 use crate::Part;
 use crate::Spot;
@@ -42,14 +42,17 @@ pub(crate) fn put_spot(out: &mut [u8], at: usize, spot: Spot) -> usize
     let x = spot.x;
     let y = spot.y;
     let space = put_metres(out, at, x);
-    let next = text::core::put_byte(out, space, 32);
+    let next = text::core::put_byte(out, space, b' ');
     put_metres(out, next, y)
 }
 
 // The place of the crossing on the edge of a number.
 fn put_place(levels: &[u32], frame: Frame, v: u32, n: u32, out: &mut [u8], at: usize) -> usize
-    requires { ⌜ Checked (now levels) frame × (((n < edges (frame .columns) (frame .rows)) × (crossedAt (now levels) (frame .columns) (frame .rows) v n ≡ true)) × (at + length (placeText (now levels) frame v n) ≤ length (now out))) ⌝ }
-    ensures { λ r. ⌜ Wrote (now (out .entry)) at (placeText (now (levels .entry)) frame v n) (now (out .exit)) r ⌝ }
+    requires { ⌜ Checked (now levels) frame × (((n < edges (frame .columns) (frame .rows))
+        × (crossedAt (now levels) (frame .columns) (frame .rows) v n ≡ true))
+        × (at + length (placeText (now levels) frame v n) ≤ length (now out))) ⌝ }
+    ensures { λ r. ⌜ Wrote (now (out .entry)) at (placeText (now (levels .entry)) frame v n)
+        (now (out .exit)) r ⌝ }
 {
     let nx = frame.columns as usize;
     let ny = frame.rows as usize;
@@ -65,7 +68,7 @@ fn put_end(piece: &mut [u8], line: usize) -> usize
     if line == 0 {
         return text::core::put_text(piece, 0, b"MULTILINESTRING EMPTY");
     }
-    text::core::put_byte(piece, 0, 41)
+    text::core::put_byte(piece, 0, b')')
 }
 
 // What stands before a point.
@@ -103,8 +106,12 @@ pub(crate) fn put_step(
     at: Cursor,
     piece: &mut [u8],
 ) -> Part
-    requires { ⌜ (Printable (now levels) frame v (now listed) (now counts) (now closed) × Reached (now listed) (now counts) (now closed) at) × ((at .line ≤ length (now counts)) × (64 ≤ length (now piece))) ⌝ }
-    ensures { λ r. ⌜ (r .next ≡ nextOf (now (counts .entry)) (now (closed .entry)) at) × Wrote (now (piece .entry)) 0 (pieceOf (now (levels .entry)) frame v (now (listed .entry)) (now (counts .entry)) (now (closed .entry)) at) (now (piece .exit)) (r .size) ⌝ }
+    requires { ⌜ (PrintableNow levels frame v listed counts closed
+        × Reached (now listed) (now counts) (now closed) at)
+        × ((at .line ≤ length (now counts)) × (64 ≤ length (now piece))) ⌝ }
+    ensures { λ r. ⌜ (r .next ≡ nextOf (now (counts .entry)) (now (closed .entry)) at)
+        × Wrote (now (piece .entry)) 0 (pieceBefore levels frame v listed counts closed at) (now (piece .exit))
+        (r .size) ⌝ }
 {
     let line = at.line;
     let start = at.start;
@@ -127,7 +134,7 @@ pub(crate) fn put_step(
                 start: start + count,
                 point: 0,
             },
-            size: text::core::put_byte(piece, 0, 41),
+            size: text::core::put_byte(piece, 0, b')'),
         };
     }
     let n = listed[start + around(point, count)];

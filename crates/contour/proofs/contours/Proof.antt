@@ -1,6 +1,6 @@
 -- `contour::contours` meets its contract. Assumes nothing.
 use borrow.Author.Needs.{needs}
-use mathlib.Core.Path.{refl, sym, _∙_}
+use mathlib.Core.Path.{sym, _∙_}
 use denote.Ref.{now}
 use borrow.Author.Tests.{ne-eqb}
 use Rattle.network.proofs.Refusals.{contour-not-refused}
@@ -9,16 +9,23 @@ use Rattle.contour.proofs.contours.Tie as tie
 
 list-out-requires : tie.Need-list-out-requires
 list-out-requires c κs =
-    let a = c .before .before .before .before .before .before .before .before .before .before .before .before .before .args in
-    contour-not-refused (now (a .levels)) (a .frame) (a .v) (sym (c .before .before .before .before .before .before .before .contour-refusal .ensures) ∙ c .before .before .before .before .before .before .if1 .taken) .0 .sized
+    let right = c .before .before .before .before .before .before in
+    let judged = right .before in
+    let a = judged .before .before .before .before .before .before .args in
+    contour-not-refused (now (a .levels)) (a .frame) (a .v) (sym (judged .contour-refusal .ensures) ∙ right .if1 .taken)
+    .0 .sized
 
 returns : tie.Need-returns
-returns c = rw (sym (c .before .before .before .before .before .before .before .before .before .before .before .before .before .before .before .before .contour-refusal .ensures) ∙ c .before .before .before .before .before .before .before .before .before .before .before .before .before .before .before .if1 .taken) (c .before .before .before .before .before .before .before .before .list-out .ensures)
+returns c =
+    let listed = c .before .before .before .before .before .before .before .before in
+    let right = listed .before .before .before .before .before .before .before in
+    rw (sym (right .before .contour-refusal .ensures) ∙ right .if1 .taken) (listed .list-out .ensures)
 
 returns-2 : tie.Need-returns-2
 returns-2 c =
-    rw (← c .before .contour-refusal .ensures, ne-eqb (c .before .contour-refusal .result) 0 (c .if1 .left))
-    (record { answers = refl; the-edges = refl; the-counts = refl; the-closed = refl; the-sizes = refl })
+    let why = c .before .contour-refusal in
+    let some = ne-eqb (why .result) 0 (c .if1 .left) in
+    rw (← why .ensures, some, some)
 
 pub contours-spec : {M : Type 1} → statement M
 contours-spec =

@@ -6,45 +6,65 @@ use denote.Ref.{now}
 use lib.ListN.{length, take}
 use lib.Seq.{length-take-le}
 use Rattle.contour.proofs.Buffers.{all-fit}
+use Rattle.contour.proofs.Handing.{outcomes}
 use Rattle.contour.proofs.hand_out.Statement.{statement}
 use Rattle.contour.proofs.hand_out.Tie as tie
 
+-- the place where the function starts
+abbrev start : tie.Then1 → tie.Start
+start c = let middle = c .before .before .before .before in middle .before .before .before .before .before
+
 -- where there is room, each buffer is long enough
-fit : (c : tie.Then1) → let a = c .before .before .before .before .before .before .before .before .before .args in (a .got .edges ≤ length (now (a .edges))) × ((a .got .contours ≤ length (now (a .counts))) × ((a .got .contours ≤ length (now (a .closed))) × (2 ≤ length (now (a .sizes)))))
+fit : (c : tie.Then1) → let a = start c .args in (a .got .edges ≤ length (now (a .edges)))
+    × ((a .got .contours ≤ length (now (a .counts))) × ((a .got .contours ≤ length (now (a .closed))) × (2 ≤ length (now (a .sizes)))))
 fit c =
-    let a = c .before .before .before .before .before .before .before .before .before .args in
-    all-fit (a .got .edges) (a .got .contours) (length (now (a .edges))) (length (now (a .counts))) (length (now (a .closed))) (length (now (a .sizes))) (sym (c .before .room-for .ensures) ∙ c .if1 .taken)
+    let a = start c .args in
+    all-fit (a .got .edges) (a .got .contours) (length (now (a .edges))) (length (now (a .counts))) (length (now (a .closed)))
+    (length (now (a .sizes))) (sym (c .before .room-for .ensures) ∙ c .if1 .taken)
 
 -- what is handed out is as long as it was listed
 listed : (s : tie.Start) → (length (take (s .args .got .edges) (now (s .args .all-edges))) ≡ s .args .got .edges)
-    × ((length (take (s .args .got .contours) (now (s .args .all-counts))) ≡ s .args .got .contours) × (length (take (s .args .got .contours) (now (s .args .all-closed))) ≡ s .args .got .contours))
-listed s = (length-take-le _ _ (s .pre .1 .1 .0), (length-take-le _ _ (s .pre .1 .1 .1 .0), length-take-le _ _ (s .pre .1 .1 .1 .1)))
+    × ((length (take (s .args .got .contours) (now (s .args .all-counts))) ≡ s .args .got .contours)
+    × (length (take (s .args .got .contours) (now (s .args .all-closed))) ≡ s .args .got .contours))
+listed s = (
+  length-take-le _ _ (s .pre .1 .1 .0),
+  (length-take-le _ _ (s .pre .1 .1 .1 .0), length-take-le _ _ (s .pre .1 .1 .1 .1)),
+)
 
 copy-front-requires : tie.Need-copy-front-requires
-copy-front-requires c κs = (c .before .before .before .before .before .before .before .before .before .before .pre .1 .1 .0, fit (c .before) .0)
+copy-front-requires c κs = let roomy = c .before in (start roomy .pre .1 .1 .0, fit roomy .0)
 
 copy-front-requires-2 : tie.Need-copy-front-requires-2
-copy-front-requires-2 c κs = (c .before .before .before .before .before .before .before .before .before .before .before .before .before .before .pre .1 .1 .1 .0, fit (c .before .before .before .before .before) .1 .0)
+copy-front-requires-2 c κs = let roomy = c .before .before .before .before .before in (start roomy .pre .1 .1 .1 .0, fit roomy .1 .0)
 
 copy-front-requires-3 : tie.Need-copy-front-requires-3
-copy-front-requires-3 c κs = (c .before .before .before .before .before .before .before .before .before .before .before .before .before .before .before .before .before .before .pre .1 .1 .1 .1, fit (c .before .before .before .before .before .before .before .before .before) .1 .1 .0)
+copy-front-requires-3 c κs =
+    let counts-copied = c .before .before .before in
+    let roomy = counts-copied .before .before .before .before .before .before in
+    (start roomy .pre .1 .1 .1 .1, fit roomy .1 .1 .0)
 
 put-sizes-requires : tie.Need-put-sizes-requires
-put-sizes-requires c κs = (fit (c .before .before .before .before .before .before .before .before .before .before .before .before .before) .1 .1 .1, (c .before .before .before .before .before .before .before .before .before .before .before .before .before .before .before .before .before .before .before .before .before .before .pre .0, c .before .before .before .before .before .before .before .before .before .before .before .before .before .before .before .before .before .before .before .before .before .before .pre .1 .0))
+put-sizes-requires c κs =
+    let counts-copied = c .before .before .before .before .before .before .before in
+    let roomy = counts-copied .before .before .before .before .before .before in
+    (fit roomy .1 .1 .1, (start roomy .pre .0, start roomy .pre .1 .0))
 
 returns : tie.Need-returns
 returns c =
-    let s = c .before .before .before .before .before .before .before .before .before .before .before .before .before .before .before .before .before .before .before .before .before .before .before .before .before in
-    let l = listed s in
-    let t = c .before .before .before .before .before .before .before .before .before .before .before .before .before .before .before .before in
-    rw (l .0, l .1 .0, l .1 .1, sym (t .before .room-for .ensures) ∙ t .if1 .taken)
-    (record { answers = refl; the-edges = c .before .before .before .before .before .before .before .before .before .before .before .before .before .before .copy-front .ensures; the-counts = c .before .before .before .before .before .before .before .before .before .before .copy-front2 .ensures; the-closed = c .before .before .before .before .before .before .copy-front3 .ensures; the-sizes = c .before .before .put-sizes .ensures })
+    let closed-copied = c .before .before .before .before .before .before in
+    let counts-copied = closed-copied .before .before .before .before in
+    let edges-copied = counts-copied .before .before .before .before in
+    let roomy = edges-copied .before .before in
+    let l = listed (start roomy) in
+    rw (l .0, l .1 .0, l .1 .1, sym (roomy .before .room-for .ensures) ∙ roomy .if1 .taken)
+    (outcomes refl (edges-copied .copy-front .ensures) (counts-copied .copy-front2 .ensures)
+    (closed-copied .copy-front3 .ensures) (c .before .before .put-sizes .ensures))
 
 returns-2 : tie.Need-returns-2
 returns-2 c =
-    let l = listed (c .before .before .before .before .before .before .before .before .before) in
+    let judged = c .before .before .before .before in
+    let l = listed (judged .before .before .before .before .before) in
     rw (l .0, l .1 .0, l .1 .1, sym (c .before .room-for .ensures) ∙ c .if1 .left)
-    (record { answers = refl; the-edges = refl; the-counts = refl; the-closed = refl; the-sizes = refl })
 
 pub hand-out-spec : {M : Type 1} → statement M
 hand-out-spec =

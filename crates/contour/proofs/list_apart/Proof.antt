@@ -4,6 +4,7 @@ use Prim.Native.Nat.{ℕ, _≤_}
 use native.Mathlib.Omega.{arith}
 use denote.Ref.{now}
 use lib.ListN.{length, replicate, length-replicate}
+use Rattle.network.specs.Limits.{maxSide, maxEdges}
 use Rattle.network.specs.Edges.{edges}
 use Rattle.network.proofs.Numbers.{edges-le}
 use Rattle.contour_rules.specs.Picture.{Picture, picture}
@@ -16,8 +17,8 @@ abbrev pictured : tie.Start → Picture
 pictured s = picture (now (s .args .levels)) (s .args .nx) (s .args .ny) (s .args .v)
 
 -- a local buffer has room for the edges of every network
-long : (nx ny : ℕ) → nx ≤ 256 → ny ≤ 256 → edges nx ny ≤ length {A = ℕ} (replicate 130560 0)
-long nx ny h k = rw (length-replicate {A = ℕ} 130560 0) (edges-le nx ny h k)
+long : (nx ny : ℕ) → nx ≤ maxSide → ny ≤ maxSide → edges nx ny ≤ length {A = ℕ} (replicate maxEdges 0)
+long nx ny h k = rw (length-replicate {A = ℕ} maxEdges 0) (edges-le nx ny h k)
 
 list-contours-requires : tie.Need-list-contours-requires
 list-contours-requires c κs =
@@ -27,22 +28,36 @@ list-contours-requires c κs =
 
 hand-out-requires : tie.Need-hand-out-requires
 hand-out-requires c κs =
-    let s = c .before .before .before .before .before .before .before .before .before .before .before .before .before .before .before .before .before .before .before in
-    let t = c .before .before .before .before .before .before .before .before .before .before .list-contours in
+    let lent = c .before .before .before .before in
+    let listing = lent .before .before .before .before .before .before in
+    let made = listing .before .before .before .before in
+    let s = made .before .before .before .before .before in
+    let t = listing .list-contours in
     let l = t .ensures in
     let k = few (pictured s) (s .pre .sides .wide) in
     let m = edges-le (s .args .nx) (s .args .ny) (s .pre .sides .narrow) (s .pre .sides .low) in (
       omega (arith, l .edge-places, k .0),
       (
         omega (arith, l .contours, k .1),
-        (omega (arith, l .edges-fit, t .kept .1 .1 .1 .1 .0), (omega (arith, l .counts-fit, t .kept .1 .1 .1 .1 .1 .0), omega (arith, l .closed-fit, t .kept .1 .1 .1 .1 .1 .1 .0))),
+        (
+          omega (arith, l .edges-fit, t .kept .1 .1 .1 .1 .0),
+          (
+            omega (arith, l .counts-fit, t .kept .1 .1 .1 .1 .1 .0),
+            omega (arith, l .closed-fit, t .kept .1 .1 .1 .1 .1 .1 .0),
+          ),
+        ),
       ),
     )
 
 returns : tie.Need-returns
 returns c =
-    let s = c .before .before .before .before .before .before .before .before .before .before .before .before .before .before .before .before .before .before .before .before .before .before .before .before .before .before .before .before in
-    apart _ _ _ _ _ _ _ _ _ (c .before .before .before .before .before .before .before .before .before .before .before .before .before .before .before .before .before .before .before .list-contours .ensures) _ (now (s .args .edges)) (now (s .args .counts)) (now (s .args .closed)) (now (s .args .sizes)) _ _ _ _ (c .before .before .before .before .before .before .before .before .hand-out .ensures)
+    let handed = c .before .before .before .before .before .before .before .before in
+    let lent = handed .before .before .before .before .before in
+    let listing = lent .before .before .before .before .before .before in
+    let made = listing .before .before .before .before in
+    let a = made .before .before .before .before .before .args in
+    apart _ _ _ _ _ _ _ _ _ (listing .list-contours .ensures) (now (a .edges)) (now (a .counts)) (now (a .closed))
+    (now (a .sizes)) (handed .hand-out .ensures)
 
 pub list-apart-spec : {M : Type 1} → statement M
 list-apart-spec =

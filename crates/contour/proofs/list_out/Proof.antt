@@ -10,10 +10,19 @@ use Rattle.contour.proofs.list_out.Tie as tie
 
 list-straight-requires : tie.Need-list-straight-requires
 list-straight-requires c κs =
-    let s = c .before .before .before .before .before .before .before .before .before .before .before .before in
-    let t = c .before .before .before .before .before .before .edge-count in
-    let f = all-fit (t .result) (t .result) (length (now (s .args .edges))) (length (now (s .args .counts))) (length (now (s .args .closed))) (length (now (s .args .sizes))) (sym (c .before .before .before .before .before .room-for .ensures) ∙ c .before .before .before .before .if1 .taken) in
-    (s .pre, (omega (arith, t .ensures, f .0), (omega (arith, t .ensures, f .1 .0), (omega (arith, t .ensures, f .1 .1 .0), f .1 .1 .1))))
+    let roomy = c .before .before .before .before in
+    let counted = roomy .before .before in
+    let s = counted .before .before .before .before .before .before in
+    let a = s .args in
+    let t = counted .edge-count in
+    let f = all-fit (t .result) (t .result) (length (now (a .edges))) (length (now (a .counts))) (length (now (a .closed)))
+    (length (now (a .sizes))) (sym (roomy .before .room-for .ensures) ∙ roomy .if1 .taken) in (
+      s .pre,
+      (
+        (omega (arith, t .ensures, f .0), (omega (arith, t .ensures, f .1 .0), omega (arith, t .ensures, f .1 .1 .0))),
+        f .1 .1 .1,
+      ),
+    )
 
 pub list-out-spec : {M : Type 1} → statement M
 list-out-spec =

@@ -14,16 +14,23 @@ pictured s = picture (now (s .args .levels)) (s .args .nx) (s .args .ny) (s .arg
 
 put-sizes-requires : tie.Need-put-sizes-requires
 put-sizes-requires c κs =
-    let s = c .before .before .before .before .before .before .before .before .before .before .before .before .before .before .before .before in
-    let l = c .before .before .before .before .before .before .before .list-contours .ensures in
+    let listing = c .before .before .before .before .before .before .before in
+    let lent = listing .before .before .before .before in
+    let s = lent .before .before .before .before .before in
+    let l = listing .list-contours .ensures in
     let k = few (pictured s) (s .pre .0 .sides .wide) in
     let m = edges-le (s .args .nx) (s .args .ny) (s .pre .0 .sides .narrow) (s .pre .0 .sides .low) in
-    (s .pre .1 .1 .1 .1, (omega (arith, l .edge-places, k .0), omega (arith, l .contours, k .1)))
+    (s .pre .1 .1, (omega (arith, l .edge-places, k .0), omega (arith, l .contours, k .1)))
 
 returns : tie.Need-returns
 returns c =
-    let s = c .before .before .before .before .before .before .before .before .before .before .before .before .before .before .before .before .before .before .before in
-    straight _ (now (s .args .edges)) (now (s .args .counts)) (now (s .args .closed)) (now (s .args .sizes)) _ _ _ _ _ _ (c .before .before .before .before .before .before .before .before .before .before .list-contours .ensures) (s .pre .1 .1 .1 .1) (c .before .before .put-sizes .ensures)
+    let sized = c .before .before in
+    let listing = sized .before .before .before .before .before .before .before .before in
+    let lent = listing .before .before .before .before in
+    let s = lent .before .before .before .before .before in
+    let a = s .args in
+    straight _ (now (a .edges)) (now (a .counts)) (now (a .closed)) (now (a .sizes)) _ _ _ _ _ _
+    (listing .list-contours .ensures) (s .pre .1 .1) (sized .put-sizes .ensures)
 
 pub list-straight-spec : {M : Type 1} → statement M
 list-straight-spec =

@@ -1,6 +1,6 @@
 -- `contour::put_sizes` meets its contract. Assumes nothing.
 use borrow.Author.Needs.{needs}
-use Rattle.contour.proofs.Buffers.{front-two}
+use Rattle.room.proofs.Fronts.{front-two}
 use denote.Ref.{now}
 use Rattle.contour.proofs.put_sizes.Statement.{statement}
 use Rattle.contour.proofs.put_sizes.Tie as tie

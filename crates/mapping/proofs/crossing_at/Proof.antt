@@ -8,9 +8,6 @@ use borrow.Author.Needs.{needs}
 use Rattle.mapping.proofs.crossing_at.Statement.{statement}
 use Rattle.mapping.proofs.crossing_at.Tie as tie
 
-contour-refusal-requires : tie.Need-contour-refusal-requires
-contour-refusal-requires c κs = search needs
-
 crossing-of-requires : tie.Need-crossing-of-requires
 crossing-of-requires c κs =
     let a = c .before .before .before .args in
@@ -24,4 +21,4 @@ returns-2 c = rw (← c .before .contour-refusal .ensures, ne-eqb (c .before .co
 
 pub crossing-at-spec : {M : Type 1} → statement M
 crossing-at-spec =
-    tie.close (tie.spec contour-refusal-requires crossing-of-requires returns returns-2)
+    tie.close (tie.spec (λ c κs. search needs) crossing-of-requires returns returns-2)

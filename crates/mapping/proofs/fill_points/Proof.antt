@@ -6,9 +6,10 @@ use lib.ListN.{length, getD, take, length-set}
 use lib.Seq.{take-all}
 use denote.Ref.{now}
 use borrow.Author.Needs.{needs}
+use Rattle.room.specs.Room.{front}
 use Rattle.mapping.specs.declared.Shown.{Shown}
 use Rattle.mapping.specs.Places.{locatedOf, shownOf}
-use Rattle.mapping.specs.Many.{numbersOf, placesOf, over}
+use Rattle.mapping.specs.Many.{numbersOf, placesOf}
 use Rattle.mapping.proofs.Fill.{numbers-none, places-none, numbers-turn, places-turn}
 use Rattle.mapping.proofs.fill_points.Statement.{statement}
 use Rattle.mapping.proofs.fill_points.Tie as tie
@@ -17,84 +18,54 @@ abbrev Inv-loop : tie.InvT-loop
 Inv-loop levels frame v edges which₀ places₀ i₀ which places i =
     (i ≤ length edges)
     × ((length which ≡ length which₀) × ((length places ≡ length places₀)
-    × ((which ≡ over which₀ (numbersOf levels frame v (take i edges))) × (places ≡ over places₀ (placesOf levels frame v (take i edges))))))
+    × ((which ≡ front (numbersOf levels frame v (take i edges)) which₀)
+    × (places ≡ front (placesOf levels frame v (take i edges)) places₀))))
 
 abbrev μ-loop : tie.MeasureT-loop
 μ-loop levels frame v edges which₀ places₀ i₀ which places i = length edges - i
 
 loop-holds : tie.Need-loop-holds Inv-loop μ-loop
 loop-holds c =
-    let a = c .before .before .before .before .args in
-    (search needs, (search needs, (search needs, (numbers-none (now (a .levels)) (a .frame) (a .v) (now (a .which)) (now (a .edges)), places-none (now (a .levels)) (a .frame) (a .v) (now (a .places)) (now (a .edges))))))
-
-mul-locate-at : tie.Need-mul-locate-at Inv-loop μ-loop
-mul-locate-at c = search needs
-
-shared-slice-read-locate-at : tie.Need-shared-slice-read-locate-at Inv-loop μ-loop
-shared-slice-read-locate-at c = search needs
-
-locate-at-requires : tie.Need-locate-at-requires Inv-loop μ-loop
-locate-at-requires c κs = search needs
-
-shown-of-requires : tie.Need-shown-of-requires Inv-loop μ-loop
-shown-of-requires c κs = search needs
-
-mul-which : tie.Need-mul-which Inv-loop μ-loop
-mul-which c = search needs
-
-slice-write-which : tie.Need-slice-write-which Inv-loop μ-loop
-slice-write-which c = search needs
-
-mul-places : tie.Need-mul-places Inv-loop μ-loop
-mul-places c = search needs
-
-mul-places-2 : tie.Need-mul-places-2 Inv-loop μ-loop
-mul-places-2 c = search needs
-
-slice-write-places : tie.Need-slice-write-places Inv-loop μ-loop
-slice-write-places c = search needs
-
-mul-places-3 : tie.Need-mul-places-3 Inv-loop μ-loop
-mul-places-3 c = search needs
-
-add-places : tie.Need-add-places Inv-loop μ-loop
-add-places c = search needs
-
-mul-places-4 : tie.Need-mul-places-4 Inv-loop μ-loop
-mul-places-4 c = search needs
+    let a = c .before .before .before .before .args in (
+      search needs,
+      (
+        search needs,
+        (
+          search needs,
+          (
+            numbers-none (now (a .levels)) (a .frame) (a .v) (now (a .which)) (now (a .edges)),
+            places-none (now (a .levels)) (a .frame) (a .v) (now (a .places)) (now (a .edges)),
+          ),
+        ),
+      ),
+    )
 
 slice-write-places-2 : tie.Need-slice-write-places-2 Inv-loop μ-loop
 slice-write-places-2 c = simp length-set (search needs)
 
-add-i : tie.Need-add-i Inv-loop μ-loop
-add-i c = search needs
-
-loop-less : tie.Need-loop-less Inv-loop μ-loop
-loop-less c = search needs
-
 loop-again : tie.Need-loop-again Inv-loop μ-loop
 loop-again c =
-    let l = c .before .before .before .before .loop in
-    let s = c .before .before .before .before .before .before .before .before .before in
-    let e : c .shown-of .result ≡ shownOf (locatedOf (now (s .args .levels)) (s .args .frame) (s .args .v) (getD (now (s .args .edges)) (l .i) 0)) = c .shown-of .ensures ∙ ap shownOf (c .before .locate-at .ensures) in (
+    let turn = c .before .before .before .before in
+    let l = turn .loop in
+    let s = turn .before .before .before .before .before in
+    let a = s .args in
+    let test = c .before .before .before .loop-test .taken in
+    let e : c .shown-of .result ≡ shownOf (locatedOf (now (a .levels)) (a .frame) (a .v) (getD (now (a .edges)) (l .i) 0)) =
+    c .shown-of .ensures ∙ ap shownOf (c .before .locate-at .ensures) in (
       search needs,
       (
         simp length-set (search needs),
         (
           simp length-set (search needs),
           (
-            rw (e, l .inv .1 .1 .1 .0) (numbers-turn (now (s .args .levels)) (s .args .frame) (s .args .v) (now (s .args .edges)) (l .i) (c .before .before .before .loop-test .taken) (now (s .args .which)) (s .pre .1 .0)),
-            rw (e, l .inv .1 .1 .1 .1) (places-turn (now (s .args .levels)) (s .args .frame) (s .args .v) (now (s .args .edges)) (l .i) (c .before .before .before .loop-test .taken) (now (s .args .places)) (s .pre .1 .1)),
+            rw (e, l .inv .1 .1 .1 .0)
+                (numbers-turn (now (a .levels)) (a .frame) (a .v) (now (a .edges)) (l .i) test (now (a .which)) (s .pre .1 .0)),
+            rw (e, l .inv .1 .1 .1 .1)
+                (places-turn (now (a .levels)) (a .frame) (a .v) (now (a .edges)) (l .i) test (now (a .places)) (s .pre .1 .1)),
           ),
         ),
       ),
     )
-
-same-length : tie.Need-same-length Inv-loop μ-loop
-same-length c = search needs
-
-same-length-2 : tie.Need-same-length-2 Inv-loop μ-loop
-same-length-2 c = search needs
 
 returns : tie.Need-returns Inv-loop μ-loop
 returns c =
@@ -109,22 +80,22 @@ fill-points-spec =
     Inv-loop
     μ-loop
     loop-holds
-    mul-locate-at
-    shared-slice-read-locate-at
-    locate-at-requires
-    shown-of-requires
-    mul-which
-    slice-write-which
-    mul-places
-    mul-places-2
-    slice-write-places
-    mul-places-3
-    add-places
-    mul-places-4
+    (λ c. search needs)
+    (λ c. search needs)
+    (λ c κs. search needs)
+    (λ c κs. search needs)
+    (λ c. search needs)
+    (λ c. search needs)
+    (λ c. search needs)
+    (λ c. search needs)
+    (λ c. search needs)
+    (λ c. search needs)
+    (λ c. search needs)
+    (λ c. search needs)
     slice-write-places-2
-    add-i
-    loop-less
+    (λ c. search needs)
+    (λ c. search needs)
     loop-again
-    same-length
-    same-length-2
+    (λ c. search needs)
+    (λ c. search needs)
     returns)

@@ -8,9 +8,6 @@ use borrow.Author.Needs.{needs}
 use Rattle.mapping.proofs.map_point.Statement.{statement}
 use Rattle.mapping.proofs.map_point.Tie as tie
 
-contour-refusal-requires : tie.Need-contour-refusal-requires
-contour-refusal-requires c κs = search needs
-
 locate-at-requires : tie.Need-locate-at-requires
 locate-at-requires c κs =
     let a = c .before .before .before .args in
@@ -23,4 +20,4 @@ returns-2 : tie.Need-returns-2
 returns-2 c = rw (← c .before .contour-refusal .ensures, ne-eqb (c .before .contour-refusal .result) 0 (c .if1 .left))
 
 pub map-point-spec : {M : Type 1} → statement M
-map-point-spec = tie.close (tie.spec contour-refusal-requires locate-at-requires returns returns-2)
+map-point-spec = tie.close (tie.spec (λ c κs. search needs) locate-at-requires returns returns-2)

@@ -2,9 +2,10 @@
 use mathlib.Core.Path.{_≡_, sym, _∙_}
 use native.Mathlib.Omega.{arith}
 use denote.Ref.{now}
+use Rattle.room.proofs.Answers.{fault-two}
 use Rattle.network.specs.Refusals.{contourRefusal}
 use Rattle.network.proofs.Refusals.{contour-not-refused}
-use Rattle.mapping.proofs.Rooms.{enough, short-places, short-which, accepted, refused, refused-first}
+use Rattle.mapping.proofs.Rooms.{accepted, short-places, short-which}
 use borrow.Author.Needs.{needs}
 use Rattle.mapping.proofs.map_points.Statement.{statement}
 use Rattle.mapping.proofs.map_points.Tie as tie
@@ -16,52 +17,49 @@ start c = c .before .before .before .before .before
 right : (c : tie.Then1) → let a = start (c .before) .args in contourRefusal (now (a .levels)) (a .frame) (a .v) ≡ 0
 right c = sym (c .before .contour-refusal .ensures) ∙ c .if1 .taken
 
-contour-refusal-requires : tie.Need-contour-refusal-requires
-contour-refusal-requires c κs = search needs
-
 fill-points-requires : tie.Need-fill-points-requires
 fill-points-requires c κs =
-    let a = start (c .before .before .before .before .before) .args in
-    (contour-not-refused (now (a .levels)) (a .frame) (a .v) (right (c .before .before .before .before)) .0, (c .before .before .before .if2 .taken, omega (arith, c .before .before .if3 .taken)))
-
-same-length : tie.Need-same-length
-same-length c = search needs
-
-same-length-2 : tie.Need-same-length-2
-same-length-2 c = search needs
+    let checked = c .before .before .before .before in
+    let a = start (checked .before) .args in (
+      contour-not-refused (now (a .levels)) (a .frame) (a .v) (right checked) .0,
+      (c .before .before .before .if2 .taken, omega (arith, c .before .before .if3 .taken)),
+    )
 
 returns : tie.Need-returns
 returns c =
-    let a = start (c .before .before .before .before .before .before .before .before .before .before) .args in
-    accepted (now (a .levels)) (a .frame) (a .v) (now (a .edges)) (now (a .which)) (now (a .places)) _ _
-    (enough (now (a .levels)) (a .frame) (a .v) (now (a .edges)) (now (a .which)) (now (a .places)) (right (c .before .before .before .before .before .before .before .before .before)) (c .before .before .before .before .before .before .before .before .if2 .taken) (omega (arith, c .before .before .before .before .before .before .before .if3 .taken)))
-    (c .before .before .before .before .fill-points .ensures .0) (c .before .before .before .before .fill-points .ensures .1)
+    let filled = c .before .before .before .before in
+    let roomy = filled .before .before .before in
+    let checked = roomy .before .before in
+    let a = start (checked .before) .args in
+    let e = filled .fill-points .ensures in
+    accepted (now (a .levels)) (a .frame) (a .v) (now (a .edges)) (now (a .which)) (now (a .places)) (right checked)
+    (roomy .before .if2 .taken) (omega (arith, roomy .if3 .taken)) (e .0) (e .1)
 
 returns-2 : tie.Need-returns-2
 returns-2 c =
-    let a = start (c .before .before .before) .args in
-    refused (now (a .levels)) (a .frame) (a .v) (now (a .edges)) (now (a .which)) (now (a .places)) 14
-    (short-places (now (a .levels)) (a .frame) (a .v) (now (a .edges)) (now (a .which)) (now (a .places)) (right (c .before .before)) (c .before .if2 .taken) (omega (arith, c .if3 .left))) (λ h. omega arith)
+    let checked = c .before .before in
+    let a = start (checked .before) .args in
+    short-places (now (a .levels)) (a .frame) (a .v) (now (a .edges)) (now (a .which)) (now (a .places)) (right checked)
+    (omega (arith, c .if3 .left))
 
 returns-3 : tie.Need-returns-3
 returns-3 c =
-    let a = start (c .before .before) .args in
-    refused (now (a .levels)) (a .frame) (a .v) (now (a .edges)) (now (a .which)) (now (a .places)) 14
-    (short-which (now (a .levels)) (a .frame) (a .v) (now (a .edges)) (now (a .which)) (now (a .places)) (right (c .before)) (c .if2 .left)) (λ h. omega arith)
+    let checked = c .before in
+    let a = start (checked .before) .args in
+    short-which (now (a .levels)) (a .frame) (a .v) (now (a .edges)) (now (a .which)) (now (a .places)) (right checked)
+    (c .if2 .left)
 
 returns-4 : tie.Need-returns-4
-returns-4 c =
-    let a = start (c .before) .args in
-    refused-first (now (a .levels)) (a .frame) (a .v) (now (a .edges)) (now (a .which)) (now (a .places)) (c .before .contour-refusal .result) (c .before .contour-refusal .ensures) (c .if1 .left)
+returns-4 c = fault-two (sym (c .before .contour-refusal .ensures)) (c .if1 .left)
 
 pub map-points-spec : {M : Type 1} → statement M
 map-points-spec =
     tie.close
     (tie.spec
-    contour-refusal-requires
+    (λ c κs. search needs)
     fill-points-requires
-    same-length
-    same-length-2
+    (λ c. search needs)
+    (λ c. search needs)
     returns
     returns-2
     returns-3

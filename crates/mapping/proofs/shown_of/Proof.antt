@@ -4,15 +4,6 @@ use borrow.Author.Needs.{needs}
 use Rattle.mapping.proofs.shown_of.Statement.{statement}
 use Rattle.mapping.proofs.shown_of.Tie as tie
 
-enum-told : tie.Need-enum-told
-enum-told c = search needs
-
-enum-known-l : tie.Need-enum-known-l
-enum-known-l c = search needs
-
-enum-known-l-2 : tie.Need-enum-known-l-2
-enum-known-l-2 c = search needs
-
 returns : tie.Need-returns
 returns c = rw (c .enum-told .given .1, zero-whole)
 
@@ -24,4 +15,4 @@ returns-3 c = rw (c .before .l2 .given .1)
 
 pub shown-of-spec : {M : Type 1} → statement M
 shown-of-spec =
-    tie.close (tie.spec enum-told enum-known-l enum-known-l-2 returns returns-2 returns-3)
+    tie.close (tie.spec (λ c. search needs) (λ c. search needs) (λ c. search needs) returns returns-2 returns-3)

@@ -6,20 +6,11 @@ use borrow.Author.Needs.{needs}
 use Rattle.network.proofs.is_filled.Statement.{statement}
 use Rattle.network.proofs.is_filled.Tie as tie
 
-cast-result : tie.Need-cast-result
-cast-result c = search needs
-
-cast-result-2 : tie.Need-cast-result-2
-cast-result-2 c = search needs
-
 mul-result : tie.Need-mul-result
 mul-result c =
     let r : c .before .before .args .frame .rows ≤ 4294967295 = search needs in
     let k : c .before .before .args .frame .columns ≤ 4294967295 = search needs in
     omega (arith, mul-le-mul r k)
 
-returns : tie.Need-returns
-returns c = search needs
-
 pub is-filled-spec : {M : Type 1} → statement M
-is-filled-spec = tie.close (tie.spec cast-result cast-result-2 mul-result returns)
+is-filled-spec = tie.close (tie.spec (λ c. search needs) (λ c. search needs) mul-result (λ c. search needs))

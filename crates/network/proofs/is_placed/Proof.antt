@@ -5,9 +5,6 @@ use borrow.Author.Needs.{needs}
 use Rattle.network.proofs.is_placed.Statement.{statement}
 use Rattle.network.proofs.is_placed.Tie as tie
 
-lies-between-requires : tie.Need-lies-between-requires
-lies-between-requires c κs = search needs
-
 returns : tie.Need-returns
 returns c = rw (sym (c .before .before .before .before .lies-between .ensures) ∙ c .before .before .before .if1 .taken, le-leb _ _ (c .before .if2 .taken))
 
@@ -18,4 +15,4 @@ returns-3 : tie.Need-returns-3
 returns-3 c = rw (sym (c .before .lies-between .ensures) ∙ c .if1 .left)
 
 pub is-placed-spec : {M : Type 1} → statement M
-is-placed-spec = tie.close (tie.spec lies-between-requires returns returns-2 returns-3)
+is-placed-spec = tie.close (tie.spec (λ c κs. search needs) returns returns-2 returns-3)

@@ -4,15 +4,6 @@ use borrow.Author.Needs.{needs}
 use Rattle.network.proofs.is_whole.Statement.{statement}
 use Rattle.network.proofs.is_whole.Tie as tie
 
-is-sided-requires : tie.Need-is-sided-requires
-is-sided-requires c κs = search needs
-
-is-placed-requires : tie.Need-is-placed-requires
-is-placed-requires c κs = search needs
-
-is-filled-requires : tie.Need-is-filled-requires
-is-filled-requires c κs = search needs
-
 returns : tie.Need-returns
 returns c = rw (sym (c .before .before .before .before .is-sided .ensures) ∙ c .before .before .before .if1 .taken, sym (c .before .before .is-placed .ensures) ∙ c .before .if2 .taken) (c .is-filled .ensures)
 
@@ -25,4 +16,4 @@ returns-3 c = rw (sym (c .before .is-sided .ensures) ∙ c .if1 .left)
 pub is-whole-spec : {M : Type 1} → statement M
 is-whole-spec =
     tie.close
-    (tie.spec is-sided-requires is-placed-requires is-filled-requires returns returns-2 returns-3)
+    (tie.spec (λ c κs. search needs) (λ c κs. search needs) (λ c κs. search needs) returns returns-2 returns-3)

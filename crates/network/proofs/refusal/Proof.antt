@@ -4,12 +4,6 @@ use borrow.Author.Needs.{needs}
 use Rattle.network.proofs.refusal.Statement.{statement}
 use Rattle.network.proofs.refusal.Tie as tie
 
-is-whole-requires : tie.Need-is-whole-requires
-is-whole-requires c κs = search needs
-
-all-within-requires : tie.Need-all-within-requires
-all-within-requires c κs = search needs
-
 returns : tie.Need-returns
 returns c = rw (sym (c .before .before .before .is-whole .ensures) ∙ c .before .before .if1 .taken, sym (c .before .all-within .ensures) ∙ c .if2 .taken)
 
@@ -21,4 +15,4 @@ returns-3 c = rw (sym (c .before .is-whole .ensures) ∙ c .if1 .left)
 
 pub refusal-spec : {M : Type 1} → statement M
 refusal-spec =
-    tie.close (tie.spec is-whole-requires all-within-requires returns returns-2 returns-3)
+    tie.close (tie.spec (λ c κs. search needs) (λ c κs. search needs) returns returns-2 returns-3)

@@ -12,19 +12,9 @@ slice-aggregate-print-listed-2 : tie.Need-slice-aggregate-print-listed-2
 slice-aggregate-print-listed-2 c = sym (length-take-le _ _ (c .before .before .before .before .before .before .before .before .pre .0 .1 .0))
 
 slice-aggregate-print-listed-3 : tie.Need-slice-aggregate-print-listed-3
-slice-aggregate-print-listed-3 c = sym (length-take-le _ _ (c .before .before .before .before .before .before .before .before .before .pre .0 .1 .1))
-
-print-listed-requires : tie.Need-print-listed-requires
-print-listed-requires c κs = search needs
-
-same-length : tie.Need-same-length
-same-length c = search needs
-
-same-length-2 : tie.Need-same-length-2
-same-length-2 c = search needs
-
-returns : tie.Need-returns
-returns c = search needs
+slice-aggregate-print-listed-3 c =
+    let lent = c .before .before .before .before in
+    sym (length-take-le _ _ (lent .before .before .before .before .before .pre .0 .1 .1))
 
 pub print-fronts-spec : {M : Type 1} → statement M
 print-fronts-spec =
@@ -33,7 +23,7 @@ print-fronts-spec =
     slice-aggregate-print-listed
     slice-aggregate-print-listed-2
     slice-aggregate-print-listed-3
-    print-listed-requires
-    same-length
-    same-length-2
-    returns)
+    (λ c κs. search needs)
+    (λ c. search needs)
+    (λ c. search needs)
+    (λ c. search needs))

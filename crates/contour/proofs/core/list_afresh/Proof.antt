@@ -11,15 +11,25 @@ pictured s = picture (now (s .args .levels)) (s .args .nx) (s .args .ny) (s .arg
 
 list-all-requires : tie.Need-list-all-requires
 list-all-requires c κs =
-    let s = c .before .before .before .before .before .before .before .before .before .before .before .before .before in
-    let f = c .before .before .before .before .before .before .fill-list .ensures in
-    (s .pre .0, (f, first-room (pictured s) _ (now (s .args .edges)) (now (s .args .counts)) (now (s .args .closed)) f (s .pre .1 .1 .0) (s .pre .1 .1 .1 .0) (s .pre .1 .1 .1 .1)))
+    let at-fill-list = c .before .before .before .before .before .before in
+    let s = at-fill-list .before .before .before .before .before .before .before in
+    let f = at-fill-list .fill-list .ensures in (
+      s .pre .0,
+      (
+        f,
+        first-room (pictured s) _ (now (s .args .edges)) (now (s .args .counts))
+            (now (s .args .closed)) f (s .pre .1 .1 .0) (s .pre .1 .1 .1 .0) (s .pre .1 .1 .1 .1),
+      ),
+    )
 
 returns : tie.Need-returns
 returns c =
-    let s = c .before .before .before .before .before .before .before .before .before .before .before .before .before .before .before .before .before .before .before .before .before .before in
-    let t = c .before .before .before .before .before .before .before .before .list-all in
-    all-held (pictured s) _ _ (t .ensures .0) (t .ensures .1) (record { list-long = t .kept .1 .1 .1 .1 .0; edges-long = t .kept .1 .1 .1 .1 .1 .0; counts-long = t .kept .1 .1 .1 .1 .1 .1 .0; closed-long = t .kept .1 .1 .1 .1 .1 .1 .1 .0 })
+    let at-list-all = c .before .before .before .before .before .before .before .before in
+    let at-fill-list = at-list-all .before .before .before .before .before .before .before in
+    let s = at-fill-list .before .before .before .before .before .before .before in
+    let t = at-list-all .list-all in
+    all-held (pictured s) _ _ (t .ensures .0) (t .ensures .1)
+    (record { list-long = t .kept .1 .1 .1 .1 .0; edges-long = t .kept .1 .1 .1 .1 .1 .0; counts-long = t .kept .1 .1 .1 .1 .1 .1 .0; closed-long = t .kept .1 .1 .1 .1 .1 .1 .1 .0 })
 
 pub list-afresh-spec : {M : Type 1} → statement M
 list-afresh-spec =

@@ -9,10 +9,17 @@ use Rattle.network.proofs.Numbers.{edges-le}
 use Rattle.contour.proofs.core.list_with.Statement.{statement}
 use Rattle.contour.proofs.core.list_with.Tie as tie
 
-fits : (c : tie.After-edge-count) → c .edge-count .result ≤ length (c .before .before .before .before .before .before .args .list .now)
+fits : (c : tie.After-edge-count)
+    → c .edge-count .result ≤ length (c .before .before .before .before .before .before .args .list .now)
 fits c =
     let s = c .before .before .before .before .before .before in
-    omega (arith, c .edge-count .ensures, edges-le (s .args .nx) (s .args .ny) (s .pre .0 .sides .narrow) (s .pre .0 .sides .low), s .pre .1 .0)
+    omega (
+      arith,
+      c .edge-count .ensures,
+      edges-le (s .args .nx) (s .args .ny) (s .pre .0 .sides .narrow)
+          (s .pre .0 .sides .low),
+      s .pre .1 .0,
+    )
 
 slice-relend-prefix-list-afresh : tie.Need-slice-relend-prefix-list-afresh
 slice-relend-prefix-list-afresh c = fits c
@@ -22,8 +29,8 @@ slice-aggregate-list-afresh c = sym (length-take-le _ _ (fits (c .before)))
 
 list-afresh-requires : tie.Need-list-afresh-requires
 list-afresh-requires c κs =
-    let s = c .before .before .before .before .before .before .before .before .before .before in
     let e = c .before .before .before .before in
+    let s = e .before .before .before .before .before .before in
     (s .pre .0, (length-take-le _ _ (fits e) ∙ e .edge-count .ensures, s .pre .1 .1))
 
 pub list-with-spec : {M : Type 1} → statement M

@@ -10,7 +10,10 @@ use Rattle.contour.proofs.fill.fill_list.Statement.{statement}
 use Rattle.contour.proofs.fill.fill_list.Tie as tie
 
 fill-rows-requires : tie.Need-fill-rows-requires
-fill-rows-requires c κs = let s = c .before .before .before in (s .pre .0, (first-along (s .args .nx) (s .args .ny), s .pre .1))
+fill-rows-requires c κs = let s = c .before .before .before in (
+  s .pre .0,
+  (first-along (s .args .nx) (s .args .ny), s .pre .1),
+)
 
 sub-fill-rows : tie.Need-sub-fill-rows
 sub-fill-rows c = omega (arith, c .before .before .before .before .before .before .pre .0 .sides .wide)
@@ -18,15 +21,24 @@ sub-fill-rows c = omega (arith, c .before .before .before .before .before .befor
 mul-fill-rows : tie.Need-mul-fill-rows
 mul-fill-rows c =
     let s = c .before .before .before .before .before .before in
-    omega (arith, along-fits (s .args .nx) (s .args .ny) (s .pre .0 .sides .tall) (s .pre .0 .sides .narrow) (s .pre .0 .sides .low) .1 .1)
+    omega (
+      arith,
+      along-fits (s .args .nx) (s .args .ny) (s .pre .0 .sides .tall) (s .pre .0 .sides .narrow)
+          (s .pre .0 .sides .low) .1 .1,
+    )
 
 fill-rows-requires-2 : tie.Need-fill-rows-requires-2
-fill-rows-requires-2 c κs = let s = c .before .before .before .before .before .before .before in (s .pre .0, (first-up (s .args .nx) (s .args .ny), c .before .before .before .fill-rows .kept .1 .1 .1 .1 .1 .1 .0 ∙ s .pre .1))
+fill-rows-requires-2 c κs = let s = c .before .before .before .before .before .before .before in (
+  s .pre .0,
+  (first-up (s .args .nx) (s .args .ny), c .before .before .before .fill-rows .kept .1 .1 .1 .1 .1 .1 .0 ∙ s .pre .1),
+)
 
 returns : tie.Need-returns
 returns c =
-    let s = c .before .before .before .before .before .before .before .before .before .before in
-    fills-all (picture (now (s .args .levels)) (s .args .nx) (s .args .ny) (s .args .v)) (now (s .args .list)) _ _ (s .pre .1) (c .before .before .before .before .before .before .fill-rows .ensures) (c .before .before .fill-rows2 .ensures)
+    let at-fill-rows = c .before .before .before .before .before .before in
+    let s = at-fill-rows .before .before .before .before in
+    fills-all (picture (now (s .args .levels)) (s .args .nx) (s .args .ny) (s .args .v)) (now (s .args .list)) _ _
+    (s .pre .1) (at-fill-rows .fill-rows .ensures) (c .before .before .fill-rows2 .ensures)
 
 pub fill-list-spec : {M : Type 1} → statement M
 fill-list-spec =

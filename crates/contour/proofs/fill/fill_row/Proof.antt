@@ -10,7 +10,7 @@ use Rattle.network.proofs.Numbers.{edges-le}
 use Rattle.contour_rules.specs.Picture.{Picture, picture}
 use Rattle.contour_rules.specs.Crossings.{crossed, crossedAt}
 use Rattle.contour_rules.specs.Contours.{bit}
-use Rattle.contour.specs.Fill.{edgeIn, Fills}
+use Rattle.contour.specs.InnerFill.{edgeIn, Fills}
 use Rattle.contour.proofs.Rows.{row-within, row-crossed, fills-none, fills-more}
 use Rattle.contour.proofs.fill.fill_row.Statement.{statement}
 use Rattle.contour.proofs.fill.fill_row.Tie as tie

@@ -8,7 +8,7 @@ use Rattle.contour_rules.specs.Picture.{Picture, picture}
 use Rattle.contour_rules.specs.Squares.{WithinSquare, sideEdge}
 use Rattle.contour_rules.specs.Crossings.{beyond}
 use Rattle.contour_rules.proofs.Heading.{side-within}
-use Rattle.contour.specs.Walk.{WithinAhead, stepEdge, stepAhead}
+use Rattle.contour.specs.InnerWalk.{WithinAhead, stepEdge, stepAhead}
 use Rattle.contour.proofs.walk.step.Statement.{statement}
 use Rattle.contour.proofs.walk.step.Tie as tie
 

@@ -8,7 +8,7 @@ use lib.ListN.{length, take, length-append}
 use lib.Seq.{length-take-le}
 use borrow.Author.Needs.{needs}
 use Rattle.wkt.specs.Text.{textOf}
-use Rattle.wkt.specs.Parts.{Reached, leftOf, linesFrom}
+use Rattle.wkt.specs.InnerParts.{Reached, leftOf, linesFrom}
 use Rattle.wkt.proofs.Lengths.{piece-short}
 use Rattle.wkt.proofs.Steps.{left-first, left-end, reached-first}
 use Rattle.contours_steps.specs.Sheet.{sheetOf}

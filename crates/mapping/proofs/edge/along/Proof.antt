@@ -6,12 +6,6 @@ use borrow.Author.Needs.{needs}
 use Rattle.mapping.proofs.edge.along.Statement.{statement}
 use Rattle.mapping.proofs.edge.along.Tie as tie
 
-apart-requires : tie.Need-apart-requires
-apart-requires c κs = search needs
-
-apart-requires-2 : tie.Need-apart-requires-2
-apart-requires-2 c κs = search needs
-
 fraction-requires : tie.Need-fraction-requires
 fraction-requires c κs = ⊎-elim (λ w. omega arith) (λ w. omega arith) (c .before .before .pre)
 
@@ -19,4 +13,4 @@ returns : tie.Need-returns
 returns c = c .fraction .ensures .nearest ∙ rw (c .before .before .apart .ensures, c .before .apart2 .ensures)
 
 pub along-spec : {M : Type 1} → statement M
-along-spec = tie.close (tie.spec apart-requires apart-requires-2 fraction-requires returns)
+along-spec = tie.close (tie.spec (λ c κs. search needs) (λ c κs. search needs) fraction-requires returns)

@@ -12,9 +12,6 @@ use borrow.Author.Needs.{needs}
 use Rattle.mapping.proofs.edge.along_edge.Statement.{statement}
 use Rattle.mapping.proofs.edge.along_edge.Tie as tie
 
-enum-known-e : tie.Need-enum-known-e
-enum-known-e c = search needs
-
 level-requires : tie.Need-level-requires
 level-requires c κs =
     let s = c .before .before .before .before in
@@ -38,9 +35,6 @@ along-requires c κs =
     let s = c .before .before .before .before .before .before in
     let x = subst (λ (e : Edge). crossedEdge (now (s .args .levels)) (s .args .nx) (s .args .v) e ≡ true) (c .before .before .before .e .given .1) (s .pre .1 .1) in
     rw (c .before .level .ensures, c .level2 .ensures) (astride (s .args .v) _ _ x)
-
-enum-known-e-2 : tie.Need-enum-known-e-2
-enum-known-e-2 c = search needs
 
 level-requires-3 : tie.Need-level-requires-3
 level-requires-3 c κs =
@@ -76,12 +70,12 @@ pub along-edge-spec : {M : Type 1} → statement M
 along-edge-spec =
     tie.close
     (tie.spec
-    enum-known-e
+    (λ c. search needs)
     level-requires
     add-level
     level-requires-2
     along-requires
-    enum-known-e-2
+    (λ c. search needs)
     level-requires-3
     add-level-2
     level-requires-4

@@ -19,21 +19,6 @@ start c = c .before .before .before .before
 inside : (c : tie.Then1) → let a = start (c .before) .args in a .n < edges (a .frame .columns) (a .frame .rows)
 inside c = omega (arith, c .if1 .taken, c .before .edge-count .ensures)
 
-cast-nx : tie.Need-cast-nx
-cast-nx c = search needs
-
-cast-ny : tie.Need-cast-ny
-cast-ny c = search needs
-
-edge-count-requires : tie.Need-edge-count-requires
-edge-count-requires c κs = search needs
-
-crossed-at-requires : tie.Need-crossed-at-requires
-crossed-at-requires c κs = search needs
-
-edge-at-requires : tie.Need-edge-at-requires
-edge-at-requires c κs = search needs
-
 along-edge-requires : tie.Need-along-edge-requires
 along-edge-requires c κs =
     let s = start (c .before .before .before .before) in
@@ -62,11 +47,11 @@ pub crossing-of-spec : {M : Type 1} → statement M
 crossing-of-spec =
     tie.close
     (tie.spec
-    cast-nx
-    cast-ny
-    edge-count-requires
-    crossed-at-requires
-    edge-at-requires
+    (λ c. search needs)
+    (λ c. search needs)
+    (λ c κs. search needs)
+    (λ c κs. search needs)
+    (λ c κs. search needs)
     along-edge-requires
     returns
     returns-2

@@ -23,29 +23,8 @@ small c =
     (subst (WithinEdge (f .columns) (f .rows)) (sym (c .edge-at .ensures))
     (edge-within (f .columns) (f .rows) (s .pre .sized .sides .wide) (s .args .n) (omega (arith, c .before .before .if1 .taken, c .before .before .before .edge-count .ensures))))
 
-cast-nx : tie.Need-cast-nx
-cast-nx c = search needs
-
-cast-ny : tie.Need-cast-ny
-cast-ny c = search needs
-
-edge-count-requires : tie.Need-edge-count-requires
-edge-count-requires c κs = search needs
-
-crossing-of-requires : tie.Need-crossing-of-requires
-crossing-of-requires c κs = search needs
-
-edge-at-requires : tie.Need-edge-at-requires
-edge-at-requires c κs = search needs
-
-row-of-requires : tie.Need-row-of-requires
-row-of-requires c κs = search needs
-
 cast-row : tie.Need-cast-row
 cast-row c = omega (arith, c .row-of .ensures, small (c .before) .0)
-
-col-of-requires : tie.Need-col-of-requires
-col-of-requires c κs = search needs
 
 cast-col : tie.Need-cast-col
 cast-col c = omega (arith, c .col-of .ensures, small (c .before .before) .1)
@@ -68,14 +47,14 @@ pub locate-at-spec : {M : Type 1} → statement M
 locate-at-spec =
     tie.close
     (tie.spec
-    cast-nx
-    cast-ny
-    edge-count-requires
-    crossing-of-requires
-    edge-at-requires
-    row-of-requires
+    (λ c. search needs)
+    (λ c. search needs)
+    (λ c κs. search needs)
+    (λ c κs. search needs)
+    (λ c κs. search needs)
+    (λ c κs. search needs)
     cast-row
-    col-of-requires
+    (λ c κs. search needs)
     cast-col
     locate-crossing-requires
     returns

@@ -11,11 +11,5 @@ mul-result c = omega (arith, mul-le-mul (le-of-lt (c .pre .0)) (c .pre .1 .0))
 add-result : tie.Need-add-result
 add-result c = omega (arith, mul-le-mul (le-of-lt (c .pre .0)) (c .pre .1 .0))
 
-int-to-float-result : tie.Need-int-to-float-result
-int-to-float-result c = search needs
-
-returns : tie.Need-returns
-returns c = search needs
-
 pub stay-spec : {M : Type 1} → statement M
-stay-spec = tie.close (tie.spec mul-result add-result int-to-float-result returns)
+stay-spec = tie.close (tie.spec mul-result add-result (λ c. search needs) (λ c. search needs))

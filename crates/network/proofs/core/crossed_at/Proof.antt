@@ -7,9 +7,6 @@ use borrow.Author.Needs.{needs}
 use Rattle.network.proofs.core.crossed_at.Statement.{statement}
 use Rattle.network.proofs.core.crossed_at.Tie as tie
 
-edge-at-requires : tie.Need-edge-at-requires
-edge-at-requires c κs = search needs
-
 crossed-edge-requires : tie.Need-crossed-edge-requires
 crossed-edge-requires c κs =
     let s = c .before .before in
@@ -20,4 +17,4 @@ returns : tie.Need-returns
 returns c = c .crossed-edge .ensures ∙ rw (c .before .edge-at .ensures)
 
 pub crossed-at-spec : {M : Type 1} → statement M
-crossed-at-spec = tie.close (tie.spec edge-at-requires crossed-edge-requires returns)
+crossed-at-spec = tie.close (tie.spec (λ c κs. search needs) crossed-edge-requires returns)

@@ -6,9 +6,6 @@ use borrow.Author.Needs.{needs}
 use Rattle.network.proofs.core.crossed_edge.Statement.{statement}
 use Rattle.network.proofs.core.crossed_edge.Tie as tie
 
-enum-known-e : tie.Need-enum-known-e
-enum-known-e c = search needs
-
 inside-requires : tie.Need-inside-requires
 inside-requires c κs =
     let s = c .before .before .before .before in
@@ -25,12 +22,6 @@ inside-requires-2 : tie.Need-inside-requires-2
 inside-requires-2 c κs =
     let s = c .before .before .before .before .before in
     (s .pre .0, subst (WithinEdge (s .args .nx) (s .args .ny)) (c .before .before .e .given .1) (s .pre .1))
-
-differ-requires : tie.Need-differ-requires
-differ-requires c κs = search needs
-
-enum-known-e-2 : tie.Need-enum-known-e-2
-enum-known-e-2 c = search needs
 
 inside-requires-3 : tie.Need-inside-requires-3
 inside-requires-3 c κs =
@@ -49,9 +40,6 @@ inside-requires-4 c κs =
     let s = c .before .before .before .before .before in
     (s .pre .0, subst (WithinEdge (s .args .nx) (s .args .ny)) (c .before .before .e2 .given .1) (s .pre .1))
 
-differ-requires-2 : tie.Need-differ-requires-2
-differ-requires-2 c κs = search needs
-
 returns : tie.Need-returns
 returns c = rw (c .before .before .before .before .e .given .1) (c .differ .ensures ∙ rw (c .before .before .inside .ensures, c .before .inside2 .ensures))
 
@@ -62,15 +50,15 @@ pub crossed-edge-spec : {M : Type 1} → statement M
 crossed-edge-spec =
     tie.close
     (tie.spec
-    enum-known-e
+    (λ c. search needs)
     inside-requires
     add-inside
     inside-requires-2
-    differ-requires
-    enum-known-e-2
+    (λ c κs. search needs)
+    (λ c. search needs)
     inside-requires-3
     add-inside-2
     inside-requires-4
-    differ-requires-2
+    (λ c κs. search needs)
     returns
     returns-2)

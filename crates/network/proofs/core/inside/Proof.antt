@@ -3,11 +3,8 @@ use borrow.Author.Needs.{needs}
 use Rattle.network.proofs.core.inside.Statement.{statement}
 use Rattle.network.proofs.core.inside.Tie as tie
 
-level-requires : tie.Need-level-requires
-level-requires c κs = search needs
-
 returns : tie.Need-returns
 returns c = cc
 
 pub inside-spec : {M : Type 1} → statement M
-inside-spec = tie.close (tie.spec level-requires returns)
+inside-spec = tie.close (tie.spec (λ c κs. search needs) returns)

@@ -19,9 +19,6 @@ shared-slice-read-result c =
     let p = c .before .pre in
     point-lt (p .0) (p .1 .0) (p .1 .1)
 
-returns : tie.Need-returns
-returns c = search needs
-
 pub level-spec : {M : Type 1} → statement M
 level-spec =
-    tie.close (tie.spec mul-at add-at mul-result shared-slice-read-result returns)
+    tie.close (tie.spec mul-at add-at mul-result shared-slice-read-result (λ c. search needs))

@@ -1,6 +1,7 @@
 -- `network::core::number_of` meets its contract. Assumes nothing.
 use Prim.Native.Nat.{_+_, _-_, _*_, _<_}
 use Rattle.network.specs.declared.Edge.the-variants.{Horizontal, Vertical}
+use Rattle.network.specs.Limits.{maxEdges}
 use Rattle.network.specs.Edges.{WithinEdge, numberOf}
 use Rattle.network.proofs.Numbers.{number-small}
 use mathlib.Core.Path.{_≡_, refl, sym, ap, subst, _∙_}
@@ -9,33 +10,21 @@ use borrow.Author.Needs.{needs}
 use Rattle.network.proofs.core.number_of.Statement.{statement}
 use Rattle.network.proofs.core.number_of.Tie as tie
 
-small : (c : tie.After-known-told) → let a = c .before .before .before .args in numberOf (a .nx) (a .ny) (Horizontal (c .before .e .given .0 .0) (c .before .e .given .0 .1 .0)) < 130560
+small : (c : tie.After-known-told) → let a = c .before .before .before .args in numberOf (a .nx) (a .ny) (Horizontal (c .before .e .given .0 .0) (c .before .e .given .0 .1 .0)) < maxEdges
 small c =
     let s = c .before .before .before in
     number-small (Horizontal (c .before .e .given .0 .0) (c .before .e .given .0 .1 .0)) (s .pre .0) (subst (WithinEdge (s .args .nx) (s .args .ny)) (c .before .e .given .1) (s .pre .1))
 
-small-2 : (c : tie.After-known-told2) → let a = c .before .before .before .args in numberOf (a .nx) (a .ny) (Vertical (c .before .e2 .given .0 .0) (c .before .e2 .given .0 .1 .0)) < 130560
+small-2 : (c : tie.After-known-told2) → let a = c .before .before .before .args in numberOf (a .nx) (a .ny) (Vertical (c .before .e2 .given .0 .0) (c .before .e2 .given .0 .1 .0)) < maxEdges
 small-2 c =
     let s = c .before .before .before in
     number-small (Vertical (c .before .e2 .given .0 .0) (c .before .e2 .given .0 .1 .0)) (s .pre .0) (subst (WithinEdge (s .args .nx) (s .args .ny)) (c .before .e2 .given .1) (s .pre .1))
-
-enum-known-e : tie.Need-enum-known-e
-enum-known-e c = search needs
-
-sub-result : tie.Need-sub-result
-sub-result c = search needs
 
 mul-result : tie.Need-mul-result
 mul-result c = omega (arith, small c)
 
 add-result : tie.Need-add-result
 add-result c = omega (arith, small c)
-
-enum-known-e-2 : tie.Need-enum-known-e-2
-enum-known-e-2 c = search needs
-
-sub-result-2 : tie.Need-sub-result-2
-sub-result-2 c = search needs
 
 mul-result-2 : tie.Need-mul-result-2
 mul-result-2 c = omega (arith, small-2 c)
@@ -59,12 +48,12 @@ pub number-of-spec : {M : Type 1} → statement M
 number-of-spec =
     tie.close
     (tie.spec
-    enum-known-e
-    sub-result
+    (λ c. search needs)
+    (λ c. search needs)
     mul-result
     add-result
-    enum-known-e-2
-    sub-result-2
+    (λ c. search needs)
+    (λ c. search needs)
     mul-result-2
     mul-result-3
     add-result-2

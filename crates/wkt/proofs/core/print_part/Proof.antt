@@ -11,7 +11,7 @@ use borrow.Author.Needs.{needs}
 use Rattle.room.specs.Room.{Wrote}
 use Rattle.room.proofs.Laws.{length-wrote, wrote-front, wrote-fits}
 use Rattle.wkt.specs.declared.Cursor.{Cursor}
-use Rattle.wkt.specs.Parts.{Reached, leftOf, pieceOf, nextOf}
+use Rattle.wkt.specs.InnerParts.{Reached, leftOf, pieceOf, nextOf}
 use Rattle.wkt.proofs.Lengths.{piece-short}
 use Rattle.wkt.proofs.Steps.{ahead, Goes, goes}
 use Rattle.wkt.proofs.Rooms.{Come, come-none, come-more}
@@ -25,37 +25,51 @@ abbrev μ-loop : tie.MeasureT-loop
 μ-loop levels frame v edges counts closed room₀ piece₀ at₀ size₀ room piece at size = ahead edges counts at
 
 -- what the step did: the piece in front of its buffer, and the cursor moved on
-stepped : (c : tie.After-put-step Inv-loop μ-loop) → let a = c .before .before .before .before .before .before .before .before .before .before .args in
-    Goes (now (a .levels)) (a .frame) (a .v) (now (a .edges)) (now (a .counts)) (now (a .closed)) (c .before .before .before .before .loop .at) (c .put-step .result .next) (pieceOf (now (a .levels)) (a .frame) (a .v) (now (a .edges)) (now (a .counts)) (now (a .closed)) (c .before .before .before .before .loop .at))
+stepped : (c : tie.After-put-step Inv-loop μ-loop)
+    → let at-loop = c .before .before .before .before in
+    let a = at-loop .before .before .before .before .before .before .args in
+    Goes (now (a .levels)) (a .frame) (a .v) (now (a .edges)) (now (a .counts)) (now (a .closed))
+    (at-loop .loop .at) (c .put-step .result .next)
+    (pieceOf (now (a .levels)) (a .frame) (a .v) (now (a .edges)) (now (a .counts)) (now (a .closed))
+    (at-loop .loop .at))
 stepped c =
-    let s = c .before .before .before .before .before .before .before .before .before .before in
+    let at-loop = c .before .before .before .before in
+    let s = at-loop .before .before .before .before .before .before in
     let a = s .args in
-    let l = c .before .before .before .before .loop in
-    subst (λ (n : Cursor). Goes (now (a .levels)) (a .frame) (a .v) (now (a .edges)) (now (a .counts)) (now (a .closed)) (l .at) n (pieceOf (now (a .levels)) (a .frame) (a .v) (now (a .edges)) (now (a .counts)) (now (a .closed)) (l .at))) (sym (c .put-step .ensures .0)) (goes (now (a .levels)) (a .frame) (a .v) (now (a .edges)) (now (a .counts)) (now (a .closed)) (s .pre .0) (l .at) (l .inv .reached) (c .before .before .if1 .taken))
+    let l = at-loop .loop in
+    subst (λ (n : Cursor). Goes (now (a .levels)) (a .frame) (a .v) (now (a .edges)) (now (a .counts)) (now (a .closed))
+    (l .at) n (pieceOf (now (a .levels)) (a .frame) (a .v) (now (a .edges)) (now (a .counts)) (now (a .closed))
+    (l .at))) (sym (c .put-step .ensures .0)) (goes (now (a .levels)) (a .frame) (a .v) (now (a .edges))
+    (now (a .counts)) (now (a .closed)) (s .pre .0) (l .at) (l .inv .reached) (c .before .before .if1 .taken))
 
 whole : (c : tie.After-put-step Inv-loop μ-loop) → length (c .put-step .last .1 .1 .1 .1 .1 .1 .1 .0) ≡ 64
 whole c =
-    let a = c .before .before .before .before .before .before .before .before .before .before .args in
-    let l = c .before .before .before .before .loop in
-    length-wrote (omega (arith, l .inv .whole, piece-short (now (a .levels)) (a .frame) (a .v) (now (a .edges)) (now (a .counts)) (now (a .closed)) (l .at))) (c .put-step .ensures .1) ∙ l .inv .whole
+    let at-loop = c .before .before .before .before in
+    let start = at-loop .before .before .before .before .before .before in
+    let a = start .args in
+    let l = at-loop .loop in
+    length-wrote (omega (
+      arith,
+      l .inv .whole,
+      piece-short (now (a .levels)) (a .frame) (a .v) (now (a .edges))
+          (now (a .counts)) (now (a .closed)) (l .at),
+    )) (c .put-step .ensures .1) ∙ l .inv .whole
 
 loop-holds : tie.Need-loop-holds Inv-loop μ-loop
 loop-holds c =
     let s = c .before .before .before .before .before in
     let a = s .args in
-    come-none (now (a .levels)) (a .frame) (a .v) (now (a .edges)) (now (a .counts)) (now (a .closed)) (a .from) (now (a .room)) _ (s .pre .1) (search needs)
-
-slice-aggregate-put-step : tie.Need-slice-aggregate-put-step Inv-loop μ-loop
-slice-aggregate-put-step c = search needs
+    come-none (now (a .levels)) (a .frame) (a .v) (now (a .edges)) (now (a .counts)) (now (a .closed)) (a .from)
+    (now (a .room)) _ (s .pre .1) (search needs)
 
 put-step-requires : tie.Need-put-step-requires Inv-loop μ-loop
-put-step-requires c κs = ((c .before .before .before .before .before .before .before .before .before .pre .0, c .before .before .before .loop .inv .reached), (c .before .if1 .taken, omega (arith, c .before .before .before .loop .inv .whole)))
+put-step-requires c κs =
+    let at-loop = c .before .before .before in
+    let start = at-loop .before .before .before .before .before .before in
+    ((start .pre .0, at-loop .loop .inv .reached), (c .before .if1 .taken, omega (arith, at-loop .loop .inv .whole)))
 
 sub-if2 : tie.Need-sub-if2 Inv-loop μ-loop
 sub-if2 c = omega (arith, c .before .before .before .before .before .loop .inv .fits, c .before .before .before .before .before .loop .inv .long)
-
-same-length : tie.Need-same-length Inv-loop μ-loop
-same-length c = search needs
 
 returns : tie.Need-returns Inv-loop μ-loop
 returns c =
@@ -77,7 +91,8 @@ array-share-prefix-piece : tie.Need-array-share-prefix-piece Inv-loop μ-loop
 array-share-prefix-piece c = wrote-fits (c .before .before .before .put-step .ensures .1)
 
 slice-aggregate-put-text : tie.Need-slice-aggregate-put-text Inv-loop μ-loop
-slice-aggregate-put-text c = sym (length-take-le _ _ (wrote-fits (c .before .before .before .before .put-step .ensures .1)))
+slice-aggregate-put-text c = sym (length-take-le _ _
+    (wrote-fits (c .before .before .before .before .put-step .ensures .1)))
 
 put-text-requires : tie.Need-put-text-requires Inv-loop μ-loop
 put-text-requires c κs =
@@ -90,18 +105,26 @@ loop-less c = stepped (c .before .before .before .before .before .before .before
 
 loop-again : tie.Need-loop-again Inv-loop μ-loop
 loop-again c =
-    let a = c .before .before .before .before .before .before .before .before .before .before .before .before .before .before .before .before .before .before .args in
-    let l = c .before .before .before .before .before .before .before .before .before .before .before .before .loop in
-    let t = c .before .before .before .before .before .before .before .before .put-step in
+    let at-put-text = c .before .before .before in
+    let at-if2 = at-put-text .before .before .before in
+    let at-put-step = at-if2 .before .before in
+    let at-if1 = at-put-step .before .before in
+    let at-loop = at-if1 .before .before in
+    let start = at-loop .before .before .before .before .before .before in
+    let a = start .args in
+    let l = at-loop .loop in
+    let t = at-put-step .put-step in
     let w = t .ensures .1 in
-    let p = c .before .before .before .put-text in
-    let fits : l .size + length (pieceOf (now (a .levels)) (a .frame) (a .v) (now (a .edges)) (now (a .counts)) (now (a .closed)) (l .at)) ≤ length (l .room) = omega (arith, w .place, c .before .before .before .before .before .before .if2 .left, l .inv .fits, l .inv .long) in
-    come-more (now (a .levels)) (a .frame) (a .v) (now (a .edges)) (now (a .counts)) (now (a .closed)) (a .from) (now (a .room)) (l .room) (l .piece) (l .at) (l .size) (l .inv) (t .result .next) (t .last .1 .1 .1 .1 .1 .1 .1 .0) (p .last .0) (p .result)
-    (t .ensures .0) (c .before .before .before .before .before .before .before .before .before .before .if1 .taken) fits (subst (λ (t : List ℕ). Wrote (l .room) (l .size) t (p .last .0) (p .result)) (wrote-front w) (p .ensures))
-    (stepped (c .before .before .before .before .before .before .before .before) .text) (stepped (c .before .before .before .before .before .before .before .before) .reached) (whole (c .before .before .before .before .before .before .before .before))
-
-same-length-2 : tie.Need-same-length-2 Inv-loop μ-loop
-same-length-2 c = search needs
+    let p = at-put-text .put-text in
+    let fits : l .size + length (pieceOf (now (a .levels)) (a .frame) (a .v) (now (a .edges)) (now (a .counts))
+    (now (a .closed))
+    (l .at)) ≤ length (l .room) = omega (arith, w .place, at-if2 .if2 .left, l .inv .fits, l .inv .long) in
+    come-more (now (a .levels)) (a .frame) (a .v) (now (a .edges)) (now (a .counts)) (now (a .closed)) (a .from)
+    (now (a .room)) (l .room) (l .piece) (l .at) (l .size) (l .inv) (t .result .next) (t .last .1 .1 .1 .1 .1 .1 .1 .0)
+    (p .last .0) (p .result)
+    (t .ensures .0) (at-if1 .if1 .taken) fits (subst (λ (t : List ℕ). Wrote (l .room) (l .size) t (p .last .0)
+    (p .result)) (wrote-front w) (p .ensures))
+    (stepped at-put-step .text) (stepped at-put-step .reached) (whole at-put-step)
 
 returns-2 : tie.Need-returns-2 Inv-loop μ-loop
 returns-2 c =
@@ -126,15 +149,15 @@ print-part-spec =
     Inv-loop
     μ-loop
     loop-holds
-    slice-aggregate-put-step
+    (λ c. search needs)
     put-step-requires
     sub-if2
-    same-length
+    (λ c. search needs)
     returns
     array-share-prefix-piece
     slice-aggregate-put-text
     put-text-requires
     loop-less
     loop-again
-    same-length-2
+    (λ c. search needs)
     returns-2)

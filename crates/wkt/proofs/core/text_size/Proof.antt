@@ -6,10 +6,11 @@ use lib.ListN.{length, length-append}
 use denote.Ref.{now}
 use borrow.Author.Needs.{needs}
 use Rattle.room.proofs.Laws.{length-wrote}
+use Rattle.network.specs.Limits.{maxEdges}
 use Rattle.network.proofs.Numbers.{edges-le}
 use Rattle.wkt.specs.declared.Cursor.{Cursor}
 use Rattle.wkt.specs.Text.{textOf}
-use Rattle.wkt.specs.Parts.{Reached, linesFrom, leftOf, pieceOf, nextOf}
+use Rattle.wkt.specs.InnerParts.{Reached, linesFrom, leftOf, pieceOf, nextOf}
 use Rattle.wkt.proofs.Lengths.{piece-short}
 use Rattle.wkt.proofs.Steps.{ahead, Goes, goes, left-first, left-end, reached-first, count-total}
 use Rattle.wkt.proofs.core.text_size.Statement.{statement}
@@ -18,41 +19,69 @@ use Rattle.wkt.proofs.core.text_size.Tie as tie
 abbrev Inv-loop : tie.InvT-loop
 Inv-loop levels frame v edges counts closed piece₀ at₀ size₀ piece at size =
     (length piece ≡ 64) × (Reached edges counts closed at
-    × ((length (textOf levels frame v (linesFrom edges counts closed)) ≡ size + length (leftOf levels frame v edges counts closed at))
+    × ((length (textOf levels frame v (linesFrom edges counts closed))
+    ≡ size + length (leftOf levels frame v edges counts closed at))
     × (size + 64 * ahead edges counts at ≤ 64 * (length edges + 2 * length counts + 3))))
 
 abbrev μ-loop : tie.MeasureT-loop
 μ-loop levels frame v edges counts closed piece₀ at₀ size₀ piece at size = ahead edges counts at
 
-stepped : (c : tie.After-put-step Inv-loop μ-loop) → let a = c .before .before .before .before .before .before .before .before .before .before .args in
-    Goes (now (a .levels)) (a .frame) (a .v) (now (a .edges)) (now (a .counts)) (now (a .closed)) (c .before .before .before .before .loop .at) (c .put-step .result .next) (pieceOf (now (a .levels)) (a .frame) (a .v) (now (a .edges)) (now (a .counts)) (now (a .closed)) (c .before .before .before .before .loop .at))
+stepped : (c : tie.After-put-step Inv-loop μ-loop)
+    → let at-loop = c .before .before .before .before in
+    let a = at-loop .before .before .before .before .before .before .args in
+    Goes (now (a .levels)) (a .frame) (a .v) (now (a .edges)) (now (a .counts)) (now (a .closed))
+    (at-loop .loop .at) (c .put-step .result .next)
+    (pieceOf (now (a .levels)) (a .frame) (a .v) (now (a .edges)) (now (a .counts)) (now (a .closed))
+    (at-loop .loop .at))
 stepped c =
-    let s = c .before .before .before .before .before .before .before .before .before .before in
+    let at-loop = c .before .before .before .before in
+    let s = at-loop .before .before .before .before .before .before in
     let a = s .args in
-    let l = c .before .before .before .before .loop in
-    subst (λ (n : Cursor). Goes (now (a .levels)) (a .frame) (a .v) (now (a .edges)) (now (a .counts)) (now (a .closed)) (l .at) n (pieceOf (now (a .levels)) (a .frame) (a .v) (now (a .edges)) (now (a .counts)) (now (a .closed)) (l .at))) (sym (c .put-step .ensures .0)) (goes (now (a .levels)) (a .frame) (a .v) (now (a .edges)) (now (a .counts)) (now (a .closed)) (s .pre) (l .at) (l .inv .1 .0) (c .before .before .if1 .taken))
+    let l = at-loop .loop in
+    subst (λ (n : Cursor). Goes (now (a .levels)) (a .frame) (a .v) (now (a .edges)) (now (a .counts)) (now (a .closed))
+    (l .at) n (pieceOf (now (a .levels)) (a .frame) (a .v) (now (a .edges)) (now (a .counts)) (now (a .closed))
+    (l .at))) (sym (c .put-step .ensures .0)) (goes (now (a .levels)) (a .frame) (a .v) (now (a .edges))
+    (now (a .counts)) (now (a .closed)) (s .pre) (l .at) (l .inv .1 .0) (c .before .before .if1 .taken))
 
 -- a piece is short
 short : (c : tie.After-put-step Inv-loop μ-loop) → c .put-step .result .size ≤ 64
 short c =
-    let a = c .before .before .before .before .before .before .before .before .before .before .args in
-    omega (arith, c .put-step .ensures .1 .place, piece-short (now (a .levels)) (a .frame) (a .v) (now (a .edges)) (now (a .counts)) (now (a .closed)) (c .before .before .before .before .loop .at))
+    let at-loop = c .before .before .before .before in
+    let start = at-loop .before .before .before .before .before .before in
+    let a = start .args in
+    omega (
+      arith,
+      c .put-step .ensures .1 .place,
+      piece-short (now (a .levels)) (a .frame) (a .v) (now (a .edges))
+          (now (a .counts)) (now (a .closed)) (at-loop .loop .at),
+    )
 
 whole : (c : tie.After-put-step Inv-loop μ-loop) → length (c .put-step .last .1 .1 .1 .1 .1 .1 .1 .0) ≡ 64
 whole c =
-    let a = c .before .before .before .before .before .before .before .before .before .before .args in
-    let l = c .before .before .before .before .loop in
-    length-wrote (omega (arith, l .inv .0, piece-short (now (a .levels)) (a .frame) (a .v) (now (a .edges)) (now (a .counts)) (now (a .closed)) (l .at))) (c .put-step .ensures .1) ∙ l .inv .0
+    let at-loop = c .before .before .before .before in
+    let start = at-loop .before .before .before .before .before .before in
+    let a = start .args in
+    let l = at-loop .loop in
+    length-wrote (omega (
+      arith,
+      l .inv .0,
+      piece-short (now (a .levels)) (a .frame) (a .v) (now (a .edges))
+          (now (a .counts)) (now (a .closed)) (l .at),
+    )) (c .put-step .ensures .1) ∙ l .inv .0
 
 -- few edges and lines are listed
-few : (s : tie.Start Inv-loop μ-loop) → (length (now (s .args .edges)) ≤ 130560) × (length (now (s .args .counts)) ≤ 130560)
+few : (s : tie.Start Inv-loop μ-loop) → (length (now (s .args .edges)) ≤ maxEdges)
+    × (length (now (s .args .counts)) ≤ maxEdges)
 few s =
     let k = s .pre in
-    let e : length (now (s .args .edges)) ≤ 130560 = omega (arith, k .few, edges-le (s .args .frame .columns) (s .args .frame .rows) (k .checked .sized .sides .narrow) (k .checked .sized .sides .low)) in
+    let e : length (now (s .args .edges)) ≤ maxEdges =
+    omega (
+      arith,
+      k .few,
+      edges-le (s .args .frame .columns) (s .args .frame .rows) (k .checked .sized .sides .narrow)
+          (k .checked .sized .sides .low),
+    ) in
     (e, omega (arith, e, k .summed, count-total (now (s .args .counts)) (k .some)))
-
-first-requires : tie.Need-first-requires Inv-loop μ-loop
-first-requires c κs = search needs
 
 loop-holds : tie.Need-loop-holds Inv-loop μ-loop
 loop-holds c =
@@ -61,37 +90,66 @@ loop-holds c =
     let e = c .first .ensures in (
       refl,
       (
-        reached-first (now (a .levels)) (a .frame) (a .v) (now (a .edges)) (now (a .counts)) (now (a .closed)) (s .pre .summed) (c .first .result) e,
-        (omega (arith, ap length (left-first (now (a .levels)) (a .frame) (a .v) (now (a .edges)) (now (a .counts)) (now (a .closed)) (c .first .result) e)), omega (arith, e .0, e .1 .0, e .1 .1)),
+        reached-first (now (a .levels)) (a .frame) (a .v) (now (a .edges)) (now (a .counts)) (now (a .closed))
+            (s .pre .summed) (c .first .result) e,
+        (
+          omega (
+            arith,
+            ap length (left-first (now (a .levels)) (a .frame) (a .v) (now (a .edges)) (now (a .counts))
+                (now (a .closed)) (c .first .result) e),
+          ),
+          omega (arith, e .0, e .1 .0, e .1 .1),
+        ),
       ),
     )
 
-slice-aggregate-put-step : tie.Need-slice-aggregate-put-step Inv-loop μ-loop
-slice-aggregate-put-step c = search needs
-
 put-step-requires : tie.Need-put-step-requires Inv-loop μ-loop
-put-step-requires c κs = ((c .before .before .before .before .before .before .before .before .before .pre, c .before .before .before .loop .inv .1 .0), (c .before .if1 .taken, omega (arith, c .before .before .before .loop .inv .0)))
+put-step-requires c κs =
+    let at-loop = c .before .before .before in
+    let start = at-loop .before .before .before .before .before .before in
+    ((start .pre, at-loop .loop .inv .1 .0), (c .before .if1 .taken, omega (arith, at-loop .loop .inv .0)))
 
 add-size : tie.Need-add-size Inv-loop μ-loop
-add-size c = omega (arith, c .before .before .before .before .before .before .loop .inv .1 .1 .1, short (c .before .before), few (c .before .before .before .before .before .before .before .before .before .before .before .before) .0, few (c .before .before .before .before .before .before .before .before .before .before .before .before) .1)
+add-size c =
+    let at-loop = c .before .before .before .before .before .before in
+    let start = at-loop .before .before .before .before .before .before in
+    omega (arith, at-loop .loop .inv .1 .1 .1, short (c .before .before), few start .0, few start .1)
 
 loop-less : tie.Need-loop-less Inv-loop μ-loop
 loop-less c = stepped (c .before .before .before) .nearer
 
 loop-again : tie.Need-loop-again Inv-loop μ-loop
 loop-again c =
-    let a = c .before .before .before .before .before .before .before .before .before .before .before .before .before .args in
-    let i = c .before .before .before .before .before .before .before .loop .inv in
-    let g = stepped (c .before .before .before) in
-    let n = c .before .before .before .put-step .result .next in
-    let e : length (leftOf (now (a .levels)) (a .frame) (a .v) (now (a .edges)) (now (a .counts)) (now (a .closed)) (c .before .before .before .before .before .before .before .loop .at)) ≡ length (pieceOf (now (a .levels)) (a .frame) (a .v) (now (a .edges)) (now (a .counts)) (now (a .closed)) (c .before .before .before .before .before .before .before .loop .at)) + length (leftOf (now (a .levels)) (a .frame) (a .v) (now (a .edges)) (now (a .counts)) (now (a .closed)) n) =
-    ap length (g .text) ∙ length-append (pieceOf (now (a .levels)) (a .frame) (a .v) (now (a .edges)) (now (a .counts)) (now (a .closed)) (c .before .before .before .before .before .before .before .loop .at)) (leftOf (now (a .levels)) (a .frame) (a .v) (now (a .edges)) (now (a .counts)) (now (a .closed)) n) in
-    (whole (c .before .before .before), (g .reached, (omega (arith, i .1 .1 .0, e, c .before .before .before .put-step .ensures .1 .place), omega (arith, i .1 .1 .1, g .nearer, short (c .before .before .before)))))
+    let at-put-step = c .before .before .before in
+    let at-loop = at-put-step .before .before .before .before in
+    let start = at-loop .before .before .before .before .before .before in
+    let a = start .args in
+    let i = at-loop .loop .inv in
+    let g = stepped at-put-step in
+    let n = at-put-step .put-step .result .next in
+    let e : length (leftOf (now (a .levels)) (a .frame) (a .v) (now (a .edges)) (now (a .counts)) (now (a .closed))
+    (at-loop .loop .at)) ≡ length (pieceOf (now (a .levels)) (a .frame) (a .v) (now (a .edges)) (now (a .counts))
+    (now (a .closed)) (at-loop .loop .at)) + length (leftOf (now (a .levels)) (a .frame) (a .v) (now (a .edges))
+    (now (a .counts)) (now (a .closed)) n) =
+    ap length (g .text) ∙ length-append (pieceOf (now (a .levels)) (a .frame) (a .v) (now (a .edges)) (now (a .counts))
+    (now (a .closed)) (at-loop .loop .at)) (leftOf (now (a .levels)) (a .frame) (a .v) (now (a .edges))
+    (now (a .counts)) (now (a .closed)) n) in (
+      whole at-put-step,
+      (
+        g .reached,
+        (omega (arith, i .1 .1 .0, e, at-put-step .put-step .ensures .1 .place), omega (arith, i .1 .1 .1, g .nearer, short at-put-step)),
+      ),
+    )
 
 returns : tie.Need-returns Inv-loop μ-loop
 returns c =
     let a = c .before .before .before .before .before .before .before .before .args in
-    omega (arith, c .before .before .loop .inv .1 .1 .0, ap length (left-end (now (a .levels)) (a .frame) (a .v) (now (a .edges)) (now (a .counts)) (now (a .closed)) (c .before .before .loop .at) (c .if1 .left)))
+    omega (
+      arith,
+      c .before .before .loop .inv .1 .1 .0,
+      ap length (left-end (now (a .levels)) (a .frame) (a .v)
+          (now (a .edges)) (now (a .counts)) (now (a .closed)) (c .before .before .loop .at) (c .if1 .left)),
+    )
 
 pub text-size-spec : {M : Type 1} → statement M
 text-size-spec =
@@ -99,9 +157,9 @@ text-size-spec =
     (tie.spec
     Inv-loop
     μ-loop
-    first-requires
+    (λ c κs. search needs)
     loop-holds
-    slice-aggregate-put-step
+    (λ c. search needs)
     put-step-requires
     add-size
     loop-less

@@ -10,12 +10,6 @@ use Rattle.wkt.proofs.place.offset.Tie as tie
 product : (c : tie.Start) → 1000 * c .args .spacing * c .args .num ≤ 2147483647500000
 product c = let n : c .args .num ≤ 4294967295 = search needs in product-small (c .args .spacing) (c .args .num) (c .pre .0) n
 
-mul-length : tie.Need-mul-length
-mul-length c = search needs
-
-cast-length : tie.Need-cast-length
-cast-length c = search needs
-
 mul-result : tie.Need-mul-result
 mul-result c = omega (arith, product c)
 
@@ -25,30 +19,21 @@ mul-result-2 c = omega (arith, product c)
 add-result : tie.Need-add-result
 add-result c = omega (arith, product c)
 
-mul-result-3 : tie.Need-mul-result-3
-mul-result-3 c = search needs
-
-div-result : tie.Need-div-result
-div-result c = search needs
-
 cast-result : tie.Need-cast-result
 cast-result c =
     let small : offsetOf (c .args .spacing) (c .args .num) (c .args .den) ≤ 1000 * c .args .spacing = offset-small (c .args .spacing) (c .args .num) (c .args .den) (c .pre .1 .0) (c .pre .1 .1) in
     omega arith
 
-returns : tie.Need-returns
-returns c = search needs
-
 pub offset-spec : {M : Type 1} → statement M
 offset-spec =
     tie.close
     (tie.spec
-    mul-length
-    cast-length
+    (λ c. search needs)
+    (λ c. search needs)
     mul-result
     mul-result-2
     add-result
-    mul-result-3
-    div-result
+    (λ c. search needs)
+    (λ c. search needs)
     cast-result
-    returns)
+    (λ c. search needs))

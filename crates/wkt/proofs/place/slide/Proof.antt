@@ -5,12 +5,6 @@ use borrow.Author.Needs.{needs}
 use Rattle.wkt.proofs.place.slide.Statement.{statement}
 use Rattle.wkt.proofs.place.slide.Tie as tie
 
-apart-requires : tie.Need-apart-requires
-apart-requires c κs = search needs
-
-apart-requires-2 : tie.Need-apart-requires-2
-apart-requires-2 c κs = search needs
-
 offset-requires : tie.Need-offset-requires
 offset-requires c κs =
     let s = c .before .before in
@@ -20,4 +14,4 @@ returns : tie.Need-returns
 returns c = c .offset .ensures ∙ rw (c .before .before .apart .ensures, c .before .apart2 .ensures)
 
 pub slide-spec : {M : Type 1} → statement M
-slide-spec = tie.close (tie.spec apart-requires apart-requires-2 offset-requires returns)
+slide-spec = tie.close (tie.spec (λ c κs. search needs) (λ c κs. search needs) offset-requires returns)

@@ -31,15 +31,6 @@ ready c = subst (Crossing (start c)) (c .before .e .given .1) (start c .pre .1)
 ready-2 : (c : tie.After-known-told2) → Crossing (start-2 c) (Vertical (c .before .e2 .given .0 .0) (c .before .e2 .given .0 .1 .0))
 ready-2 c = subst (Crossing (start-2 c)) (c .before .e2 .given .1) (start-2 c .pre .1)
 
-cast-nx : tie.Need-cast-nx
-cast-nx c = search needs
-
-cast-ny : tie.Need-cast-ny
-cast-ny c = search needs
-
-enum-known-e : tie.Need-enum-known-e
-enum-known-e c = search needs
-
 level-requires : tie.Need-level-requires
 level-requires c κs =
     let w = ready c .0 in
@@ -72,9 +63,6 @@ stand-requires-2 : tie.Need-stand-requires-2
 stand-requires-2 c κs =
     let s = start (c .before .before .before .before) in
     (omega (arith, ready (c .before .before .before .before) .0 .0, s .pre .0 .sized .sides .low), (s .pre .0 .near, s .pre .0 .south))
-
-enum-known-e-2 : tie.Need-enum-known-e-2
-enum-known-e-2 c = search needs
 
 level-requires-3 : tie.Need-level-requires-3
 level-requires-3 c κs =
@@ -119,9 +107,9 @@ pub spot-of-spec : {M : Type 1} → statement M
 spot-of-spec =
     tie.close
     (tie.spec
-    cast-nx
-    cast-ny
-    enum-known-e
+    (λ c. search needs)
+    (λ c. search needs)
+    (λ c. search needs)
     level-requires
     add-level
     level-requires-2
@@ -129,7 +117,7 @@ spot-of-spec =
     slide-requires
     add-t20
     stand-requires-2
-    enum-known-e-2
+    (λ c. search needs)
     level-requires-3
     add-level-2
     level-requires-4

@@ -5,9 +5,6 @@ use borrow.Author.Needs.{needs}
 use Rattle.wkt.proofs.place.stand.Statement.{statement}
 use Rattle.wkt.proofs.place.stand.Tie as tie
 
-cast-result : tie.Need-cast-result
-cast-result c = search needs
-
 mul-result : tie.Need-mul-result
 mul-result c = omega (arith, metres-small (c .args .index) (c .args .spacing) (c .pre .0) (c .pre .1 .0))
 
@@ -17,8 +14,5 @@ add-result c = omega (arith, metres-small (c .args .index) (c .args .spacing) (c
 mul-result-2 : tie.Need-mul-result-2
 mul-result-2 c = omega (arith, metres-small (c .args .index) (c .args .spacing) (c .pre .0) (c .pre .1 .0))
 
-returns : tie.Need-returns
-returns c = search needs
-
 pub stand-spec : {M : Type 1} → statement M
-stand-spec = tie.close (tie.spec cast-result mul-result add-result mul-result-2 returns)
+stand-spec = tie.close (tie.spec (λ c. search needs) mul-result add-result mul-result-2 (λ c. search needs))

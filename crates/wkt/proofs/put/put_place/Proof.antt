@@ -20,15 +20,6 @@ spot : (c : tie.After-spot-of) → let a = start (c .before .before) .args in sh
 unfolding placeText
 spot c = let a = start (c .before .before) .args in ap showSpot (c .spot-of .ensures ∙ ap (spotOf (now (a .levels)) (a .frame) (a .v)) (c .before .before .edge-at .ensures))
 
-cast-nx : tie.Need-cast-nx
-cast-nx c = search needs
-
-cast-ny : tie.Need-cast-ny
-cast-ny c = search needs
-
-edge-at-requires : tie.Need-edge-at-requires
-edge-at-requires c κs = search needs
-
 spot-of-requires : tie.Need-spot-of-requires
 spot-of-requires c κs =
     let s = start (c .before) in
@@ -38,9 +29,6 @@ spot-of-requires c κs =
 put-spot-requires : tie.Need-put-spot-requires
 put-spot-requires c κs = rw (spot c) (start (c .before .before) .pre .1 .1)
 
-same-length : tie.Need-same-length
-same-length c = search needs
-
 returns : tie.Need-returns
 returns c = rw (← spot (c .before .before .before)) (c .before .before .put-spot .ensures)
 
@@ -48,10 +36,10 @@ pub put-place-spec : {M : Type 1} → statement M
 put-place-spec =
     tie.close
     (tie.spec
-    cast-nx
-    cast-ny
-    edge-at-requires
+    (λ c. search needs)
+    (λ c. search needs)
+    (λ c κs. search needs)
     spot-of-requires
     put-spot-requires
-    same-length
+    (λ c. search needs)
     returns)

@@ -10,7 +10,8 @@ use Rattle.wkt.proofs.put.put_spot.Statement.{statement}
 use Rattle.wkt.proofs.put.put_spot.Tie as tie
 
 -- the room, part by part
-room : (c : tie.Start) → c .args .at + length (showMetres (c .args .spot .x)) + 1 + length (showMetres (c .args .spot .y)) ≤ length (c .args .out .now)
+room : (c : tie.Start)
+    → c .args .at + length (showMetres (c .args .spot .x)) + 1 + length (showMetres (c .args .spot .y)) ≤ length (c .args .out .now)
 room c = omega (arith, c .pre, length-append (showMetres (c .args .spot .x)) (32 ∷ showMetres (c .args .spot .y)))
 
 put-metres-requires : tie.Need-put-metres-requires
@@ -20,18 +21,23 @@ put-byte-requires : tie.Need-put-byte-requires
 put-byte-requires c κs = omega (arith, room (c .before .before .before .before .before .before), c .before .before .before .put-metres .ensures .place, c .before .before .before .put-metres .kept .0)
 
 put-metres-requires-2 : tie.Need-put-metres-requires-2
-put-metres-requires-2 c κs = omega (arith, room (c .before .before .before .before .before .before .before .before .before .before), c .before .before .before .before .before .before .before .put-metres .ensures .place, c .before .before .before .before .before .before .before .put-metres .kept .0, c .before .before .before .put-byte .ensures .place, c .before .before .before .put-byte .kept .0)
-
-same-length : tie.Need-same-length
-same-length c = search needs
+put-metres-requires-2 c κs =
+    let at-put-byte = c .before .before .before in
+    let at-put-metres = at-put-byte .before .before .before .before in
+    let start = at-put-metres .before .before .before in
+    omega (arith, room start, at-put-metres .put-metres .ensures .place, at-put-metres .put-metres .kept .0, at-put-byte .put-byte .ensures .place, at-put-byte .put-byte .kept .0)
 
 returns : tie.Need-returns
 returns c =
-    let east = c .before .before .before .before .before .before .before .before .before .before .put-metres in
-    wrote-then (c .before .before .before .before .before .before .before .before .before .before .before .before .before .pre) (east .ensures)
-    (wrote-then (omega (arith, room (c .before .before .before .before .before .before .before .before .before .before .before .before .before), east .ensures .place, east .kept .0)) (c .before .before .before .before .before .before .put-byte .ensures) (c .before .before .put-metres2 .ensures))
+    let at-put-byte = c .before .before .before .before .before .before in
+    let at-put-metres = at-put-byte .before .before .before .before in
+    let start = at-put-metres .before .before .before in
+    let east = at-put-metres .put-metres in
+    wrote-then (start .pre) (east .ensures)
+    (wrote-then (omega (arith, room start, east .ensures .place, east .kept .0)) (at-put-byte .put-byte .ensures)
+    (c .before .before .put-metres2 .ensures))
 
 pub put-spot-spec : {M : Type 1} → statement M
 put-spot-spec =
     tie.close
-    (tie.spec put-metres-requires put-byte-requires put-metres-requires-2 same-length returns)
+    (tie.spec put-metres-requires put-byte-requires put-metres-requires-2 (λ c. search needs) returns)

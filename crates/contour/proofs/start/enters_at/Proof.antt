@@ -1,0 +1,48 @@
+-- `contour::start::enters_at` meets its contract. Assumes nothing.
+use borrow.Author.Needs.{needs}
+use mathlib.Core.Path.{_≡_, sym, subst, _∙_}
+use denote.Ref.{now}
+use Rattle.network.specs.Edges.{WithinEdge}
+use Rattle.network.proofs.Numbers.{edge-within}
+use Rattle.contour_rules.specs.Picture.{picture}
+use Rattle.contour_rules.specs.Crossings.{crossedAt}
+use Rattle.contour.proofs.start.enters_at.Statement.{statement}
+use Rattle.contour.proofs.start.enters_at.Tie as tie
+
+-- the edge of the number is in the network
+within : (c : tie.After-edge-at) → WithinEdge (c .before .before .args .nx) (c .before .before .args .ny) (c .edge-at .result)
+within c =
+    let s = c .before .before in
+    subst (WithinEdge (s .args .nx) (s .args .ny)) (sym (c .edge-at .ensures)) (edge-within (s .args .nx) (s .args .ny) (s .pre .0 .sides .wide) (s .args .n) (s .pre .1))
+
+is-crossed : (c : tie.After-crossed-edge) → let a = c .before .before .before .args in c .crossed-edge .result ≡ crossedAt (picture (now (a .levels)) (a .nx) (a .ny) (a .v)) (a .n)
+is-crossed c = c .crossed-edge .ensures ∙ rw (c .before .edge-at .ensures)
+
+crossed-edge-requires : tie.Need-crossed-edge-requires
+crossed-edge-requires c κs = (c .before .before .pre .0, within c)
+
+first-in-requires : tie.Need-first-in-requires
+first-in-requires c κs = (c .before .before .before .before .pre .0, within (c .before .before))
+
+across-requires : tie.Need-across-requires
+across-requires c κs = (c .before .before .before .before .before .pre .0 .sides, within (c .before .before .before))
+
+returns : tie.Need-returns
+returns c =
+    let k = c .before .before .before in
+    simp (c .outside .ensures, c .before .across .ensures, c .before .before .first-in .ensures, sym (is-crossed (k .before)) ∙ k .if1 .taken, k .before .before .edge-at .ensures)
+
+returns-2 : tie.Need-returns-2
+returns-2 c = rw (sym (is-crossed (c .before)) ∙ c .if1 .left)
+
+pub enters-at-spec : {M : Type 1} → statement M
+enters-at-spec =
+    tie.close
+    (tie.spec
+    (λ c κs. search needs)
+    crossed-edge-requires
+    first-in-requires
+    across-requires
+    (λ c κs. search needs)
+    returns
+    returns-2)
