@@ -17,43 +17,51 @@ use Rattle.register.specs.declared.limits.Limits.{Limits}
 use Rattle.register.specs.Limits.{limitsOf}
 use Rattle.report_steps.specs.Reading.{Reading, readingAt, registered}
 use Rattle.report_text.specs.Text.{refusedText, bookText}
-use Rattle.report_text.specs.Room.{WroteWithin}
+use Rattle.report_text.specs.InnerRoom.{longestRefused, WroteWithin}
 use Rattle.report_rules.specs.Report.{bookRows, registerText, reportOf, endless}
 use Rattle.report_rules.specs.Report.Came.{whole, stopped, failed}
-use Rattle.report_rules.proofs.Answers.{reading-refused, reading-reported, register-text, report-refused, answers-accepted}
+use Rattle.report_rules.proofs.Answers.{reading-refused, reading-reported, register-text, report-refused}
+use Rattle.report_rules.proofs.Answers.{answers-accepted}
 use Rattle.report.specs.declared.feed.Turn.{Turn}
-use Rattle.report.specs.Feeding as state
-use Rattle.report.specs.Feeding.{Registered}
-use Rattle.report.specs.Steps.{Sized, AnsweredIn, WrittenIn}
+use Rattle.report.specs.Feeding.{stateEnded, stateStopped, turnedTo, Registered}
+use Rattle.report.specs.InnerSteps.{Sized, AnsweredIn, WrittenIn}
 
-pub sized-refused : (l : Limits) (b : Book) {s e : List ℕ} {r n size : ℕ} → (r ≡ 0 → ⊥) → WroteWithin 51 s 0 (refusedText r n) e size → Sized l r n b e size
+pub sized-refused : (l : Limits) (b : Book) {s e : List ℕ} {r n size : ℕ} → (r ≡ 0 → ⊥)
+    → WroteWithin longestRefused s 0 (refusedText r n) e size → Sized l (readingAt r n b) e size
 sized-refused l b {s} {e} {r} {n} {size} ne w =
-    record { fits = wrote-fits (w .wrote); text = wrote-front (w .wrote) ∙ sym (reading-refused l (readingAt r n b) ne) }
+    record {
+      fits = wrote-fits (w .wrote);
+      text = wrote-front (w .wrote)
+          ∙ sym (reading-refused l (readingAt r n b) ne);
+    }
 
-pub sized-report : (l : Limits) (b : Book) {s e : List ℕ} {r size : ℕ} (n : ℕ) → r ≡ 0 → Wrote s 0 (bookText l b) e size → Sized l r n b e size
+pub sized-report : (l : Limits) (b : Book) {s e : List ℕ} {r size : ℕ} (n : ℕ) → r ≡ 0
+    → Wrote s 0 (bookText l b) e size → Sized l (readingAt r n b) e size
 sized-report l b {s} {e} {r} {size} n z w =
     record { fits = wrote-fits w; text = wrote-front w ∙ sym (reading-reported l (readingAt r n b) z) }
 
 -- a register that was read to its end, and one that was not
-module _ (l : Limits) {b₀ b : Book} {t : Turn} {out : List ℕ} {size : ℕ} (k : Registered (l .points) b₀ t b) (none : b₀ ≡ emptyBook (l .points) bookRows)
-    (w : Sized l (t .refusal) (t .line) b out size) where
-  text-of : (register : List ℕ) → readingAt (t .refusal) (t .line) b ≡ registered (l .points) b₀ register → take size out ≡ registerText l register
-  text-of register e = w .text ∙ register-text l register (readingAt (t .refusal) (t .line) b) (rw none at e)
+module _ (l : Limits) {b₀ b : Book} {t : Turn} {out : List ℕ} {size : ℕ} (k : Registered (l .points) b₀ t b)
+    (none : b₀ ≡ emptyBook (l .points) bookRows) (w : Sized l (turnedTo t b) out size) where
+  text-of : (register : List ℕ) → turnedTo t b ≡ registered (l .points) b₀ register
+      → take size out ≡ registerText l register
+  text-of register e = w .text ∙ register-text l register (turnedTo t b) (rw none at e)
 
-  pub answered-whole : t .state ≡ state.whole → AnsweredIn l out size
+  pub answered-whole : t .state ≡ stateEnded → AnsweredIn l out size
   answered-whole e = record { fits = w .fits; came = whole (k .all); is = text-of (k .all) (k .ends e) }
 
-  pub answered-other : (t .state ≡ state.whole → ⊥) → AnsweredIn l out size
+  pub answered-other : (t .state ≡ stateEnded → ⊥) → AnsweredIn l out size
   answered-other ne =
-      either (eqb (t .state) state.stopped)
-      (λ yes. let e = eqb-true (t .state) state.stopped yes in
+      either (eqb (t .state) stateStopped)
+      (λ yes. let e = eqb-true (t .state) stateStopped yes in
       record { fits = w .fits; came = stopped (k .all); is = λ rest. text-of (k .all ++ rest) (k .stops e rest) })
-      (λ no. let e = k .states ne (eqb-false (t .state) state.stopped no) in
+      (λ no. let e = k .states ne (eqb-false (t .state) stateStopped no) in
       record { fits = w .fits; came = failed (k .all); is = text-of (k .all ++ endless) (k .fails e) })
 
 -- limits.csv refused, and accepted
-pub limits-refused : (limits : List ℕ) {l : Limits} {s e : List ℕ} {size : ℕ} → l ≡ limitsOf limits → (l .refusal ≡ 0 → ⊥)
-    → WroteWithin 51 s 0 (refusedText (l .refusal) (l .line)) e size → WrittenIn limits e size
+pub limits-refused : (limits : List ℕ) {l : Limits} {s e : List ℕ} {size : ℕ} → l ≡ limitsOf limits
+    → (l .refusal ≡ 0 → ⊥)
+    → WroteWithin longestRefused s 0 (refusedText (l .refusal) (l .line)) e size → WrittenIn limits e size
 limits-refused limits {l} {s} {e} {size} q ne w =
     record {
       fits = wrote-fits (w .wrote);
@@ -63,7 +71,9 @@ limits-refused limits {l} {s} {e} {size} q ne w =
       };
     }
 
-pub limits-accepted : (limits : List ℕ) {l : Limits} {e : List ℕ} {size : ℕ} → l ≡ limitsOf limits → l .refusal ≡ 0 → AnsweredIn l e size → WrittenIn limits e size
+pub limits-accepted : (limits : List ℕ) {l : Limits} {e : List ℕ} {size : ℕ} → l ≡ limitsOf limits → l .refusal ≡ 0
+    → AnsweredIn l e size → WrittenIn limits e size
 limits-accepted limits {l} {e} {size} q z a =
     let b : AnsweredIn (limitsOf limits) e size = rw q at a in
-    record { fits = b .fits; written = record { came = b .came; is = answers-accepted limits (b .came) (take size e) (rw q at z) (b .is) } }
+    let is = answers-accepted limits (b .came) (take size e) (rw q at z) (b .is) in
+    record { fits = b .fits; written = record { came = b .came; is = is } }

@@ -17,12 +17,15 @@ use Rattle.book_rules.specs.Columns.{Book, bookOf, sound}
 use Rattle.book_rules.specs.History.{emptyBook}
 use Rattle.report_steps.specs.declared.core.feeding.Arrived.the-variants.{Bytes, End, Failed}
 use Rattle.report_steps.specs.Stream.{longestLine}
-use Rattle.report_steps.specs.Reading.{Reading, readingAt, opening, closing, registered, readOn, Onward, Unended, PieceTaken, LastTaken, arrivedOf}
-use Rattle.report_steps.proofs.Readings.{onward-more, onward-then, stuck, endless-off}
+use Rattle.report_steps.specs.Reading.{Reading, readingAt, opening, closing, registered, readOn, Onward, arrivedOf}
+use Rattle.report_steps.proofs.Readings.{onward-more, onward-then, stuck}
+use Rattle.report_steps.proofs.LongLines.{endless-off}
 use Rattle.text.specs.Line.{linesOf}
 use Rattle.report_rules.specs.Report.{endless}
 use Rattle.report.specs.declared.feed.Turn.{Turn}
-use Rattle.report.specs.Feeding.{reading, whole, stopped, failed, failedAt, offIn, Waiting, Pieced, Lasted, cameOf, Answered, Turned, Registered}
+use Rattle.report.specs.Feeding.{stateReading, stateStopped, stateFailed, turnedTo, failedAt, offIn}
+use Rattle.report.specs.Feeding.{Waiting, cameOf, heldOf, Answered, Turned, Registered}
+use Rattle.report.specs.InnerFeeding.{Pieced, Lasted}
 
 -- as many bytes come as the read answered
 pub came-count : (z : ℤ) (room n : ℕ) → arrivedOf z room ≡ Bytes n → n ≡ clamped z room
@@ -46,7 +49,8 @@ failed-none : (z : ℤ) (room : ℕ) → arrivedOf z room ≡ Failed → clamped
 failed-none (pos k) room e =
     either (eqb (min k room) 0)
     (λ none. let f : End ≡ Failed = rw none at e in let never : _≡_ {A = ℕ} 0 1 = cc in absurd (omega arith))
-    (λ some. let f : Bytes (min k room) ≡ Failed = rw some at e in let never : _≡_ {A = ℕ} 0 1 = cc in absurd (omega arith))
+    (λ some. let f : Bytes (min k room) ≡ Failed = rw some at e in
+    let never : _≡_ {A = ℕ} 0 1 = cc in absurd (omega arith))
 failed-none (negsuc k) room e = refl
 
 pub clamped-most : (z : ℤ) (room : ℕ) → clamped z room ≤ room
@@ -54,13 +58,14 @@ clamped-most (pos k) room = min-le-right k room
 clamped-most (negsuc k) room = omega arith
 
 -- a read that failed leaves the book, and is refused at the line being read
-failed-off : {line : ℕ} {t : Turn} {b : Book} → t ≡ failedAt line → readingAt (t .refusal) (t .line) b ≡ offIn (readingAt 0 line b)
-failed-off {line} {t} {b} e = ap (λ (x : Turn). readingAt (x .refusal) (x .line) b) e
+failed-off : {line : ℕ} {t : Turn} {b : Book} → t ≡ failedAt line → turnedTo t b ≡ offIn (readingAt 0 line b)
+failed-off {line} {t} {b} e = ap (λ (x : Turn). turnedTo x b) e
 
-pub turn-failed : {p line : ℕ} {waited : List ℕ} {t : Turn} {b : Book} {bytes : List ℕ} → sound p b ≡ true → t ≡ failedAt line
+pub turn-failed : {p line : ℕ} {waited : List ℕ} {t : Turn} {b : Book} {bytes : List ℕ} → sound p b ≡ true
+    → t ≡ failedAt line
     → Turned p (readingAt 0 line b) waited t b bytes
 turn-failed {p} {line} {waited} {t} {b} {bytes} k e =
-    let q : t .state ≡ 3 = ap (λ (x : Turn). x .state) e in
+    let q : t .state ≡ stateFailed = ap (λ (x : Turn). x .state) e in
     record {
       got = [];
       kept = k;
@@ -77,7 +82,8 @@ refused-closes : (s : Reading) → (s .refusal ≡ 0 → ⊥) → closing s ≡ 
 unfolding closing
 refused-closes s ne = rw (ne-eqb (s .refusal) 0 ne) refl
 
-pub turn-piece : {p : ℕ} {s : Reading} {bytes bytes′ : List ℕ} {t : Turn} {b′ : Book} (waited came : List ℕ) → Pieced p s bytes t b′ bytes′ → bytes ≡ waited ++ came → 1 ≤ s .line
+pub turn-piece : {p : ℕ} {s : Reading} {bytes bytes′ : List ℕ} {t : Turn} {b′ : Book} (waited came : List ℕ)
+    → Pieced p s bytes t b′ bytes′ → bytes ≡ waited ++ came → 1 ≤ s .line
     → longestLine < length bytes′ → Turned p s waited t b′ bytes′
 turn-piece {p} {s} {bytes} {bytes′} {t} {b′} waited came k e one room =
     record {
@@ -85,21 +91,29 @@ turn-piece {p} {s} {bytes} {bytes′} {t} {b′} waited came k e one room =
       kept = k .taken .kept;
       more = λ q. rw (k .more q) at onward;
       waits = λ q. let w = k .taken .waits (k .more q) in
-          record { unended = w .unended; short = omega (arith, w .short, length-take (t .left) bytes′); room = room; first = omega (arith, w .least) };
+          record {
+            unended = w .unended;
+            short = omega (arith, w .short, length-take (t .left) bytes′);
+            room = room;
+            first = omega (arith, w .least);
+          };
       ends = λ q. absurd (k .ends q);
-      stops = λ q u. sym (refused-closes after (k .stops q)) ∙ ap closing (sym (onward .same u ∙ stuck p after (linesOf (take (t .left) bytes′ ++ u)) (k .stops q)));
+      stops = λ q u.
+          let none-left = stuck p after (linesOf (take (t .left) bytes′ ++ u)) (k .stops q) in
+          sym (refused-closes after (k .stops q)) ∙ ap closing (sym (onward .same u ∙ none-left));
       fails = λ q. absurd (omega (arith, k .states));
       refused = k .stops;
       states = omega (arith, k .states);
     }
   where
     after : Reading
-    after = readingAt (t .refusal) (t .line) b′
+    after = turnedTo t b′
 
-    onward : Onward p s (waited ++ came) (readingAt (t .refusal) (t .line) b′) (take (t .left) bytes′)
+    onward : Onward p s (waited ++ came) (turnedTo t b′) (take (t .left) bytes′)
     onward = rw e at (k .taken .onward)
 
-pub turn-last : {p : ℕ} {s : Reading} {bytes waited bytes′ : List ℕ} {t : Turn} {b′ : Book} → Lasted p s bytes t b′ → bytes ≡ waited → Turned p s waited t b′ bytes′
+pub turn-last : {p : ℕ} {s : Reading} {bytes waited bytes′ : List ℕ} {t : Turn} {b′ : Book} → Lasted p s bytes t b′
+    → bytes ≡ waited → Turned p s waited t b′ bytes′
 turn-last {p} {s} {bytes} {waited} {bytes′} {t} {b′} k e =
     let q = k .ends in
     record {
@@ -116,10 +130,11 @@ turn-last {p} {s} {bytes} {waited} {bytes′} {t} {b′} k e =
 
 -- what a read gave, by its answer
 module _ {p left : ℕ} {s : Reading} {bytes bytes′ : List ℕ} {answer : ℤ} {t : Turn} {b′ : Book} where
-  pub answered-failed : {line : ℕ} → sound p b′ ≡ true → s ≡ readingAt 0 line b′ → arrivedOf answer (length bytes - left) ≡ Failed → t ≡ failedAt line
+  pub answered-failed : {line : ℕ} → sound p b′ ≡ true → s ≡ readingAt 0 line b′
+      → arrivedOf answer (length bytes - left) ≡ Failed → t ≡ failedAt line
       → Answered p s bytes left answer t b′ bytes′
   answered-failed {line} k here came e =
-      let q : t .state ≡ 3 = ap (λ (x : Turn). x .state) e in
+      let q : t .state ≡ stateFailed = ap (λ (x : Turn). x .state) e in
       record {
         kept = k;
         more = λ z. absurd (omega arith);
@@ -131,7 +146,8 @@ module _ {p left : ℕ} {s : Reading} {bytes bytes′ : List ℕ} {answer : ℤ}
         states = omega arith;
       }
 
-  pub answered-piece : (n : ℕ) → Pieced p s (take (left + n) bytes) t b′ bytes′ → n ≡ clamped answer (length bytes - left) → 1 ≤ s .line → longestLine < length bytes′
+  pub answered-piece : (n : ℕ) → Pieced p s (take (left + n) bytes) t b′ bytes′
+      → n ≡ clamped answer (length bytes - left) → 1 ≤ s .line → longestLine < length bytes′
       → Answered p s bytes left answer t b′ bytes′
   unfolding turn-piece
   answered-piece n k e one room =
@@ -161,7 +177,8 @@ module _ {p left : ℕ} {s : Reading} {bytes bytes′ : List ℕ} {answer : ℤ}
         states = omega arith;
       }
 
-  pub turn-answered : {waited : List ℕ} → Answered p s bytes left answer t b′ bytes′ → take left bytes ≡ waited → Turned p s waited t b′ bytes′
+  pub turn-answered : {waited : List ℕ} → Answered p s bytes left answer t b′ bytes′ → take left bytes ≡ waited
+      → Turned p s waited t b′ bytes′
   turn-answered {waited} k e =
       record {
         got = cameOf answer bytes left;
@@ -185,9 +202,15 @@ pub record Come (p : ℕ) (b₀ : Book) (bytes : List ℕ) (left line : ℕ) (b 
   pub waits : Waiting bytes left line
   pub onward : Onward p (opening b₀) all (readingAt 0 line b) (take left bytes)
 
-pub come-none : (p : ℕ) (b : Book) (bytes : List ℕ) → sound p b ≡ true → longestLine < length bytes → Come p b bytes 0 1 b
+pub come-none : (p : ℕ) (b : Book) (bytes : List ℕ) → sound p b ≡ true → longestLine < length bytes
+    → Come p b bytes 0 1 b
 come-none p b bytes k room =
-    record { all = []; kept = k; waits = record { unended = omega arith; short = omega arith; room = room; first = omega arith }; onward = record { same = λ t. refl } }
+    record {
+      all = [];
+      kept = k;
+      waits = record { unended = omega arith; short = omega arith; room = room; first = omega arith };
+      onward = record { same = λ t. refl };
+    }
 
 -- where no byte comes any more, the line being read goes on without an end
 broken-off : {p left line : ℕ} {b₀ b : Book} {bytes : List ℕ} → (k : Come p b₀ bytes left line b)
@@ -199,30 +222,39 @@ broken-off {p} {left} {line} {b₀} {b} {bytes} k =
 
 module _ {p left line : ℕ} {b₀ b b′ : Book} {bytes bytes′ : List ℕ} {t : Turn} (k : Come p b₀ bytes left line b)
     (d : Turned p (readingAt 0 line b) (take left bytes) t b′ bytes′) where
-  pub come-next : t .state ≡ 0 → Come p b₀ bytes′ (t .left) (t .line) b′
+  pub come-next : t .state ≡ stateReading → Come p b₀ bytes′ (t .left) (t .line) b′
   come-next e =
-      record { all = k .all ++ d .got; kept = d .kept; waits = d .waits e; onward = onward-then (onward-more (d .got) (k .onward)) (d .more e) }
+      record {
+        all = k .all ++ d .got;
+        kept = d .kept;
+        waits = d .waits e;
+        onward = onward-then (onward-more (d .got) (k .onward)) (d .more e);
+      }
 
-  pub come-done : (t .state ≡ 0 → ⊥) → Registered p b₀ t b′
+  pub come-done : (t .state ≡ stateReading → ⊥) → Registered p b₀ t b′
   unfolding registered
   come-done ne =
       record {
         all = k .all ++ d .got;
         kept = d .kept;
         ends = λ e. let q = d .ends e in
-            q .1 ∙ ap closing (sym (k .onward .same (d .got) ∙ ap (λ (g : List ℕ). readOn p (readingAt 0 line b) (take left bytes ++ g)) (q .0)
-            ∙ ap (readOn p (readingAt 0 line b)) (append-nil (take left bytes))));
-        stops = λ e u. rw (append-assoc (k .all) (d .got) u) (rw (append-assoc (take left bytes) (d .got) u) at (d .stops e u) ∙ ap closing (sym (k .onward .same (d .got ++ u))));
+            let nothing = ap (λ (g : List ℕ). readOn p (readingAt 0 line b) (take left bytes ++ g)) (q .0) in
+            let waited = ap (readOn p (readingAt 0 line b)) (append-nil (take left bytes)) in
+            q .1 ∙ ap closing (sym (k .onward .same (d .got) ∙ nothing ∙ waited));
+        stops = λ e u. rw (append-assoc (k .all) (d .got) u)
+            (rw (append-assoc (take left bytes) (d .got) u) at (d .stops e u)
+            ∙ ap closing (sym (k .onward .same (d .got ++ u))));
         fails = λ e. let q = d .fails e in
             q .1 ∙ sym (rw (q .0, append-nil (k .all)) (broken-off k));
         states = λ w s. omega (arith, d .states);
-        refused = λ w z. either (eqb (t .state) stopped)
-            (λ yes. d .refused (eqb-true (t .state) stopped yes) z)
-            (λ no. let e : t .state ≡ failed = omega (arith, d .states, eqb-false (t .state) stopped no) in
+        refused = λ w z. either (eqb (t .state) stateStopped)
+            (λ yes. d .refused (eqb-true (t .state) stateStopped yes) z)
+            (λ no. let e : t .state ≡ stateFailed = omega (arith, d .states, eqb-false (t .state) stateStopped no) in
             absurd (omega (arith, ap (λ (x : Reading). x .refusal) (d .fails e .1))));
       }
 
-pub come-failed : {p left line : ℕ} {b₀ b : Book} {bytes : List ℕ} {t : Turn} → Come p b₀ bytes left line b → t ≡ failedAt line → Registered p b₀ t b
+pub come-failed : {p left line : ℕ} {b₀ b : Book} {bytes : List ℕ} {t : Turn} → Come p b₀ bytes left line b
+    → t ≡ failedAt line → Registered p b₀ t b
 come-failed {p} {left} {line} {b₀} {b} {bytes} {t} k e =
     come-done k (turn-failed {bytes = bytes} (k .kept) e) (λ z. absurd (omega (arith, ap (λ (x : Turn). x .state) e)))
 
@@ -233,8 +265,12 @@ take-zeros n m h =
     ap (λ (k : ℕ). take n (replicate k 0)) e ∙ ap (take n) (sym (replicate-append-replicate n (m - n) 0))
     ∙ take-at (replicate n 0) (replicate (m - n) 0) n (length-replicate n 0)
 
--- columns with nothing in them are an empty book
-pub cleared : (p n m : ℕ) (ids gs ms ls : List ℕ) → ids ≡ replicate n 0 → gs ≡ replicate n 0 → ms ≡ replicate n 0 → ls ≡ replicate m 0 → n * p ≤ m
-    → bookOf ids gs ms (take (n * p) ls) ≡ emptyBook p n
+-- of an empty book with more points, the levels that p points need are an empty book of p points
+pub cleared-levels : (p n : ℕ) (b : Book) → b ≡ emptyBook p n → length (b .levels) ≡ n * p
 unfolding emptyBook
-cleared p n m ids gs ms ls a b c d h = rw (a, b, c, d, take-zeros (n * p) m h) refl
+cleared-levels p n b e = ap (λ (x : Book). length (x .levels)) e ∙ length-replicate {A = ℕ} (n * p) 0
+
+pub cleared : (p n m : ℕ) (b : Book) → b ≡ emptyBook m n → n * p ≤ n * m
+    → bookOf (b .identities) (b .groups) (b .marks) (take (n * p) (b .levels)) ≡ emptyBook p n
+unfolding emptyBook
+cleared p n m b e h = rw (e, take-zeros (n * p) (n * m) h) refl

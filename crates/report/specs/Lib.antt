@@ -1,2 +1,3 @@
 pub mod Feeding
-pub mod Steps
+pub mod InnerFeeding
+pub mod InnerSteps

@@ -2,6 +2,7 @@
 use crate::feed::FAILED;
 use crate::feed::Turn;
 use crate::say;
+use report_steps::core::feeding::LONGEST_ROW;
 use text::core::line_end;
 
 // The sentence on a refusal: the line that is refused stands in the buffer where the reading says.
@@ -24,7 +25,7 @@ pub fn refusal(bytes: &[u8], read: Turn, points: u32) {
 // The sentence on the first line of these bytes.
 fn first_line(rest: &[u8], refusal: u32, number: u64, points: u32) {
     let end = line_end(rest, 0);
-    if 84 < end {
+    if LONGEST_ROW < end {
         say::of_long_line(number, rest);
         return;
     }

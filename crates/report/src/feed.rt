@@ -9,13 +9,14 @@ ghost use mathlib.Core.Bool.{true};
 ghost use Prim.Native.Nat.{_+_, _^_, _≤_, _<_};
 ghost use lib.ListN.{length, take};
 ghost use Rattle.io.specs.Counts.{Counts};
-ghost use Rattle.book_rules.specs.Columns.{bookOf, sound};
+ghost use Rattle.book_rules.specs.Columns.{bookNow, bookBefore, bookAfter, sound};
 ghost use Rattle.report_steps.specs.Stream.{longestLine};
 ghost use Rattle.report_steps.specs.Reading.{readingAt, Unended};
-ghost use Rattle.report.specs.Feeding.{failedAt, Waiting, Answered, Turned, Pieced, Lasted, Registered};
+ghost use Rattle.report.specs.Feeding.{failedAt, Waiting, Answered, Turned, Registered};
+ghost use Rattle.report.specs.InnerFeeding.{Pieced, Lasted};
 
-// Where the reading stands: `left` bytes wait in front of the buffer for the end of line `line`, and `state` says whether to read on. A line that is
-// refused stands at `at`.
+// Where the reading stands: `left` bytes wait in front of the buffer for the end of line `line`, and `state` says
+// whether to read on. A line that is refused stands at `at`.
 pub struct Turn {
     pub at: usize,
     pub left: usize,
@@ -27,14 +28,14 @@ pub struct Turn {
 // The states of a reading: to be read on, read to its end, refused before it, and failed.
 pub const READING: u32 = 0;
 
-pub const WHOLE: u32 = 1;
+pub const ENDED: u32 = 1;
 
 pub const STOPPED: u32 = 2;
 
 pub const FAILED: u32 = 3;
 
-// Puts limits.csv at the start of the buffer and answers its length. One that can't be opened or read counts as empty. Past the buffer's
-// 4,096 bytes nothing of it counts any more.
+// Puts limits.csv at the start of the buffer and answers its length. One that can't be opened or read counts as empty.
+// Past the buffer's 4,096 bytes nothing of it counts any more.
 pub fn limits_text(text: &mut [u8]) -> usize
     ensures { λ r. ⌜ Counts r (now (text .exit)) ⌝ }
 {
@@ -90,10 +91,11 @@ fn piece(
     len: usize,
     line: u64,
 ) -> Turn
-    requires { ⌜ sound points (bookOf (now ids) (now groups) (now marks) (now levels)) ≡ true ⌝ }
+    requires { ⌜ sound points (bookNow ids groups marks levels) ≡ true ⌝ }
     requires { ⌜ len ≤ length (now bytes) ⌝ }
     requires { ⌜ line + len < 2 ^ 64 ⌝ }
-    ensures { λ r. ⌜ Pieced points (readingAt 0 line (bookOf (now (ids .entry)) (now (groups .entry)) (now (marks .entry)) (now (levels .entry)))) (take len (now (bytes .entry))) r (bookOf (now (ids .exit)) (now (groups .exit)) (now (marks .exit)) (now (levels .exit))) (now (bytes .exit)) ⌝ }
+    ensures { λ r. ⌜ Pieced points (readingAt 0 line (bookBefore ids groups marks levels))
+        (take len (now (bytes .entry))) r (bookAfter ids groups marks levels) (now (bytes .exit)) ⌝ }
 {
     let p = take_piece(ids, groups, marks, levels, points, bytes, len, line);
     let refusal = p.refusal;
@@ -125,11 +127,12 @@ fn last(
     bytes: &[u8],
     line: u64,
 ) -> Turn
-    requires { ⌜ sound points (bookOf (now ids) (now groups) (now marks) (now levels)) ≡ true ⌝ }
+    requires { ⌜ sound points (bookNow ids groups marks levels) ≡ true ⌝ }
     requires { ⌜ Unended (now bytes) ⌝ }
     requires { ⌜ 1 ≤ line ⌝ }
     requires { ⌜ line + length (now bytes) < 2 ^ 64 ⌝ }
-    ensures { λ r. ⌜ Lasted points (readingAt 0 line (bookOf (now (ids .entry)) (now (groups .entry)) (now (marks .entry)) (now (levels .entry)))) (now (bytes .entry)) r (bookOf (now (ids .exit)) (now (groups .exit)) (now (marks .exit)) (now (levels .exit))) ⌝ }
+    ensures { λ r. ⌜ Lasted points (readingAt 0 line (bookBefore ids groups marks levels)) (now (bytes .entry))
+        r (bookAfter ids groups marks levels) ⌝ }
 {
     let f = take_last(ids, groups, marks, levels, points, bytes, line);
     Turn {
@@ -137,7 +140,7 @@ fn last(
         left: bytes.len(),
         line: f.line,
         refusal: f.refusal,
-        state: WHOLE,
+        state: ENDED,
     }
 }
 
@@ -153,10 +156,11 @@ fn answered(
     line: u64,
     answer: isize,
 ) -> Turn
-    requires { ⌜ sound points (bookOf (now ids) (now groups) (now marks) (now levels)) ≡ true ⌝ }
+    requires { ⌜ sound points (bookNow ids groups marks levels) ≡ true ⌝ }
     requires { ⌜ Waiting (now bytes) left line ⌝ }
     requires { ⌜ line + length (now bytes) < 2 ^ 64 ⌝ }
-    ensures { λ r. ⌜ Answered points (readingAt 0 line (bookOf (now (ids .entry)) (now (groups .entry)) (now (marks .entry)) (now (levels .entry)))) (now (bytes .entry)) left answer r (bookOf (now (ids .exit)) (now (groups .exit)) (now (marks .exit)) (now (levels .exit))) (now (bytes .exit)) ⌝ }
+    ensures { λ r. ⌜ Answered points (readingAt 0 line (bookBefore ids groups marks levels)) (now (bytes .entry))
+        left answer r (bookAfter ids groups marks levels) (now (bytes .exit)) ⌝ }
 {
     match what_came(answer, &bytes[left..]) {
         Arrived::Bytes(n) => piece(ids, groups, marks, levels, points, bytes, left + n, line),
@@ -176,9 +180,10 @@ fn read_on(
     left: usize,
     line: u64,
 ) -> Turn
-    requires { ⌜ sound points (bookOf (now ids) (now groups) (now marks) (now levels)) ≡ true ⌝ }
+    requires { ⌜ sound points (bookNow ids groups marks levels) ≡ true ⌝ }
     requires { ⌜ Waiting (now bytes) left line ⌝ }
-    ensures { λ r. ⌜ Turned points (readingAt 0 line (bookOf (now (ids .entry)) (now (groups .entry)) (now (marks .entry)) (now (levels .entry)))) (take left (now (bytes .entry))) r (bookOf (now (ids .exit)) (now (groups .exit)) (now (marks .exit)) (now (levels .exit))) (now (bytes .exit)) ⌝ }
+    ensures { λ r. ⌜ Turned points (readingAt 0 line (bookBefore ids groups marks levels))
+        (take left (now (bytes .entry))) r (bookAfter ids groups marks levels) (now (bytes .exit)) ⌝ }
 {
     if u64::MAX - line < bytes.len() as u64 {
         return failed(line);
@@ -206,9 +211,10 @@ pub(crate) fn read_register(
     points: usize,
     bytes: &mut [u8],
 ) -> Turn
-    requires { ⌜ sound points (bookOf (now ids) (now groups) (now marks) (now levels)) ≡ true ⌝ }
+    requires { ⌜ sound points (bookNow ids groups marks levels) ≡ true ⌝ }
     requires { ⌜ longestLine < length (now bytes) ⌝ }
-    ensures { λ r. ⌜ Registered points (bookOf (now (ids .entry)) (now (groups .entry)) (now (marks .entry)) (now (levels .entry))) r (bookOf (now (ids .exit)) (now (groups .exit)) (now (marks .exit)) (now (levels .exit))) ⌝ }
+    ensures { λ r. ⌜ Registered points (bookBefore ids groups marks levels) r
+        (bookAfter ids groups marks levels) ⌝ }
 {
     let mut left = 0;
     let mut line = 1;

@@ -1,26 +1,34 @@
-// The report program: limits.csv in the current folder and a register on standard input make the report on standard output. It moves bytes;
-// what it decides is decided in the libraries below. For a person, a refusal also gets a sentence on standard error.
+// The report program: limits.csv in the current folder and a register on standard input make the report on standard
+// output. It moves bytes; what it decides is decided in the libraries below. For a person, a refusal also gets a
+// sentence on standard error.
 mod explain;
 mod feed;
 mod say;
 
-use feed::STOPPED;
+use feed::ENDED;
 use feed::Turn;
-use feed::WHOLE;
 use libc::STDOUT_FILENO;
+use movement::limits::MAX_POINTS;
 use register::limits::Limits;
 use report_text::core::put_refused;
 use report_text::core::put_report;
 ghost use mathlib.Core.Path.{_≡_};
 ghost use Prim.Native.Nat.{_≤_};
 ghost use lib.ListN.{length, take};
-ghost use Rattle.book_rules.specs.Columns.{bookOf};
+ghost use Rattle.movement.specs.Limits.{maxPoints};
+ghost use Rattle.book_rules.specs.Columns.{bookNow, bookBefore};
 ghost use Rattle.book_rules.specs.History.{emptyBook};
 ghost use Rattle.report_text.specs.Text.{refusedText, bookText};
-ghost use Rattle.report_text.specs.Room.{longestReport, WroteWithin, LimitsFit};
+ghost use Rattle.report_text.specs.InnerRoom.{longestReport, longestRefused, WroteWithin, LimitsFit};
 ghost use Rattle.room.specs.Room.{Wrote};
 ghost use Rattle.report_rules.specs.Report.{bookRows, Written};
-ghost use Rattle.report.specs.Steps.{Cleared, Sized, AnsweredIn, WrittenIn};
+ghost use Rattle.report.specs.Feeding.{turnedTo};
+ghost use Rattle.report.specs.InnerSteps.{Sized, AnsweredIn, WrittenIn};
+
+// The rows of the report's own book, and the levels of that many rows at eight points.
+const BOOK_ROWS: usize = 2000;
+
+const BOOK_LEVELS: usize = BOOK_ROWS * MAX_POINTS;
 
 fn main() {
     let mut text = io::buffer();
@@ -48,10 +56,10 @@ fn answer(text: &[u8], out: &mut [u8]) -> usize
         say::of_limits(refusal, limits.line as u64, text);
         return put_refused(out, refusal, limits.line as u64);
     }
-    let mut ids = [0u32; 2000];
-    let mut groups = [0u32; 2000];
-    let mut marks = [0u32; 2000];
-    let mut levels = [0u32; 16000];
+    let mut ids = [0u32; BOOK_ROWS];
+    let mut groups = [0u32; BOOK_ROWS];
+    let mut marks = [0u32; BOOK_ROWS];
+    let mut levels = [0u32; BOOK_LEVELS];
     report(&mut ids, &mut groups, &mut marks, &mut levels, limits, out)
 }
 
@@ -64,11 +72,11 @@ fn report(
     limits: Limits,
     out: &mut [u8],
 ) -> usize
-    requires { ⌜ Cleared (now ids) (now groups) (now marks) (now levels) ⌝ }
+    requires { ⌜ bookNow ids groups marks levels ≡ emptyBook maxPoints bookRows ⌝ }
     requires { ⌜ LimitsFit limits × (longestReport ≤ length (now out)) ⌝ }
     ensures { λ r. ⌜ AnsweredIn limits (now (out .exit)) r ⌝ }
 {
-    let room = 2000 * limits.points as usize;
+    let room = BOOK_ROWS * limits.points as usize;
     report_in(ids, groups, marks, &mut levels[..room], limits, out)
 }
 
@@ -81,7 +89,7 @@ fn report_in(
     limits: Limits,
     out: &mut [u8],
 ) -> usize
-    requires { ⌜ bookOf (now ids) (now groups) (now marks) (now levels) ≡ emptyBook (limits .points) bookRows ⌝ }
+    requires { ⌜ bookNow ids groups marks levels ≡ emptyBook (limits .points) bookRows ⌝ }
     requires { ⌜ LimitsFit limits × (longestReport ≤ length (now out)) ⌝ }
     ensures { λ r. ⌜ AnsweredIn limits (now (out .exit)) r ⌝ }
 {
@@ -89,7 +97,7 @@ fn report_in(
     let mut bytes = io::large_buffer();
     let read = feed::read_register(ids, groups, marks, levels, points, &mut bytes);
     let state = read.state;
-    if state == WHOLE {
+    if state == ENDED {
         return answer_whole(ids, groups, marks, levels, limits, &bytes, read, out);
     }
     refuse(&bytes, read, limits, out)
@@ -107,7 +115,7 @@ fn answer_whole(
     out: &mut [u8],
 ) -> usize
     requires { ⌜ LimitsFit limits × (longestReport ≤ length (now out)) ⌝ }
-    ensures { λ r. ⌜ Sized limits (read .refusal) (read .line) (bookOf (now (ids .entry)) (now (groups .entry)) (now (marks .entry)) (now (levels .entry))) (now (out .exit)) r ⌝ }
+    ensures { λ r. ⌜ Sized limits (turnedTo read (bookBefore ids groups marks levels)) (now (out .exit)) r ⌝ }
 {
     let refusal = read.refusal;
     if refusal != 0 {
@@ -123,7 +131,8 @@ fn answer_whole(
 // The register is refused: its one line, and the sentence that goes with it.
 fn refuse(bytes: &[u8], read: Turn, limits: Limits, out: &mut [u8]) -> usize
     requires { ⌜ longestReport ≤ length (now out) ⌝ }
-    ensures { λ r. ⌜ WroteWithin 51 (now (out .entry)) 0 (refusedText (read .refusal) (read .line)) (now (out .exit)) r ⌝ }
+    ensures { λ r. ⌜ WroteWithin longestRefused (now (out .entry)) 0 (refusedText (read .refusal) (read .line))
+        (now (out .exit)) r ⌝ }
 {
     explain::refusal(bytes, read, limits.points);
     put_refused(out, read.refusal, read.line)

@@ -1,17 +1,28 @@
 // What a person reads on standard error when something is refused.
 use libc::STDERR_FILENO;
+use text::core::put_number;
+
+// The most digits that a number has.
+const MAX_DIGITS: usize = 20;
+
+// A number, as the report's own text has it.
+fn print_number(n: u64) {
+    let mut digits = [0u8; MAX_DIGITS];
+    let size = put_number(&mut digits, 0, n);
+    io::write_all(STDERR_FILENO, &digits[..size]);
+}
 
 // `file, line N: ` before a sentence, and ` (number)` after it.
 fn place(file: &[u8], line: u64) {
     io::write_all(STDERR_FILENO, file);
     io::write_all(STDERR_FILENO, b", line ");
-    io::print_decimal(STDERR_FILENO, line);
+    print_number(line);
     io::write_all(STDERR_FILENO, b": ");
 }
 
 fn rule(number: u32) {
     io::write_all(STDERR_FILENO, b" (");
-    io::print_decimal(STDERR_FILENO, number as u64);
+    print_number(number as u64);
     io::write_all(STDERR_FILENO, b")\n");
 }
 
@@ -19,7 +30,7 @@ fn rule(number: u32) {
 fn has_line_feed(bytes: &[u8]) -> bool {
     let mut i = 0;
     while i < bytes.len() {
-        if bytes[i] == 10 {
+        if bytes[i] == b'\n' {
             return true;
         }
         i += 1;
@@ -112,7 +123,7 @@ fn of_rule(number: u32, identity: u32) {
         return;
     }
     io::write_all(STDERR_FILENO, b"identity ");
-    io::print_decimal(STDERR_FILENO, identity as u64);
+    print_number(identity as u64);
     if number == 3 {
         io::write_all(STDERR_FILENO, b" is not from 1 to 99,999");
     } else if number == 4 {

@@ -18,10 +18,12 @@ use Rattle.register.specs.Limits.{limitsOf}
 use Rattle.register.proofs.LimitsFront.{limits-front}
 use Rattle.report_steps.specs.Reading.{Reading, registered}
 use Rattle.report_text.specs.Text.{refusedText, bookText}
-use Rattle.report_rules.specs.Report.{bookRows, readingText, registerText, answerText, reportOf, Came, Answers, Written}
+use Rattle.report_rules.specs.Report.{bookRows, readingText, registerText, answerText, reportOf, Came}
+use Rattle.report_rules.specs.Report.{Answers, Written}
 use Rattle.report_rules.specs.Report.Came.{whole, stopped, failed}
 
-pub reading-refused : (l : Limits) (s : Reading) → (s .refusal ≡ 0 → ⊥) → readingText l s ≡ refusedText (s .refusal) (s .line)
+pub reading-refused : (l : Limits) (s : Reading) → (s .refusal ≡ 0 → ⊥)
+    → readingText l s ≡ refusedText (s .refusal) (s .line)
 unfolding readingText
 reading-refused l s ne = rw (ne-eqb (s .refusal) 0 ne) refl
 
@@ -30,7 +32,8 @@ unfolding readingText
 reading-reported l s z = rw z refl
 
 -- a register that was read is answered by its reading
-pub register-text : (l : Limits) (register : List ℕ) (s : Reading) → s ≡ registered (l .points) (emptyBook (l .points) bookRows) register
+pub register-text : (l : Limits) (register : List ℕ) (s : Reading)
+    → s ≡ registered (l .points) (emptyBook (l .points) bookRows) register
     → readingText l s ≡ registerText l register
 unfolding registerText
 register-text l register s e = ap (readingText l) e
@@ -41,11 +44,13 @@ pub report-refused : (limits register : List ℕ) → (limitsOf limits .refusal 
 unfolding reportOf answerText
 report-refused limits register ne = rw (ne-eqb (limitsOf limits .refusal) 0 ne) refl
 
-pub report-accepted : (limits register : List ℕ) → limitsOf limits .refusal ≡ 0 → reportOf limits register ≡ registerText (limitsOf limits) register
+pub report-accepted : (limits register : List ℕ) → limitsOf limits .refusal ≡ 0
+    → reportOf limits register ≡ registerText (limitsOf limits) register
 unfolding reportOf answerText
 report-accepted limits register z = rw z refl
 
-pub answers-accepted : (limits : List ℕ) (came : Came) (text : List ℕ) → limitsOf limits .refusal ≡ 0 → Answers (registerText (limitsOf limits)) came text
+pub answers-accepted : (limits : List ℕ) (came : Came) (text : List ℕ) → limitsOf limits .refusal ≡ 0
+    → Answers (registerText (limitsOf limits)) came text
     → Answers (reportOf limits) came text
 answers-accepted limits (whole bytes) text z a = a ∙ sym (report-accepted limits bytes z)
 answers-accepted limits (stopped bytes) text z a = λ rest. a rest ∙ sym (report-accepted limits (bytes ++ rest) z)
@@ -57,9 +62,11 @@ unfolding booked sizesFit
 empty-sound p some few = history-sound p bookRows [] ∙ rw (le-leb 1 p some, le-leb p maxPoints few) refl
 
 -- limits.csv longer than its buffer: past its first 128 bytes nothing of it counts
-pub limits-any : (limits more register : List ℕ) → 128 ≤ length limits → reportOf (limits ++ more) register ≡ reportOf limits register
+pub limits-any : (limits more register : List ℕ) → 128 ≤ length limits
+    → reportOf (limits ++ more) register ≡ reportOf limits register
 unfolding reportOf
 limits-any limits more register h =
     let front : limitsOf (limits ++ more) ≡ limitsOf limits =
-    limits-front (limits ++ more) (omega (arith, length-append limits more)) ∙ ap limitsOf (take-append-le 128 limits more h) ∙ sym (limits-front limits h) in
+    limits-front (limits ++ more) (omega (arith, length-append limits more))
+    ∙ ap limitsOf (take-append-le 128 limits more h) ∙ sym (limits-front limits h) in
     ap (λ (l : Limits). answerText l register) front

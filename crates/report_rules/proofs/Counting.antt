@@ -26,16 +26,19 @@ one-group g true h =
     sum-ext (λ k. cond (eqb g k && true) 1 0) (λ k. cond (eqb g k) 1 0) groupCount (λ k l. rw (and-true (eqb g k)) refl)
     ∙ sum-one g groupCount ∙ rw (lt-ltb g groupCount h) refl
 one-group g false h =
-    sum-ext (λ k. cond (eqb g k && false) 1 0) (λ k. 0) groupCount (λ k l. rw (and-false (eqb g k)) refl) ∙ sum-zero groupCount
+    sum-ext (λ k. cond (eqb g k && false) 1 0) (λ k. 0) groupCount (λ k l. rw (and-false (eqb g k)) refl)
+    ∙ sum-zero groupCount
 
-sum-computed : (p : ℕ) (ms : List Movement) → AllGood p ms → sumTo (λ g. afresh.computedIn g ms) groupCount ≡ howMany computed ms
+sum-computed : (p : ℕ) (ms : List Movement) → AllGood p ms
+    → sumTo (λ g. afresh.computedIn g ms) groupCount ≡ howMany computed ms
 unfolding afresh.computedIn howMany
 sum-computed p [] good = sum-zero groupCount
 sum-computed p (m ∷ ms) good =
     sum-add (λ g. cond (eqb (m .group) g && hasLevels (m .held)) 1 0) (λ g. afresh.computedIn g ms) groupCount
     ∙ omega (arith, one-group (m .group) (hasLevels (m .held)) (good .0 .group<), sum-computed p ms (good .1))
 
-sum-missing : (p : ℕ) (ms : List Movement) → AllGood p ms → sumTo (λ g. afresh.missingIn g ms) groupCount ≡ howMany (λ m. not (computed m)) ms
+sum-missing : (p : ℕ) (ms : List Movement) → AllGood p ms
+    → sumTo (λ g. afresh.missingIn g ms) groupCount ≡ howMany (λ m. not (computed m)) ms
 unfolding afresh.missingIn howMany
 sum-missing p [] good = sum-zero groupCount
 sum-missing p (m ∷ ms) good =

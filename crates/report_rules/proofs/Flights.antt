@@ -15,13 +15,15 @@ use Rattle.book_rules.specs.History.{Movement, emptyBook, booked, movements, li
 use Rattle.book_rules.proofs.History.{Told, told, told-empty}
 use Rattle.register.specs.Row.{layoutOf}
 use Rattle.report_steps.specs.Intake.{takenNumber, rowTaken}
-use Rattle.report_steps.specs.Reading.{Reading, opening, lineRefusal, lineAfter, lineRead, linesRead, closing, registered}
+use Rattle.report_steps.specs.Reading.{Reading, opening, lineRefusal, lineAfter, lineRead, linesRead, closing}
+use Rattle.report_steps.specs.Reading.{registered}
 use Rattle.report_steps.specs.Booking.{rowCalls, linesCalls, registerCalls}
 use Rattle.report_steps.proofs.Readings.{stuck}
 use Rattle.report_steps.proofs.Bookings.{row-booked, register-rows}
 use Rattle.report_rules.specs.Report.{bookRows}
 use Rattle.report_rules.specs.Flights.{rowsIn, flightsIn, howMany, standingIn, AllStand}
-use Rattle.report_rules.proofs.Rows.{accepted-then, row-read, row-flights}
+use Rattle.report_rules.proofs.Listed.{accepted-then}
+use Rattle.report_rules.proofs.Rows.{row-read, row-flights}
 
 -- flights of rows, one after the other
 flights-then : (test : Movement → Bool) (p : ℕ) (row : List ℕ) (rows : List (List ℕ))
@@ -37,14 +39,16 @@ pub record Past (p n : ℕ) (s : Reading) (line : List ℕ) (ls : List (List ℕ
   pub number : lineRead p s line .line ≡ s .line + 1
   pub told= : Told p n (lineRead p s line .book) (listOf ms (accepted p n ms (rowCalls p (s .book) line)))
 
-row-past : (p n : ℕ) (s : Reading) (line : List ℕ) (ls : List (List ℕ)) (ms : List Movement) → Told p n (s .book) ms → 2 ≤ s .line
+row-past : (p n : ℕ) (s : Reading) (line : List ℕ) (ls : List (List ℕ)) (ms : List Movement) → Told p n (s .book) ms
+    → 2 ≤ s .line
     → linesRead p (lineRead p s line) ls .refusal ≡ 0 → Past p n s line ls ms
 unfolding lineRead lineRefusal lineAfter
 row-past p n s line ls ms t two z =
     let row = ne-eqb (s .line) 1 (λ e. absurd (omega arith)) in
     let r = lineRead p s line .refusal in
     let none : r ≡ 0 = either (eqb r 0) (λ yes. eqb-true r 0 yes)
-    (λ no. let ne = eqb-false r 0 no in absurd (ne (ap (λ (q : Reading). q .refusal) (sym (stuck p (lineRead p s line) ls ne)) ∙ z))) in
+    (λ no. let ne = eqb-false r 0 no in
+    absurd (ne (ap (λ (q : Reading). q .refusal) (sym (stuck p (lineRead p s line) ls ne)) ∙ z))) in
     let fine : takenNumber (rowTaken p (s .book) line) ≡ 0 = rw row at none in
     record {
       fine = fine;
@@ -56,9 +60,11 @@ row-past p n s line ls ms t two z =
 -- rows behind the header, up to the last: all are read, and the flights among them join the movements
 pub record AllRead (p n : ℕ) (s : Reading) (ls : List (List ℕ)) (ms : List Movement) : Type 0 where
   pub read : (i : ℕ) → i < length ls → layoutOf p (getD ls i []) .refusal ≡ 0
-  pub each : (test : Movement → Bool) → howMany test (listOf ms (accepted p n ms (linesCalls p s ls))) ≡ howMany test ms + howMany test (flightsIn p ls)
+  pub each : (test : Movement → Bool)
+      → howMany test (listOf ms (accepted p n ms (linesCalls p s ls))) ≡ howMany test ms + howMany test (flightsIn p ls)
 
-rows-read : (p n : ℕ) (s : Reading) (ls : List (List ℕ)) (ms : List Movement) → Told p n (s .book) ms → 2 ≤ s .line → s .refusal ≡ 0
+rows-read : (p n : ℕ) (s : Reading) (ls : List (List ℕ)) (ms : List Movement) → Told p n (s .book) ms → 2 ≤ s .line
+    → s .refusal ≡ 0
     → linesRead p s ls .refusal ≡ 0 → AllRead p n s ls ms
 unfolding linesRead linesCalls flightsIn howMany listOf accepted
 rows-read p n s [] ms t two z e = record { read = λ i h. absurd (omega arith); each = λ test. omega arith }
@@ -71,7 +77,8 @@ rows-read p n s (l ∷ ls) ms t two z e =
     record {
       read = each-read (row-read p (s .book) l (k .fine)) (rest .read);
       each = λ test. rw (go, row)
-          (ap (howMany test) (accepted-then p n ms (rowCalls p (s .book) l) (linesCalls p (lineRead p s l) ls)) ∙ rest .each test
+          (ap (howMany test) (accepted-then p n ms (rowCalls p (s .book) l) (linesCalls p (lineRead p s l) ls))
+          ∙ rest .each test
           ∙ omega (arith, row-flights p n (s .book) ms l t (k .fine) test, flights-then test p l ls));
     }
   where
@@ -90,7 +97,8 @@ many-all (m ∷ ms) = omega (arith, many-all ms)
 
 -- one that is refused nowhere has a header
 headed : (p : ℕ) (b : Book) (register : List ℕ) → registered p b register .refusal ≡ 0
-    → (lines : List (List ℕ)) → linesOf register ≡ lines → (linesRead p (opening b) lines .refusal ≡ 0) × (linesRead p (opening b) lines .line ≡ 1 → ⊥)
+    → (lines : List (List ℕ)) → linesOf register ≡ lines
+    → (linesRead p (opening b) lines .refusal ≡ 0) × (linesRead p (opening b) lines .line ≡ 1 → ⊥)
 unfolding registered closing
 headed p b register z lines e =
     let s = linesRead p (opening b) lines in
@@ -108,7 +116,8 @@ pub record Begun (p : ℕ) (b : Book) (head : List ℕ) (rows : List (List ℕ))
   pub book : lineRead p (opening b) head .book ≡ b
   pub rest : linesRead p (lineRead p (opening b) head) rows .refusal ≡ 0
 
-begun : (p : ℕ) (b : Book) (head : List ℕ) (rows : List (List ℕ)) → linesRead p (opening b) (head ∷ rows) .refusal ≡ 0 → Begun p b head rows
+begun : (p : ℕ) (b : Book) (head : List ℕ) (rows : List (List ℕ))
+    → linesRead p (opening b) (head ∷ rows) .refusal ≡ 0 → Begun p b head rows
 unfolding linesRead lineRead lineAfter
 begun p b head rows z =
     let s = lineRead p (opening b) head in
@@ -117,7 +126,8 @@ begun p b head rows z =
     (λ no. let ne = eqb-false r 0 no in absurd (ne (ap (λ (q : Reading). q .refusal) (sym (stuck p s rows ne)) ∙ z))) in
     record { refusal = none; line = rw none refl; book = refl; rest = z }
 
-calls-behind : (p : ℕ) (b : Book) (head : List ℕ) (rows : List (List ℕ)) → linesCalls p (opening b) (head ∷ rows) ≡ linesCalls p (lineRead p (opening b) head) rows
+calls-behind : (p : ℕ) (b : Book) (head : List ℕ) (rows : List (List ℕ))
+    → linesCalls p (opening b) (head ∷ rows) ≡ linesCalls p (lineRead p (opening b) head) rows
 unfolding linesCalls
 calls-behind p b head rows = refl
 
@@ -127,7 +137,8 @@ from-none test fs = omega arith
 
 -- the movements standing are those of the rows' calls
 standing-rows : (p : ℕ) (register head : List ℕ) (rows : List (List ℕ)) → linesOf register ≡ head ∷ rows
-    → standingIn p register ≡ listOf [] (accepted p bookRows [] (linesCalls p (lineRead p (opening (emptyBook p bookRows)) head) rows))
+    → standingIn p register
+    ≡ listOf [] (accepted p bookRows [] (linesCalls p (lineRead p (opening (emptyBook p bookRows)) head) rows))
 unfolding movements registerCalls
 standing-rows p register head rows e = rw (e, calls-behind p (emptyBook p bookRows) head rows) refl
 
@@ -136,16 +147,19 @@ none-read : (p : ℕ) (b : Book) → linesRead p (opening b) [] .line ≡ 1
 unfolding linesRead
 none-read p b = refl
 
-pub all-stand : (p : ℕ) (register : List ℕ) → registered p (emptyBook p bookRows) register .refusal ≡ 0 → AllStand p register
+pub all-stand : (p : ℕ) (register : List ℕ) → registered p (emptyBook p bookRows) register .refusal ≡ 0
+    → AllStand p register
 all-stand p register z = go (linesOf register) refl
   where
     b : Book
     b = emptyBook p bookRows
 
-    by-rows : (head : List ℕ) (rows : List (List ℕ)) → linesOf register ≡ head ∷ rows → AllRead p bookRows (lineRead p (opening b) head) rows []
+    by-rows : (head : List ℕ) (rows : List (List ℕ)) → linesOf register ≡ head ∷ rows
+        → AllRead p bookRows (lineRead p (opening b) head) rows []
     by-rows head rows e =
         let k = begun p b head rows (headed p b register z (head ∷ rows) e .0) in
-        rows-read p bookRows (lineRead p (opening b) head) rows [] (rw (k .book) (told-empty p bookRows)) (omega (arith, k .line)) (k .refusal) (k .rest)
+        rows-read p bookRows (lineRead p (opening b) head) rows [] (rw (k .book) (told-empty p bookRows))
+        (omega (arith, k .line)) (k .refusal) (k .rest)
 
     go : (lines : List (List ℕ)) → linesOf register ≡ lines → AllStand p register
     go [] e = absurd (headed p b register z [] e .1 (none-read p b))
@@ -153,7 +167,8 @@ all-stand p register z = go (linesOf register) refl
         let k = by-rows head rows e in
         let q : rowsIn register ≡ rows = ap (drop 1) e in
         let each : (test : Movement → Bool) → howMany test (standingIn p register) ≡ howMany test (flightsIn p (rowsIn register)) =
-        λ test. ap (howMany test) (standing-rows p register head rows e) ∙ k .each test ∙ rw q (from-none test (flightsIn p rows)) in
+        λ test. ap (howMany test) (standing-rows p register head rows e) ∙ k .each test
+        ∙ rw q (from-none test (flightsIn p rows)) in
         record {
           read = rw q (k .read);
           each = each;

@@ -1,5 +1,7 @@
 pub mod LimitsFits
 pub mod Answers
+pub mod Listed
+pub mod Entering
 pub mod Rows
 pub mod Flights
 pub mod Printed

@@ -48,7 +48,8 @@ zeros-at (suc m) (suc i) = zeros-at m i
 zeros-past : (f : ℕ → ℕ) (n m i : ℕ) → n ≤ i → getD (listing f n ++ replicate m 0) i 0 ≡ 0
 zeros-past f n m i h =
     let e : i ≡ length (listing f n) + (i - n) = omega (arith, length-listing f n) in
-    ap (λ k. getD (listing f n ++ replicate m 0) k 0) e ∙ getD-append-add (listing f n) (replicate m 0) (i - n) 0 ∙ zeros-at m (i - n)
+    ap (λ k. getD (listing f n ++ replicate m 0) k 0) e ∙ getD-append-add (listing f n) (replicate m 0) (i - n) 0
+    ∙ zeros-at m (i - n)
 
 -- Cells of the second line
 
@@ -72,7 +73,8 @@ module _ (n : ℕ) (line : List ℕ) (few : n ≤ 8) (fine : (eqb (countOf 44 li
   got : (k : ℕ) → k < 1 + n → cellAt table.Limits line k ≡ Got (valueAt table.Limits line k)
   got k h =
       got-value (cellAt table.Limits line k)
-      (every-each (gotAt table.Limits line) k (1 + n) h (and-right (eqb (countOf 44 line + 1) (1 + n)) (every (gotAt table.Limits line) (1 + n)) fine))
+      (every-each (gotAt table.Limits line) k (1 + n) h (and-right (eqb (countOf 44 line + 1) (1 + n))
+      (every (gotAt table.Limits line) (1 + n)) fine))
 
   held : (i : ℕ) → i < n → getD (eightFrom 1 (values n line)) i 0 ≡ valueAt table.Limits line (1 + i)
   unfolding eightFrom
@@ -84,11 +86,17 @@ module _ (n : ℕ) (line : List ℕ) (few : n ≤ 8) (fine : (eqb (countOf 44 li
   fine-spelled =
       let day = cell-day (fieldOf 44 0 line) (valueAt table.Limits line 0) (got 0 (omega arith)) in
       record {
-        fields = omega (arith, eqb-true (countOf 44 line + 1) (1 + n) (and-left (eqb (countOf 44 line + 1) (1 + n)) (every (gotAt table.Limits line) (1 + n)) fine));
+        fields = omega (
+          arith,
+          eqb-true (countOf 44 line + 1) (1 + n) (and-left (eqb (countOf 44 line + 1) (1 + n))
+              (every (gotAt table.Limits line) (1 + n)) fine),
+        );
         days= = day .0;
         seven = day .1;
-        limit = λ i h. rw (held i h) (cell-limit i (fieldOf 44 (1 + i) line) (valueAt table.Limits line (1 + i)) (got (1 + i) (omega arith)) .0);
-        three = λ i h. rw (held i h) (cell-limit i (fieldOf 44 (1 + i) line) (valueAt table.Limits line (1 + i)) (got (1 + i) (omega arith)) .1);
+        limit = λ i h. rw (held i h) (cell-limit i (fieldOf 44 (1 + i) line) (valueAt table.Limits line (1 + i))
+            (got (1 + i) (omega arith)) .0);
+        three = λ i h. rw (held i h) (cell-limit i (fieldOf 44 (1 + i) line) (valueAt table.Limits line (1 + i))
+            (got (1 + i) (omega arith)) .1);
       }
 
 read-spelled : (n : ℕ) (line : List ℕ) → n ≤ 8 → cellsOf table.Limits (1 + n) line .read ≡ true
@@ -106,7 +114,8 @@ module _ (n d : ℕ) (ls line : List ℕ) (few : n ≤ 8) (v : Valued n d ls lin
   cell-is zero h = rw (v .days=, whole-back d (v .seven)) refl
   cell-is (suc i) h =
       let e : suc i ≡ 1 + i = omega arith in
-      let read : levelOf (fieldOf 44 (1 + i) line) ≡ Got (getD ls i 0) = rw (v .limit i (omega arith)) (level-back (getD ls i 0) (v .three i (omega arith))) in
+      let read : levelOf (fieldOf 44 (1 + i) line) ≡ Got (getD ls i 0) =
+      rw (v .limit i (omega arith)) (level-back (getD ls i 0) (v .three i (omega arith))) in
       rw (e, read) refl
 
   day-is : valueAt table.Limits line 0 ≡ d
@@ -115,18 +124,25 @@ module _ (n d : ℕ) (ls line : List ℕ) (few : n ≤ 8) (v : Valued n d ls lin
 
   limit-is : (i : ℕ) → i < n → valueAt table.Limits line (1 + i) ≡ getD ls i 0
   limit-is i h =
-      let read : levelOf (fieldOf 44 (1 + i) line) ≡ Got (getD ls i 0) = rw (v .limit i h) (level-back (getD ls i 0) (v .three i h)) in
+      let read : levelOf (fieldOf 44 (1 + i) line) ≡ Got (getD ls i 0) =
+      rw (v .limit i h) (level-back (getD ls i 0) (v .three i h)) in
       ap valueOf (limit-cell i (fieldOf 44 (1 + i) line) ∙ read)
 
   read-is : cellsOf table.Limits (1 + n) line .read ≡ true
   unfolding cellsOf
   read-is =
-      rw (eq-eqb (countOf 44 line + 1) (1 + n) (omega (arith, v .fields)), every-all (gotAt table.Limits line) (1 + n) cell-is) refl
+      rw (
+        eq-eqb (countOf 44 line + 1) (1 + n) (omega (arith, v .fields)),
+        every-all (gotAt table.Limits line) (1 + n) cell-is,
+      ) refl
 
   values-are : cellsOf table.Limits (1 + n) line .values ≡ values n line
   unfolding cellsOf
   values-are =
-      rw (eq-eqb (countOf 44 line + 1) (1 + n) (omega (arith, v .fields)), every-all (gotAt table.Limits line) (1 + n) cell-is) refl
+      rw (
+        eq-eqb (countOf 44 line + 1) (1 + n) (omega (arith, v .fields)),
+        every-all (gotAt table.Limits line) (1 + n) cell-is,
+      ) refl
 
   -- its limits, as they are judged
   limits-are : (i : ℕ) → i < n → getD (eightFrom 1 (values n line)) i 0 ≡ getD ls i 0
@@ -155,9 +171,11 @@ unfolding allWithin
 within-all top [] h = refl
 within-all top (x ∷ xs) h = rw (le-leb x top (h 0)) (within-all top xs (λ i. h (suc i)))
 
-headed-by : (text : List ℕ) (n : ℕ) → Headed n (getD (linesOf text) 0 []) → limitsOf text ≡ secondLimits n (getD (linesOf text) 1 []) (length (linesOf text))
+headed-by : (text : List ℕ) (n : ℕ) → Headed n (getD (linesOf text) 0 [])
+    → limitsOf text ≡ secondLimits n (getD (linesOf text) 1 []) (length (linesOf text))
 unfolding limitsOf
-headed-by text n h = rw (is-header limitsHeader 4 (getD (linesOf text) 0 []) n refl (h .some) (h .few) (h .spelled)) refl
+headed-by text n h =
+    rw (is-header limitsHeader 4 (getD (linesOf text) 0 []) n refl (h .some) (h .few) (h .spelled)) refl
 
 second-by : (n d lines : ℕ) (ls line : List ℕ) → n ≤ 8 → Valued n d ls line
     → secondLimits n line lines ≡ cond (leb lines 2) (judgedLimits n (values n line)) (refusedLimits 16 3)
@@ -176,14 +194,20 @@ module _ (n d : ℕ) (ls line : List ℕ) (few : n ≤ 8) (v : Valued n d ls lin
   fits : (1 ≤ d) × (d ≤ 366) → (leb 1 d && leb d maxDays) ≡ true
   fits h = rw (le-leb 1 d (h .0), le-leb d 366 (h .1)) refl
 
-  judged-fifteen : (1 ≤ d) × (d ≤ 366) → (i : ℕ) → i < n → 12000 < getD ls i 0 → judgedLimits n (values n line) ≡ refusedLimits 15 2
+  judged-fifteen : (1 ≤ d) × (d ≤ 366) → (i : ℕ) → i < n → 12000 < getD ls i 0
+      → judgedLimits n (values n line) ≡ refusedLimits 15 2
   unfolding judgedLimits
   judged-fifteen h i l over =
       either (allWithin maxLimit (eightFrom 1 (values n line)))
-      (λ yes. absurd (omega (arith, within-at maxLimit (eightFrom 1 (values n line)) i yes, limits-are n d ls line few v i l)))
+      (λ yes. absurd (omega (
+        arith,
+        within-at maxLimit (eightFrom 1 (values n line)) i yes,
+        limits-are n d ls line few v i l,
+      )))
       (λ no. rw (day-at n d ls line few v, fits h, no) refl)
 
-  judged-fine : (1 ≤ d) × (d ≤ 366) → ((i : ℕ) → i < n → getD ls i 0 ≤ 12000) → Accepted (judgedLimits n (values n line)) n d ls
+  judged-fine : (1 ≤ d) × (d ≤ 366) → ((i : ℕ) → i < n → getD ls i 0 ≤ 12000)
+      → Accepted (judgedLimits n (values n line)) n d ls
   unfolding judgedLimits
   judged-fine h low =
       rw (fits-here, within-all maxLimit (eightFrom 1 (values n line)) each)
@@ -199,11 +223,13 @@ module _ (n d : ℕ) (ls line : List ℕ) (few : n ≤ 8) (v : Valued n d ls lin
           (λ no. let less = leb-false n i no in rw (limits-are n d ls line few v i less) (low i less))
 
 -- where no header is read, and where no values are
-headless : (r : Number) (second : List ℕ) (lines : ℕ) → ((n : ℕ) → r ≡ Got n → ⊥) → headedLimits r second lines ≡ refusedLimits 16 1
+headless : (r : Number) (second : List ℕ) (lines : ℕ) → ((n : ℕ) → r ≡ Got n → ⊥)
+    → headedLimits r second lines ≡ refusedLimits 16 1
 headless Off second lines never = refl
 headless (Got n) second lines never = absurd (never n refl)
 
-unread : (n lines : ℕ) (line : List ℕ) → n ≤ 8 → ((d : ℕ) (ls : List ℕ) → Valued n d ls line → ⊥) → secondLimits n line lines ≡ refusedLimits 16 2
+unread : (n lines : ℕ) (line : List ℕ) → n ≤ 8 → ((d : ℕ) (ls : List ℕ) → Valued n d ls line → ⊥)
+    → secondLimits n line lines ≡ refusedLimits 16 2
 unfolding secondLimits
 unread n lines line few never =
     either (cellsOf table.Limits (1 + n) line .read)
@@ -221,12 +247,19 @@ limits-exactly text =
     let lines = length (linesOf text) in
     record {
       headless = λ never. refused-at (headless (headerOf limitsHeader 4 first) second lines
-          (λ n e. let h = header-is limitsHeader 4 first n e in never n (record { some = h .0 .0; few = h .0 .1; spelled = h .1 })));
+          (λ n e. let h = header-is limitsHeader 4 first n e in
+          never n (record { some = h .0 .0; few = h .0 .1; spelled = h .1 })));
       second = λ n h never. refused-at (headed-by text n h ∙ unread n lines second (h .few) never);
-      third = λ n d ls h v more. refused-at (headed-by text n h ∙ second-by n d lines ls second (h .few) v ∙ rw (lt-leb lines 2 more) refl);
-      eleven = λ n d ls h v two out. refused-at (headed-by text n h ∙ second-by n d lines ls second (h .few) v ∙ rw (le-leb lines 2 two) (judged-eleven n d ls second (h .few) v out));
+      third = λ n d ls h v more.
+          refused-at (headed-by text n h ∙ second-by n d lines ls second (h .few) v
+          ∙ rw (lt-leb lines 2 more) refl);
+      eleven = λ n d ls h v two out.
+          refused-at (headed-by text n h ∙ second-by n d lines ls second (h .few) v
+          ∙ rw (le-leb lines 2 two) (judged-eleven n d ls second (h .few) v out));
       fifteen = λ n d ls h v two days i l over.
-          refused-at (headed-by text n h ∙ second-by n d lines ls second (h .few) v ∙ rw (le-leb lines 2 two) (judged-fifteen n d ls second (h .few) v days i l over));
+          refused-at (headed-by text n h ∙ second-by n d lines ls second (h .few) v
+          ∙ rw (le-leb lines 2 two) (judged-fifteen n d ls second (h .few) v days i l over));
       accepted = λ n d ls h v two days low.
-          rw (headed-by text n h ∙ second-by n d lines ls second (h .few) v, le-leb lines 2 two) (judged-fine n d ls second (h .few) v days low);
+          rw (headed-by text n h ∙ second-by n d lines ls second (h .few) v, le-leb lines 2 two)
+          (judged-fine n d ls second (h .few) v days low);
     }

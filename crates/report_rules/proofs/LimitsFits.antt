@@ -21,7 +21,7 @@ use Rattle.register.specs.declared.cell.Table.the-variants as table
 use Rattle.register.specs.declared.limits.Limits.{Limits}
 use Rattle.register.specs.Limits.{refusedLimits, judgedLimits, secondLimits, headedLimits, limitsOf}
 use Rattle.register.proofs.Rows.{header-range}
-use Rattle.report_text.specs.Room.{LimitsFit}
+use Rattle.report_text.specs.InnerRoom.{LimitsFit}
 
 judged-fit : (n : ℕ) (v : List ℕ) → 1 ≤ n → n ≤ 8 → judgedLimits n v .refusal ≡ 0 → LimitsFit (judgedLimits n v)
 unfolding judgedLimits
@@ -30,11 +30,13 @@ judged-fit n v some few z =
     let limits = allWithin maxLimit (eightFrom 1 v) in
     either days
     (λ fit. either limits
-    (λ low. rw (fit, low) (record { some = some; few = few; low = λ i. omega (arith, within-at maxLimit (eightFrom 1 v) i low) }))
+    (λ low. rw (fit, low)
+    (record { some = some; few = few; low = λ i. omega (arith, within-at maxLimit (eightFrom 1 v) i low) }))
     (λ high. absurd (omega (arith, rw (fit, high) at z))))
     (λ off. absurd (omega (arith, rw off at z)))
 
-headed-fit : (r : Number) (second : List ℕ) (lines : ℕ) → ((n : ℕ) → r ≡ Got n → (1 ≤ n) × (n ≤ 8)) → headedLimits r second lines .refusal ≡ 0
+headed-fit : (r : Number) (second : List ℕ) (lines : ℕ) → ((n : ℕ) → r ≡ Got n → (1 ≤ n) × (n ≤ 8))
+    → headedLimits r second lines .refusal ≡ 0
     → LimitsFit (headedLimits r second lines)
 unfolding secondLimits
 headed-fit Off second lines fits z = absurd (omega arith)
@@ -43,7 +45,8 @@ headed-fit (Got n) second lines fits z =
     let range = fits n refl in
     either read
     (λ on. either (leb lines 2)
-    (λ two. rw (on, two) (judged-fit n (cellsOf table.Limits (1 + n) second .values) (range .0) (range .1) (rw (on, two) at z)))
+    (λ two. rw (on, two) (judged-fit n (cellsOf table.Limits (1 + n) second .values) (range .0) (range .1)
+    (rw (on, two) at z)))
     (λ more. absurd (omega (arith, rw (on, more) at z))))
     (λ off. absurd (omega (arith, rw off at z)))
 

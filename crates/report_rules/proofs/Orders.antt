@@ -28,22 +28,28 @@ use Rattle.report_rules.proofs.LimitsExact.{within-all}
 -- a test that passes exactly if this holds
 passes-for : {Holds : Type 0} (ok : Bool) → (ok ≡ true ↔ Holds) → Decides ok (Holds → ⊥)
 passes-for true e = decides true (λ t n. n (e .0 refl)) (λ t. let z : _≡_ {A = ℕ} 0 1 = cc in absurd (omega arith))
-passes-for false e = decides false (λ t n. let z : _≡_ {A = ℕ} 0 1 = cc in absurd (omega arith)) (λ t h. let f = e .1 h in let z : _≡_ {A = ℕ} 0 1 = cc in absurd (omega arith))
+passes-for false e =
+    decides false (λ t n. let z : _≡_ {A = ℕ} 0 1 = cc in absurd (omega arith))
+    (λ t h. let f = e .1 h in let z : _≡_ {A = ℕ} 0 1 = cc in absurd (omega arith))
 
 -- a fault, or what follows, is one order
-first-is : (a b c : Bool) (rest : ℕ) → first (refuse 1 a (refuse 3 b (refuse 7 c 0))) rest ≡ refuse 1 a (refuse 3 b (refuse 7 c rest))
+first-is : (a b c : Bool) (rest : ℕ)
+    → first (refuse 1 a (refuse 3 b (refuse 7 c 0))) rest ≡ refuse 1 a (refuse 3 b (refuse 7 c rest))
 first-is true true true rest = refl
 first-is true true false rest = refl
 first-is true false c rest = refl
 first-is false b c rest = refl
 
 fault-is : (f : Fields) (fit : Bool) (rest : ℕ)
-    → first (faultOf f fit) rest ≡ refuse 1 (fieldsFit (f .ty) (f .kind) (f .time) (f .mass)) (refuse 3 (identityFits (f .identity)) (refuse 7 fit rest))
+    → first (faultOf f fit) rest ≡ refuse 1 (fieldsFit (f .ty) (f .kind) (f .time) (f .mass))
+    (refuse 3 (identityFits (f .identity)) (refuse 7 fit rest))
 unfolding faultOf
 fault-is f fit rest = first-is (fieldsFit (f .ty) (f .kind) (f .time) (f .mass)) (identityFits (f .identity)) fit rest
 
 fields-for : (f : Fields) → Decides (fieldsFit (f .ty) (f .kind) (f .time) (f .mass)) (Ranged f → ⊥)
-fields-for f = passes-for (fieldsFit (f .ty) (f .kind) (f .time) (f .mass)) (ranges-hold .fields (f .ty) (f .kind) (f .time) (f .mass))
+fields-for f =
+    passes-for (fieldsFit (f .ty) (f .kind) (f .time) (f .mass))
+    (ranges-hold .fields (f .ty) (f .kind) (f .time) (f .mass))
 
 identity-for : (f : Fields) → Decides (identityFits (f .identity)) (Identified f → ⊥)
 identity-for f = passes-for (identityFits (f .identity)) (ranges-hold .identity (f .identity))
@@ -65,18 +71,21 @@ read-order p line room =
     let f = l .fields in
     let fit = allWithin maxLevel (l .levels) in
     given-by (eqb (l .refusal) 0) refl (zero-for (l .refusal)) λ _ e.
-    given-by (fieldsFit (f .ty) (f .kind) (f .time) (f .mass)) (e ∙ fault-is f fit (refuse 14 (leb p room) 0)) (fields-for f) λ _ e₁.
+    given-by (fieldsFit (f .ty) (f .kind) (f .time) (f .mass)) (e ∙ fault-is f fit (refuse 14 (leb p room) 0))
+    (fields-for f) λ _ e₁.
     given-by (identityFits (f .identity)) e₁ (identity-for f) λ _ e₃.
     given-by fit e₃ (within-for 12000 (l .levels)) λ _ e₇.
     given-by (leb p room) e₇ (room-for p room) λ _ e₁₄. e₁₄
 
 -- the levels of a row to be written
-written-for : (p : ℕ) (f : Fields) (levels : List ℕ) → Decides (rowLevelsFit p (f .computed) levels) (Written p f levels → ⊥)
+written-for : (p : ℕ) (f : Fields) (levels : List ℕ)
+    → Decides (rowLevelsFit p (f .computed) levels) (Written p f levels → ⊥)
 unfolding rowLevelsFit
 written-for p f levels = passes-for (levelsFit p levels && zeroWhereBlank (f .computed) levels) (there, back)
   where
     zeros : zeroWhereBlank (f .computed) levels ≡ true → f .computed ≡ 0 → (i : ℕ) → getD levels i 0 ≡ 0
-    zeros t e i = let w : allWithin 0 levels ≡ true = rw (eq-eqb (f .computed) 0 e) at t in omega (arith, within-at 0 levels i w)
+    zeros t e i =
+        let w : allWithin 0 levels ≡ true = rw (eq-eqb (f .computed) 0 e) at t in omega (arith, within-at 0 levels i w)
 
     blank : (f .computed ≡ 0 → (i : ℕ) → getD levels i 0 ≡ 0) → zeroWhereBlank (f .computed) levels ≡ true
     blank z =
@@ -87,14 +96,16 @@ written-for p f levels = passes-for (levelsFit p levels && zeroWhereBlank (f .co
     there : (levelsFit p levels && zeroWhereBlank (f .computed) levels) ≡ true → Written p f levels
     there t =
         record {
-          range = ranges-hold .levels p levels .0 (and-left (levelsFit p levels) (zeroWhereBlank (f .computed) levels) t);
+          range = ranges-hold .levels p levels .0 (and-left (levelsFit p levels)
+              (zeroWhereBlank (f .computed) levels) t);
           zeros = zeros (and-right (levelsFit p levels) (zeroWhereBlank (f .computed) levels) t);
         }
 
     back : Written p f levels → (levelsFit p levels && zeroWhereBlank (f .computed) levels) ≡ true
     back w = rw (ranges-hold .levels p levels .1 (w .range), blank (w .zeros)) refl
 
-shape-for : (p : ℕ) (f : Fields) → Decides (pointsFit p && leb (f .computed) 1) ((1 ≤ p) × (p ≤ 8) × (f .computed ≤ 1) → ⊥)
+shape-for : (p : ℕ) (f : Fields)
+    → Decides (pointsFit p && leb (f .computed) 1) ((1 ≤ p) × (p ≤ 8) × (f .computed ≤ 1) → ⊥)
 shape-for p f = passes-for (pointsFit p && leb (f .computed) 1) (there, back)
   where
     there : (pointsFit p && leb (f .computed) 1) ≡ true → (1 ≤ p) × (p ≤ 8) × (f .computed ≤ 1)
@@ -112,12 +123,14 @@ nine-first : (ok : Bool) (fault rest : ℕ) → first (refuse 9 ok fault) rest �
 nine-first true fault rest = refl
 nine-first false fault rest = refl
 
-pub write-order : (p : ℕ) (f : Fields) (levels : List ℕ) (room : ℕ) → InWriteOrder p f levels room (writeRefusal p f levels room)
+pub write-order : (p : ℕ) (f : Fields) (levels : List ℕ) (room : ℕ)
+    → InWriteOrder p f levels room (writeRefusal p f levels room)
 unfolding writeRefusal writeFault
 write-order p f levels room =
     let fit = rowLevelsFit p (f .computed) levels in
     let last = refuse 14 (leb (length (showRow f levels)) room) 0 in
-    given-by (pointsFit p && leb (f .computed) 1) (nine-first (pointsFit p && leb (f .computed) 1) (faultOf f fit) last) (shape-for p f) λ _ e.
+    given-by (pointsFit p && leb (f .computed) 1)
+    (nine-first (pointsFit p && leb (f .computed) 1) (faultOf f fit) last) (shape-for p f) λ _ e.
     given-by (fieldsFit (f .ty) (f .kind) (f .time) (f .mass)) (e ∙ fault-is f fit last) (fields-for f) λ _ e₁.
     given-by (identityFits (f .identity)) e₁ (identity-for f) λ _ e₃.
     given-by fit e₃ (written-for p f levels) λ _ e₇.

@@ -46,7 +46,8 @@ lines-ended (l ∷ ls) free =
     let first = line-free l (ended ls) (free 0 (omega arith)) in
     let some : 1 ≤ length text = omega (arith, length-append l (13 ∷ 10 ∷ ended ls)) in
     lines-step text some
-    ∙ rw (first, drop-append-add l (13 ∷ 10 ∷ ended ls) 2) (ap (λ (ks : List (List ℕ)). l ∷ ks) (lines-ended ls (λ i h. free (suc i) (omega arith))))
+    ∙ rw (first, drop-append-add l (13 ∷ 10 ∷ ended ls) 2)
+    (ap (λ (ks : List (List ℕ)). l ∷ ks) (lines-ended ls (λ i h. free (suc i) (omega arith))))
 
 -- Fields
 
@@ -90,8 +91,10 @@ fields-free d low point limit load (suc (suc (suc (suc (suc zero))))) h = shown-
 fields-free d low point limit load (suc (suc (suc (suc (suc (suc i)))))) h = absurd (omega arith)
 
 -- a field of the line of a point
-pub field-at : (point limit : ℕ) (load : Load) (k : ℕ) → k < 6 → fieldOf 44 k (line (pointFields point limit load)) ≡ getD (pointFields point limit load) k []
-field-at point limit load k h = join-field 44 (pointFields point limit load) (fields-free 44 (omega arith) point limit load) k h
+pub field-at : (point limit : ℕ) (load : Load) (k : ℕ) → k < 6
+    → fieldOf 44 k (line (pointFields point limit load)) ≡ getD (pointFields point limit load) k []
+field-at point limit load k h =
+    join-field 44 (pointFields point limit load) (fields-free 44 (omega arith) point limit load) k h
 
 none-in : (d : ℕ) → countOf d [] ≡ 0
 unfolding countOf
@@ -108,11 +111,16 @@ joined-free d [] ne free = none-in d
 joined-free d (f ∷ []) ne free = free 0 (omega arith)
 joined-free d (f ∷ (g ∷ fs)) ne free =
     count-append d f (44 ∷ joinedBy 44 (g ∷ fs))
-    ∙ rw (free 0 (omega arith), comma-past d (joinedBy 44 (g ∷ fs)) ne, joined-free d (g ∷ fs) ne (λ i h. free (suc i) (omega arith))) (omega arith)
+    ∙ rw (
+      free 0 (omega arith),
+      comma-past d (joinedBy 44 (g ∷ fs)) ne,
+      joined-free d (g ∷ fs) ne (λ i h. free (suc i) (omega arith)),
+    ) (omega arith)
 
 pub line-unbroken : (point limit : ℕ) (load : Load) → countOf 13 (line (pointFields point limit load)) ≡ 0
 line-unbroken point limit load =
-    joined-free 13 (pointFields point limit load) (λ e. absurd (omega arith)) (fields-free 13 (omega arith) point limit load)
+    joined-free 13 (pointFields point limit load) (λ e. absurd (omega arith))
+    (fields-free 13 (omega arith) point limit load)
 
 -- the value at an index of a listing
 pub listing-at : {A : Type 0} (f : ℕ → A) (d : A) (n i : ℕ) → i < n → getD (listing f n) i d ≡ f i
@@ -121,7 +129,8 @@ listing-at f d zero i h = absurd (omega arith)
 listing-at f d (suc n) i h =
     either (eqb i n)
     (λ same. let e = eqb-true i n same in
-    rw e (ap (λ (k : ℕ). getD (listing f n ++ (f n ∷ [])) k d) (sym (length-listing f n)) ∙ getD-append-seam (listing f n) (f n) [] d))
+    rw e (ap (λ (k : ℕ). getD (listing f n ++ (f n ∷ [])) k d) (sym (length-listing f n))
+    ∙ getD-append-seam (listing f n) (f n) [] d))
     (λ other. let less : i < n = omega (arith, eqb-false i n other) in
     List·getD-append (listing f n) (f n ∷ []) d i (rw (length-listing f n) less) ∙ listing-at f d n i less)
 

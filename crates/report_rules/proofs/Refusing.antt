@@ -27,14 +27,18 @@ use Rattle.book_rules.specs.History.{emptyBook}
 use Rattle.register.specs.Header.{headerOf, registerHeader}
 use Rattle.register.specs.Limits.{limitsOf}
 use Rattle.register.specs.Row.{layoutOf}
-use Rattle.report_steps.specs.Intake.{takenNumber, entering, supplying, suppliedTaken, enteredTaken, layoutTaken, rowTaken}
-use Rattle.report_steps.specs.Reading.{Reading, opening, pointsRefusal, lineRefusal, lineRead, linesRead, closing, registered}
+use Rattle.report_steps.specs.Intake.{takenNumber, entering, supplying, suppliedTaken, enteredTaken, layoutTaken}
+use Rattle.report_steps.specs.Intake.{rowTaken}
+use Rattle.report_steps.specs.Reading.{Reading, opening, pointsRefusal, lineRefusal, lineRead, linesRead, closing}
+use Rattle.report_steps.specs.Reading.{registered}
 use Rattle.report_steps.proofs.Readings.{stuck, all-lines}
 use Rattle.report_text.specs.Text.{ended, line, refusedText, bookRefusal, bookText}
 use Rattle.report_rules.specs.Report.{bookRows, readingText, registerText, reportOf}
 use Rattle.report_rules.specs.Flights.{bookIn}
-use Rattle.report_rules.specs.Refused.{Refuses, ReportRefused, FirstRefused, RegisterRefused, HeaderExactly, RowRefused}
-use Rattle.report_rules.proofs.Answers.{reading-refused, reading-reported, register-text, report-refused, report-accepted}
+use Rattle.report_rules.specs.Refused.{Refuses, ReportRefused, FirstRefused, RegisterRefused, HeaderExactly}
+use Rattle.report_rules.specs.Refused.{RowRefused}
+use Rattle.report_rules.proofs.Answers.{reading-refused, reading-reported, register-text, report-refused}
+use Rattle.report_rules.proofs.Answers.{report-accepted}
 use Rattle.report_rules.proofs.Printed.{lines-ended, spelled-free, joined-free}
 
 -- The one line of a refusal
@@ -45,18 +49,25 @@ refused-free d low number n (suc zero) h = shown-free d low 20 number
 refused-free d low number n (suc (suc zero)) h = shown-free d low 20 n
 refused-free d low number n (suc (suc (suc i))) h = absurd (omega arith)
 
-refused-lines : (number n : ℕ) → linesOf (refusedText number n) ≡ line (bytes "refused" ∷ showNumber number ∷ showNumber n ∷ []) ∷ []
+refused-lines : (number n : ℕ)
+    → linesOf (refusedText number n) ≡ line (bytes "refused" ∷ showNumber number ∷ showNumber n ∷ []) ∷ []
 unfolding refusedText
 refused-lines number n = lines-ended (line (bytes "refused" ∷ showNumber number ∷ showNumber n ∷ []) ∷ []) free
   where
     free : Free 13 (line (bytes "refused" ∷ showNumber number ∷ showNumber n ∷ []) ∷ [])
     free zero h =
-        joined-free 13 (bytes "refused" ∷ showNumber number ∷ showNumber n ∷ []) (λ e. absurd (omega arith)) (refused-free 13 (omega arith) number n)
+        joined-free 13 (bytes "refused" ∷ showNumber number ∷ showNumber n ∷ []) (λ e. absurd (omega arith))
+        (refused-free 13 (omega arith) number n)
     free (suc i) h = absurd (omega arith)
 
 refuses : (text : List ℕ) (number n : ℕ) → text ≡ refusedText number n → Refuses text number n
 refuses text number n e =
-    record { one = ap length lines; word = field 0 (omega arith); number= = field 1 (omega arith); line= = field 2 (omega arith) }
+    record {
+      one = ap length lines;
+      word = field 0 (omega arith);
+      number= = field 1 (omega arith);
+      line= = field 2 (omega arith);
+    }
   where
     fields : List (List ℕ)
     fields = bytes "refused" ∷ showNumber number ∷ showNumber n ∷ []
@@ -64,16 +75,19 @@ refuses text number n e =
     lines : linesOf text ≡ line (bytes "refused" ∷ showNumber number ∷ showNumber n ∷ []) ∷ []
     lines = ap linesOf e ∙ refused-lines number n
 
-    field : (k : ℕ) → k < 3 → fieldOf 44 k (getD (linesOf text) 0 []) ≡ getD (bytes "refused" ∷ showNumber number ∷ showNumber n ∷ []) k []
+    field : (k : ℕ) → k < 3
+        → fieldOf 44 k (getD (linesOf text) 0 []) ≡ getD (bytes "refused" ∷ showNumber number ∷ showNumber n ∷ []) k []
     field k h =
         ap (λ (ls : List (List ℕ)). fieldOf 44 k (getD ls 0 [])) lines
-        ∙ join-field 44 (bytes "refused" ∷ showNumber number ∷ showNumber n ∷ []) (refused-free 44 (omega arith) number n) k h
+        ∙ join-field 44 (bytes "refused" ∷ showNumber number ∷ showNumber n ∷ [])
+        (refused-free 44 (omega arith) number n) k h
 
 -- the book is refused
 book-refused : (limits register : List ℕ) → limitsOf limits .refusal ≡ 0
     → registered (limitsOf limits .points) (emptyBook (limitsOf limits .points) bookRows) register .refusal ≡ 0
     → (bookRefusal (limitsOf limits) (bookIn (limitsOf limits .points) register) ≡ 0 → ⊥)
-    → reportOf limits register ≡ refusedText (bookRefusal (limitsOf limits) (bookIn (limitsOf limits .points) register)) 0
+    → reportOf limits register
+    ≡ refusedText (bookRefusal (limitsOf limits) (bookIn (limitsOf limits .points) register)) 0
 unfolding bookText
 book-refused limits register fine accepted ne =
     let l = limitsOf limits in
@@ -89,7 +103,8 @@ refused-report limits register =
       by-limits = λ ne. refuses (reportOf limits register) (l .refusal) (l .line) (report-refused limits register ne);
       by-register = λ fine ne. refuses (reportOf limits register) (s .refusal) (s .line)
           (report-accepted limits register fine ∙ sym (register-text l register s refl) ∙ reading-refused l s ne);
-      by-book = λ fine accepted ne. refuses (reportOf limits register) (bookRefusal l (s .book)) 0 (book-refused limits register fine accepted ne);
+      by-book = λ fine accepted ne. refuses (reportOf limits register) (bookRefusal l (s .book)) 0
+          (book-refused limits register fine accepted ne);
     }
 
 -- The first refusal of some lines
@@ -99,7 +114,8 @@ record FirstAt (p : ℕ) (s : Reading) (ls : List (List ℕ)) : Type 0 where
   reached : before < length ls
   fine : linesRead p s (take before ls) .refusal ≡ 0
   line : linesRead p s ls .line ≡ s .line + before
-  number : linesRead p s ls .refusal ≡ lineRefusal p (s .line + before) (linesRead p s (take before ls) .book) (getD ls before [])
+  number : linesRead p s ls .refusal
+      ≡ lineRefusal p (s .line + before) (linesRead p s (take before ls) .book) (getD ls before [])
 
 line-stops : (p : ℕ) (s : Reading) (l : List ℕ) → (lineRead p s l .refusal ≡ 0 → ⊥) → lineRead p s l .line ≡ s .line
 unfolding lineRead
@@ -113,7 +129,8 @@ read-number : (p : ℕ) (s : Reading) (l : List ℕ) → lineRead p s l .refusal
 unfolding lineRead
 read-number p s l = refl
 
-first-at : (p : ℕ) (s : Reading) (ls : List (List ℕ)) → s .refusal ≡ 0 → (linesRead p s ls .refusal ≡ 0 → ⊥) → FirstAt p s ls
+first-at : (p : ℕ) (s : Reading) (ls : List (List ℕ)) → s .refusal ≡ 0 → (linesRead p s ls .refusal ≡ 0 → ⊥)
+    → FirstAt p s ls
 unfolding linesRead
 first-at p s [] z ne = absurd (ne z)
 first-at p s (l ∷ ls) z ne =
@@ -157,16 +174,19 @@ no-line : (ls : List (List ℕ)) → length ls ≡ 0 → ls ≡ []
 no-line [] z = refl
 no-line (l ∷ ls) z = absurd (omega arith)
 
-empty-register : (p : ℕ) (b : Book) (register : List ℕ) → linesOf register ≡ [] → registered p b register ≡ record { refusal = 16; line = 1; book = b }
+empty-register : (p : ℕ) (b : Book) (register : List ℕ) → linesOf register ≡ []
+    → registered p b register ≡ record { refusal = 16; line = 1; book = b }
 unfolding registered linesRead closing
 empty-register p b register e = rw e refl
 
-first-of : (p : ℕ) (b : Book) (register : List ℕ) → 1 ≤ length (linesOf register) → (registered p b register .refusal ≡ 0 → ⊥) → FirstRefused p b register
+first-of : (p : ℕ) (b : Book) (register : List ℕ) → 1 ≤ length (linesOf register)
+    → (registered p b register .refusal ≡ 0 → ⊥) → FirstRefused p b register
 unfolding registered
 first-of p b register some ne =
     let ls = linesOf register in
     let s = linesRead p (opening b) ls in
-    let not : s .refusal ≡ 0 → ⊥ = λ z. ne (ap (λ (q : Reading). q .refusal) (closing-read s (omega (arith, all-lines p (opening b) ls z))) ∙ z) in
+    let not : s .refusal ≡ 0 → ⊥ =
+    λ z. ne (ap (λ (q : Reading). q .refusal) (closing-read s (omega (arith, all-lines p (opening b) ls z))) ∙ z) in
     let k = first-at p (opening b) ls refl not in
     let e = closing-refused s not in
     let on : 1 + k .before ≡ k .before + 1 = omega arith in
@@ -226,7 +246,8 @@ header-is full lead s p e =
     ((omega arith, omega arith), same-is s (take n full) (and-right d f all) ∙ ap (λ k. take k full) size))
     (λ no. let g : Off ≡ Got p = rw no at e in let z : _≡_ {A = ℕ} 0 1 = cc in absurd (omega arith))
 
-pub is-header : (full : List ℕ) (lead : ℕ) (s : List ℕ) (p : ℕ) → length full ≡ lead + 24 → 1 ≤ p → p ≤ 8 → s ≡ take (lead + 3 * p) full
+pub is-header : (full : List ℕ) (lead : ℕ) (s : List ℕ) (p : ℕ) → length full ≡ lead + 24 → 1 ≤ p → p ≤ 8
+    → s ≡ take (lead + 3 * p) full
     → headerOf full lead s ≡ Got p
 unfolding headerOf
 is-header full lead s p size some few e =
@@ -234,7 +255,15 @@ is-header full lead s p size some few e =
     let third : (lead + 3 * p - lead) % 3 ≡ 0 = omega arith in
     let whole : (lead + 3 * p - lead) / 3 ≡ p = omega arith in
     let same : sameText s (take (lead + 3 * p) full) ≡ true = rw e (same-self (take (lead + 3 * p) full)) in
-    rw (n, lt-ltb lead (lead + 3 * p) (omega arith), le-leb (lead + 3 * p) (length full) (omega arith), third, whole, le-leb p 8 few, same) refl
+    rw (
+      n,
+      lt-ltb lead (lead + 3 * p) (omega arith),
+      le-leb (lead + 3 * p) (length full) (omega arith),
+      third,
+      whole,
+      le-leb p 8 few,
+      same,
+    ) refl
 
 points-none : (p : ℕ) (r : Number) → pointsRefusal p r ≡ 0 → r ≡ Got p
 points-none p Off z = absurd (omega arith)

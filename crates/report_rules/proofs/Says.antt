@@ -28,10 +28,12 @@ use Rattle.register.specs.Limits.{limitsOf}
 use Rattle.report_steps.specs.Reading.{registered}
 use Rattle.report_steps.specs.Booking.{registerCalls}
 use Rattle.report_steps.proofs.Bookings.{register-booked}
-use Rattle.report_text.specs.Text.{ended, line, headerLine, levelText, verdictText, pointFields, pointLine, pointsText, bookRefusal, bookText}
+use Rattle.report_text.specs.Text.{ended, line, headerLine, levelText, verdictText, pointFields, pointLine}
+use Rattle.report_text.specs.Text.{pointsText, bookRefusal, bookText}
 use Rattle.report_text.specs.Totals as totals
 use Rattle.report_rules.specs.Report.{bookRows, registerText, reportOf}
-use Rattle.report_rules.specs.Flights.{rowsIn, flightsIn, howMany, computed, bookIn, standingIn, printed, levelAt, PointSays, ReportSays}
+use Rattle.report_rules.specs.Flights.{rowsIn, flightsIn, howMany, computed, bookIn, standingIn, printed}
+use Rattle.report_rules.specs.Flights.{levelAt, PointSays, ReportSays}
 use Rattle.report_rules.proofs.Answers.{reading-reported, register-text, report-accepted}
 use Rattle.report_rules.proofs.Flights.{all-stand}
 use Rattle.report_rules.proofs.Printed.{lines-ended, header-unbroken, field-at, line-unbroken, listing-at}
@@ -64,7 +66,8 @@ text-below : (x : Level) → levelGiven x ≡ 0 → levelText x ≡ bytes "below
 text-below BelowZero e = refl
 text-below (At n) e = absurd (omega arith)
 
-text-over : (x : Level) (limit : ℕ) → levelGiven x ≡ 1 → limit < levelValue x → verdictText (verdictOf x limit) ≡ bytes "over"
+text-over : (x : Level) (limit : ℕ) → levelGiven x ≡ 1 → limit < levelValue x
+    → verdictText (verdictOf x limit) ≡ bytes "over"
 text-over BelowZero limit e m = absurd (omega arith)
 text-over (At n) limit e m = rw (lt-ltb limit n m) refl
 
@@ -109,7 +112,8 @@ module _ (limits register : List ℕ) (fine : limitsOf limits .refusal ≡ 0) (a
   answered point h =
       let first : bookLoad p 0 (booked (emptyBook p bookRows) cs) (l .days) .refused ≡ 0 = rw made at reported in
       let k = counted-once p 0 bookRows cs (l .days) .refusals .answered .0 first in
-      counted-once p point bookRows cs (l .days) .refusals .answered .1 (record { points = k .0 .points; rows = k .0 .rows; there = h }, k .1)
+      counted-once p point bookRows cs (l .days) .refusals .answered .1
+      (record { points = k .0 .points; rows = k .0 .rows; there = h }, k .1)
 
   counts : (point : ℕ) → point < p → CountsEach (bookLoad p point b (l .days)) point (standingIn p register) (l .days)
   counts point h =
@@ -117,7 +121,8 @@ module _ (limits register : List ℕ) (fine : limitsOf limits .refusal ≡ 0) (a
       (counted-once p point bookRows cs (l .days) .counts (answered point h))
 
   field : (point k : ℕ) → point < p → k < 6
-      → printed (reportOf limits register) point k ≡ getD (pointFields point (getD (l .limits) point 0) (bookLoad p point b (l .days))) k []
+      → printed (reportOf limits register) point k
+      ≡ getD (pointFields point (getD (l .limits) point 0) (bookLoad p point b (l .days))) k []
   unfolding pointLine
   field point k h six =
       ap (λ (ls : List (List ℕ)). fieldOf 44 k (getD ls (suc point) [])) lines-are
@@ -125,12 +130,15 @@ module _ (limits register : List ℕ) (fine : limitsOf limits .refusal ≡ 0) (a
       ∙ field-at point (getD (l .limits) point 0) (bookLoad p point b (l .days)) k six
 
   -- the flights computed, and those without levels, of the load at each point
-  with-levels : (point : ℕ) → point < p → totals.computedIn (bookLoad p point b (l .days) .counts) ≡ howMany computed (flightsIn p (rowsIn register))
+  with-levels : (point : ℕ) → point < p
+      → totals.computedIn (bookLoad p point b (l .days) .counts) ≡ howMany computed (flightsIn p (rowsIn register))
   with-levels point h =
-      computed-printed p bookRows point (l .days) cs (bookLoad p point b (l .days)) (counts point h) ∙ all-stand p register accepted .each computed
+      computed-printed p bookRows point (l .days) cs (bookLoad p point b (l .days)) (counts point h)
+      ∙ all-stand p register accepted .each computed
 
   without : (point : ℕ) → point < p
-      → totals.missingIn (bookLoad p point b (l .days) .counts) ≡ howMany (λ m. not (computed m)) (flightsIn p (rowsIn register))
+      → totals.missingIn (bookLoad p point b (l .days) .counts)
+      ≡ howMany (λ m. not (computed m)) (flightsIn p (rowsIn register))
   without point h =
       missing-printed p bookRows point (l .days) cs (bookLoad p point b (l .days)) (counts point h)
       ∙ all-stand p register accepted .each (λ m. not (computed m))
@@ -146,9 +154,12 @@ module _ (limits register : List ℕ) (fine : limitsOf limits .refusal ≡ 0) (a
               rounded = λ e. field point 1 h (omega arith) ∙ text-given (levelAt l register point) e;
               below = λ e. field point 1 h (omega arith) ∙ text-below (levelAt l register point) e;
               limit = field point 2 h (omega arith);
-              over = λ e m. field point 3 h (omega arith) ∙ text-over (levelAt l register point) (getD (l .limits) point 0) e m;
-              within = λ m. field point 3 h (omega arith) ∙ text-within (levelAt l register point) (getD (l .limits) point 0) m;
-              none = λ e. field point 3 h (omega arith) ∙ text-none (levelAt l register point) (getD (l .limits) point 0) e;
+              over = λ e m. field point 3 h (omega arith)
+                  ∙ text-over (levelAt l register point) (getD (l .limits) point 0) e m;
+              within = λ m. field point 3 h (omega arith)
+                  ∙ text-within (levelAt l register point) (getD (l .limits) point 0) m;
+              none = λ e. field point 3 h (omega arith)
+                  ∙ text-none (levelAt l register point) (getD (l .limits) point 0) e;
               with-levels = field point 4 h (omega arith) ∙ ap showNumber (with-levels point h);
               without = field point 5 h (omega arith) ∙ ap showNumber (without point h);
             };

@@ -50,13 +50,15 @@ module _ (p : ℕ) (row : List ℕ) (e : layoutOf p row .refusal ≡ 0) where
   unfolding value
   text k h b =
       cell-exact k (fieldOf 44 k (bareLine row)) (valueAt Register (bareLine row) k)
-      (got-value (cellAt Register (bareLine row) k) (every-each (gotAt Register (bareLine row)) k (5 + p) h (on .got))) b
+      (got-value (cellAt Register (bareLine row) k) (every-each (gotAt Register (bareLine row)) k (5 + p) h
+      (on .got))) b
 
   head : (k : ℕ) → k < 5 → blankCell k (fieldOf 44 k (bareLine row)) ≡ false
   head k h = rw (lt-leb 5 k h) refl
 
   -- the values of the row's fields
-  held : (k : ℕ) → k < 5 + p → getD (listing (valueAt Register (bareLine row)) (5 + p) ++ replicate (13 - (5 + p)) 0) k 0 ≡ value k
+  held : (k : ℕ) → k < 5 + p
+      → getD (listing (valueAt Register (bareLine row)) (5 + p) ++ replicate (13 - (5 + p)) 0) k 0 ≡ value k
   unfolding value
   held k h = value-at (valueAt Register (bareLine row)) (5 + p) (replicate (13 - (5 + p)) 0) k h
 
@@ -78,13 +80,17 @@ module _ (p : ℕ) (row : List ℕ) (e : layoutOf p row .refusal ≡ 0) where
   unfolding rowLayout eightFrom
   level i h =
       let v = listing (valueAt Register (bareLine row)) (5 + p) ++ replicate (13 - (5 + p)) 0 in
-      ap (λ (l : Layout). getD (l .levels) i 0) (on .row) ∙ listing-at (λ j. getD v (5 + j) 0) 0 8 i (omega (arith, few)) ∙ held (5 + i) (omega arith)
+      ap (λ (l : Layout). getD (l .levels) i 0) (on .row) ∙ listing-at (λ j. getD v (5 + j) 0) 0 8 i
+      (omega (arith, few)) ∙ held (5 + i) (omega arith)
 
-  given : layoutOf p row .fields .computed ≡ 1 → (i : ℕ) → i < p → column row (5 + i) ≡ showLevel (getD (layoutOf p row .levels) i 0)
+  given : layoutOf p row .fields .computed ≡ 1 → (i : ℕ) → i < p
+      → column row (5 + i) ≡ showLevel (getD (layoutOf p row .levels) i 0)
   given one i h =
       let m : mark ≡ 1 = sym mark-is ∙ one in
-      let b : blankCell (5 + i) (fieldOf 44 (5 + i) (bareLine row)) ≡ false = rw (le-leb 5 (5 + i) (omega arith)) (on .blanks i h ∙ rw m refl) in
-      text (5 + i) (omega arith) b .0 ∙ shown-level (5 + i) (omega arith) (value (5 + i)) ∙ ap showLevel (sym (level i h))
+      let b : blankCell (5 + i) (fieldOf 44 (5 + i) (bareLine row)) ≡ false =
+      rw (le-leb 5 (5 + i) (omega arith)) (on .blanks i h ∙ rw m refl) in
+      text (5 + i) (omega arith) b .0 ∙ shown-level (5 + i) (omega arith) (value (5 + i))
+      ∙ ap showLevel (sym (level i h))
 
   blank : layoutOf p row .fields .computed ≡ 0 → (i : ℕ) → i < p → column row (5 + i) ≡ []
   blank none i h =
@@ -104,10 +110,12 @@ module _ (p : ℕ) (row : List ℕ) (e : layoutOf p row .refusal ≡ 0) where
       let kind = field (λ l. l .fields .kind) 3 (omega arith) refl in
       let time = field (λ l. l .fields .time) 4 (omega arith) refl in
       record {
-        identity = text 0 in0 (head 0 (omega arith)) .0 ∙ ap showWhole (sym (field (λ l. l .fields .identity) 0 (omega arith) refl));
+        identity = text 0 in0 (head 0 (omega arith)) .0 ∙ ap showWhole
+            (sym (field (λ l. l .fields .identity) 0 (omega arith) refl));
         type = text 1 in1 (head 1 (omega arith)) .0 ∙ ap (λ n. getD (bytes "GKH") n 0 ∷ []) (sym type);
         types = rw type (text 1 in1 (head 1 (omega arith)) .1);
-        mass = text 2 in2 (head 2 (omega arith)) .0 ∙ ap showWhole (sym (field (λ l. l .fields .mass) 2 (omega arith) refl));
+        mass = text 2 in2 (head 2 (omega arith)) .0 ∙ ap showWhole
+            (sym (field (λ l. l .fields .mass) 2 (omega arith) refl));
         kind = text 3 in3 (head 3 (omega arith)) .0 ∙ ap (λ n. getD (bytes "SL") n 0 ∷ []) (sym kind);
         kinds = rw kind (text 3 in3 (head 3 (omega arith)) .1);
         time = text 4 in4 (head 4 (omega arith)) .0 ∙ ap showTime (sym time);

@@ -1,6 +1,7 @@
--- No flight drops out: what a register that is accepted leaves standing, and what its report says of it. The rules, "Files and the report
--- program". Assumes nothing.
+-- No flight drops out: what a register that is accepted leaves standing, and what its report says of it: RULES, "Files
+-- and the report program". Assumes nothing.
 use Prim.Native.Nat.{ℕ, suc, _+_, _-_, _≤_, _<_}
+use Prim.Native.Char.{code}
 use mathlib.Core.Path.{_≡_}
 use mathlib.Core.Bool.{Bool, true, cond, not}
 use mathlib.Core.List.{List, [], _∷_}
@@ -44,7 +45,9 @@ flightOf p row =
 unfoldable pub flightsIn : ℕ → List (List ℕ) → List Movement
 flightsIn p [] = []
 flightsIn p (row ∷ rows) =
-    cond (ltb 150 (layoutOf p row .fields .mass)) (flightOf p (layoutOf p row) ∷ flightsIn p rows) (flightsIn p rows)
+    cond (ltb 150 (layoutOf p row .fields .mass))
+    (flightOf p (layoutOf p row) ∷ flightsIn p rows)
+    (flightsIn p rows)
 
 -- how many of some movements pass a test
 unfoldable pub howMany : (Movement → Bool) → List Movement → ℕ
@@ -63,9 +66,11 @@ standingIn p register = movements p bookRows (registerCalls p (emptyBook p bookR
 -- a register of p points that is refused nowhere:
 pub record AllStand (p : ℕ) (register : List ℕ) : Type 0 where
   -- every row is on its layout
-  pub read : (i : ℕ) → i < length (rowsIn register) → layoutOf p (getD (rowsIn register) i []) .refusal ≡ 0
+  pub read : (i : ℕ) → i < length (rowsIn register)
+      → layoutOf p (getD (rowsIn register) i []) .refusal ≡ 0
   -- the movements standing are its flights, each once: whatever is asked of a movement, as many of them pass
-  pub each : (test : Movement → Bool) → howMany test (standingIn p register) ≡ howMany test (flightsIn p (rowsIn register))
+  pub each : (test : Movement → Bool)
+      → howMany test (standingIn p register) ≡ howMany test (flightsIn p (rowsIn register))
   pub count : length (standingIn p register) ≡ length (flightsIn p (rowsIn register))
   -- and the book holds them and nothing else: the rows behind them are unused
   pub book : bookIn p register ≡ rowsOf p (bookRows - length (standingIn p register)) (standingIn p register)
@@ -74,7 +79,7 @@ pub record AllStand (p : ℕ) (register : List ℕ) : Type 0 where
 
 -- field k of the line of a point, as the report's own bytes have it
 abbrev pub printed : List ℕ → ℕ → ℕ → List ℕ
-printed text point k = fieldOf 44 k (getD (linesOf text) (suc point) [])
+printed text point k = fieldOf (code ",") k (getD (linesOf text) (suc point) [])
 
 abbrev pub computed : Movement → Bool
 computed m = hasLevels (m .held)
@@ -92,25 +97,31 @@ pub record PointSays (l : Limits) (register text : List ℕ) (point : ℕ) : Typ
   pub below : levelGiven (levelAt l register point) ≡ 0 → printed text point 1 ≡ bytes "below"
   pub limit : printed text point 2 ≡ showLevel (getD (l .limits) point 0)
   -- `over` where a level is given and is greater than the limit, otherwise `within`
-  pub over : levelGiven (levelAt l register point) ≡ 1 → getD (l .limits) point 0 < levelValue (levelAt l register point)
+  pub over : levelGiven (levelAt l register point) ≡ 1
+      → getD (l .limits) point 0 < levelValue (levelAt l register point)
       → printed text point 3 ≡ bytes "over"
-  pub within : levelValue (levelAt l register point) ≤ getD (l .limits) point 0 → printed text point 3 ≡ bytes "within"
+  pub within : levelValue (levelAt l register point) ≤ getD (l .limits) point 0
+      → printed text point 3 ≡ bytes "within"
   pub none : levelGiven (levelAt l register point) ≡ 0 → printed text point 3 ≡ bytes "within"
-  pub with-levels : printed text point 4 ≡ showNumber (howMany computed (flightsIn (l .points) (rowsIn register)))
-  pub without : printed text point 5 ≡ showNumber (howMany (λ m. not (computed m)) (flightsIn (l .points) (rowsIn register)))
+  pub with-levels : printed text point 4
+      ≡ showNumber (howMany computed (flightsIn (l .points) (rowsIn register)))
+  pub without : printed text point 5
+      ≡ showNumber (howMany (λ m. not (computed m)) (flightsIn (l .points) (rowsIn register)))
 
 -- limits.csv and register accepted, and the book not refused (10): the report
 pub record ReportSays (limits register : List ℕ) : Type 0 where
   pub header : getD (linesOf (reportOf limits register)) 0 [] ≡ bytes "point,level,limit,verdict,computed,missing"
   -- a line for each point and no other
   pub lines : length (linesOf (reportOf limits register)) ≡ 1 + limitsOf limits .points
-  pub points : (point : ℕ) → point < limitsOf limits .points → PointSays (limitsOf limits) register (reportOf limits register) point
+  pub points : (point : ℕ) → point < limitsOf limits .points
+      → PointSays (limitsOf limits) register (reportOf limits register) point
   -- no flight drops out: the two numbers printed at each point add up to the flights of the register
   pub adds-up : howMany computed (flightsIn (limitsOf limits .points) (rowsIn register))
       + howMany (λ m. not (computed m)) (flightsIn (limitsOf limits .points) (rowsIn register))
       ≡ length (flightsIn (limitsOf limits .points) (rowsIn register))
 
--- A row is passed over exactly where its layout is right, rule 1 holds and its mass is 150 kg or less, whatever stands in a sound book
+-- A row is passed over exactly where its layout is right, rule 1 holds and its mass is 150 kg or less, whatever stands
+-- in a sound book
 pub record Light (p : ℕ) (row : List ℕ) : Type 0 where
   pub read : layoutOf p row .refusal ≡ 0
   pub rule-1 : let f = layoutOf p row .fields in fieldsFit (f .ty) (f .kind) (f .time) (f .mass) ≡ true

@@ -1,6 +1,7 @@
--- limits.csv: how its two lines spell points, days and limits, and what refuses it. The rules, "Files and the report program".
--- Assumes nothing.
+-- limits.csv: how its two lines spell points, days and limits, and what refuses it: RULES, "Files and the report
+-- program". Assumes nothing.
 use Prim.Native.Nat.{ℕ, _+_, _*_, _≤_, _<_}
+use Prim.Native.Char.{code}
 use mathlib.Core.Path.{_≡_}
 use mathlib.Core.Logic.{_⊎_}
 use mathlib.Core.Bool.{true, false}
@@ -21,10 +22,10 @@ pub record Headed (n : ℕ) (line : List ℕ) : Type 0 where
 
 -- line 2 has the days and a limit for each of n points, each on its layout, and no field more
 pub record Valued (n days : ℕ) (limits line : List ℕ) : Type 0 where
-  pub fields : countOf 44 line ≡ n
-  pub days= : fieldOf 44 0 line ≡ showWhole days
+  pub fields : countOf (code ",") line ≡ n
+  pub days= : fieldOf (code ",") 0 line ≡ showWhole days
   pub seven : days < 10000000
-  pub limit : (i : ℕ) → i < n → fieldOf 44 (1 + i) line ≡ showLevel (getD limits i 0)
+  pub limit : (i : ℕ) → i < n → fieldOf (code ",") (1 + i) line ≡ showLevel (getD limits i 0)
   pub three : (i : ℕ) → i < n → getD limits i 0 < 100000
 
 -- limits.csv refused with this number at this line
@@ -44,15 +45,22 @@ pub record LimitsExactly (text : List ℕ) : Type 0 where
   pub headless : ((n : ℕ) → Headed n (getD (linesOf text) 0 []) → ⊥) → RefusedAt (limitsOf text) 16 1
   -- a header, and a second line off its layout: 16 at line 2
   pub second : (n : ℕ) → Headed n (getD (linesOf text) 0 [])
-      → ((d : ℕ) (ls : List ℕ) → Valued n d ls (getD (linesOf text) 1 []) → ⊥) → RefusedAt (limitsOf text) 16 2
+      → ((d : ℕ) (ls : List ℕ) → Valued n d ls (getD (linesOf text) 1 []) → ⊥)
+      → RefusedAt (limitsOf text) 16 2
   -- both on their layout: 16 at line 3 for a third line, then 11 and then 15 at line 2, or accepted
-  pub third : (n d : ℕ) (ls : List ℕ) → Headed n (getD (linesOf text) 0 []) → Valued n d ls (getD (linesOf text) 1 [])
+  pub third : (n d : ℕ) (ls : List ℕ) → Headed n (getD (linesOf text) 0 [])
+      → Valued n d ls (getD (linesOf text) 1 [])
       → 2 < length (linesOf text) → RefusedAt (limitsOf text) 16 3
-  pub eleven : (n d : ℕ) (ls : List ℕ) → Headed n (getD (linesOf text) 0 []) → Valued n d ls (getD (linesOf text) 1 [])
+  pub eleven : (n d : ℕ) (ls : List ℕ) → Headed n (getD (linesOf text) 0 [])
+      → Valued n d ls (getD (linesOf text) 1 [])
       → length (linesOf text) ≤ 2 → (d ≡ 0) ⊎ (366 < d) → RefusedAt (limitsOf text) 11 2
-  pub fifteen : (n d : ℕ) (ls : List ℕ) → Headed n (getD (linesOf text) 0 []) → Valued n d ls (getD (linesOf text) 1 [])
-      → length (linesOf text) ≤ 2 → (1 ≤ d) × (d ≤ 366) → (i : ℕ) → i < n → 12000 < getD ls i 0
+  pub fifteen : (n d : ℕ) (ls : List ℕ) → Headed n (getD (linesOf text) 0 [])
+      → Valued n d ls (getD (linesOf text) 1 [])
+      → length (linesOf text) ≤ 2 → (1 ≤ d) × (d ≤ 366)
+      → (i : ℕ) → i < n → 12000 < getD ls i 0
       → RefusedAt (limitsOf text) 15 2
-  pub accepted : (n d : ℕ) (ls : List ℕ) → Headed n (getD (linesOf text) 0 []) → Valued n d ls (getD (linesOf text) 1 [])
-      → length (linesOf text) ≤ 2 → (1 ≤ d) × (d ≤ 366) → ((i : ℕ) → i < n → getD ls i 0 ≤ 12000)
+  pub accepted : (n d : ℕ) (ls : List ℕ) → Headed n (getD (linesOf text) 0 [])
+      → Valued n d ls (getD (linesOf text) 1 [])
+      → length (linesOf text) ≤ 2 → (1 ≤ d) × (d ≤ 366)
+      → ((i : ℕ) → i < n → getD ls i 0 ≤ 12000)
       → Accepted (limitsOf text) n d ls

@@ -1,6 +1,7 @@
 -- When a report is refused, with which number and which line: RULES, "Files and the report program".
 -- Assumes nothing.
 use Prim.Native.Nat.{ℕ, _+_, _*_, _≤_, _<_}
+use Prim.Native.Char.{code}
 use mathlib.Core.Path.{_≡_}
 use mathlib.Core.Logic.{_↔_}
 use mathlib.Core.List.{List, [], _∷_}
@@ -23,17 +24,20 @@ use Rattle.report_rules.specs.Flights.{bookIn}
 -- a text of one line and nothing else: refused,number,line
 pub record Refuses (text : List ℕ) (number line : ℕ) : Type 0 where
   pub one : length (linesOf text) ≡ 1
-  pub word : fieldOf 44 0 (getD (linesOf text) 0 []) ≡ bytes "refused"
-  pub number= : fieldOf 44 1 (getD (linesOf text) 0 []) ≡ showNumber number
-  pub line= : fieldOf 44 2 (getD (linesOf text) 0 []) ≡ showNumber line
+  pub word : fieldOf (code ",") 0 (getD (linesOf text) 0 []) ≡ bytes "refused"
+  pub number= : fieldOf (code ",") 1 (getD (linesOf text) 0 []) ≡ showNumber number
+  pub line= : fieldOf (code ",") 2 (getD (linesOf text) 0 []) ≡ showNumber line
 
 -- limits.csv first, then the register, then the whole book, which has line 0
 pub record ReportRefused (limits register : List ℕ) : Type 0 where
-  pub by-limits : (limitsOf limits .refusal ≡ 0 → ⊥) → Refuses (reportOf limits register) (limitsOf limits .refusal) (limitsOf limits .line)
+  pub by-limits : (limitsOf limits .refusal ≡ 0 → ⊥)
+      → Refuses (reportOf limits register) (limitsOf limits .refusal) (limitsOf limits .line)
   pub by-register : let p = limitsOf limits .points in let s = registered p (emptyBook p bookRows) register in
-      limitsOf limits .refusal ≡ 0 → (s .refusal ≡ 0 → ⊥) → Refuses (reportOf limits register) (s .refusal) (s .line)
+      limitsOf limits .refusal ≡ 0 → (s .refusal ≡ 0 → ⊥)
+      → Refuses (reportOf limits register) (s .refusal) (s .line)
   pub by-book : let p = limitsOf limits .points in let s = registered p (emptyBook p bookRows) register in
-      limitsOf limits .refusal ≡ 0 → s .refusal ≡ 0 → (bookRefusal (limitsOf limits) (bookIn p register) ≡ 0 → ⊥)
+      limitsOf limits .refusal ≡ 0 → s .refusal ≡ 0
+      → (bookRefusal (limitsOf limits) (bookIn p register) ≡ 0 → ⊥)
       → Refuses (reportOf limits register) (bookRefusal (limitsOf limits) (bookIn p register)) 0
 
 -- The first refusal of a register counts
@@ -45,27 +49,33 @@ pub record FirstRefused (p : ℕ) (b : Book) (register : List ℕ) : Type 0 wher
   pub fine : linesRead p (opening b) (take before (linesOf register)) .refusal ≡ 0
   pub line : registered p b register .line ≡ before + 1
   pub number : registered p b register .refusal
-      ≡ lineRefusal p (before + 1) (linesRead p (opening b) (take before (linesOf register)) .book) (getD (linesOf register) before [])
+      ≡ lineRefusal p (before + 1) (linesRead p (opening b) (take before (linesOf register)) .book)
+      (getD (linesOf register) before [])
 
 -- a register with no line has no header: 16 at its line 1
 pub record RegisterRefused (p : ℕ) (b : Book) (register : List ℕ) : Type 0 where
-  pub empty : length (linesOf register) ≡ 0 → (registered p b register .refusal ≡ 16) × (registered p b register .line ≡ 1)
-  pub first : 1 ≤ length (linesOf register) → (registered p b register .refusal ≡ 0 → ⊥) → FirstRefused p b register
+  pub empty : length (linesOf register) ≡ 0
+      → (registered p b register .refusal ≡ 16) × (registered p b register .line ≡ 1)
+  pub first : 1 ≤ length (linesOf register) → (registered p b register .refusal ≡ 0 → ⊥)
+      → FirstRefused p b register
 
 -- What refuses a line
 
 -- line 1 passes exactly if it is the header of p points, 1 to 8, and is refused 16 otherwise
 pub record HeaderExactly (p : ℕ) (b : Book) (line : List ℕ) : Type 0 where
   pub passes : lineRefusal p 1 b line ≡ 0
-      ↔ ((1 ≤ p) × (p ≤ 8)) × (line ≡ take (22 + 3 * p) (bytes "id,type,mtow,kind,time,l1,l2,l3,l4,l5,l6,l7,l8"))
+      ↔ ((1 ≤ p) × (p ≤ 8))
+      × (line ≡ take (22 + 3 * p) (bytes "id,type,mtow,kind,time,l1,l2,l3,l4,l5,l6,l7,l8"))
   pub otherwise : (lineRefusal p 1 b line ≡ 0 → ⊥) → lineRefusal p 1 b line ≡ 16
 
 -- any other line is a row: 16, then *enter*, whose 2 passes it over, then *supply* where its levels are not blank
 pub record RowRefused (p n : ℕ) (b : Book) (row : List ℕ) : Type 0 where
   pub off : (layoutOf p row .refusal ≡ 0 → ⊥) → lineRefusal p n b row ≡ 16
-  pub passed : layoutOf p row .refusal ≡ 0 → refusal p b (entering (layoutOf p row)) ≡ 2 → lineRefusal p n b row ≡ 0
+  pub passed : layoutOf p row .refusal ≡ 0 → refusal p b (entering (layoutOf p row)) ≡ 2
+      → lineRefusal p n b row ≡ 0
   pub entered : layoutOf p row .refusal ≡ 0 → (refusal p b (entering (layoutOf p row)) ≡ 0 → ⊥)
-      → (refusal p b (entering (layoutOf p row)) ≡ 2 → ⊥) → lineRefusal p n b row ≡ refusal p b (entering (layoutOf p row))
+      → (refusal p b (entering (layoutOf p row)) ≡ 2 → ⊥)
+      → lineRefusal p n b row ≡ refusal p b (entering (layoutOf p row))
   pub blank : layoutOf p row .refusal ≡ 0 → refusal p b (entering (layoutOf p row)) ≡ 0
       → layoutOf p row .fields .computed ≡ 0 → lineRefusal p n b row ≡ 0
   pub supplied : layoutOf p row .refusal ≡ 0 → refusal p b (entering (layoutOf p row)) ≡ 0

@@ -45,8 +45,8 @@ pub data Came : Type 0 where
 abbrev pub endless : List ℕ
 endless = replicate (longestLine + 1) 0
 
--- The text that goes with it: of all bytes; the same whatever would follow; or, since a read that fails is never an end,
--- that of a register whose line being read goes on for longer than any line on its layout
+-- The text that goes with it: of all bytes; the same whatever would follow; or, since a read that fails is never an
+-- end, that of a register whose line being read goes on for longer than any line on its layout
 abbrev pub Answers : (List ℕ → List ℕ) → Came → List ℕ → Type 0
 Answers answer (whole bytes) text = text ≡ answer bytes
 Answers answer (stopped bytes) text = (rest : List ℕ) → text ≡ answer (bytes ++ rest)

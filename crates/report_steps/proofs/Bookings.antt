@@ -1,4 +1,5 @@
--- The book that a register gives is the book after the calls that it makes: so what is proved of histories holds of registers.
+-- The book that a register gives is the book after the calls that it makes: so what is proved of histories holds of
+-- registers.
 -- Assumes nothing.
 use mathlib.Core.Path.{_≡_, refl, sym, ap, _∙_}
 use mathlib.Core.Bool.{Bool, true, false, cond, _&&_}
@@ -25,7 +26,8 @@ unfolding booked
 booked-then b [] ds = refl
 booked-then b (c ∷ cs) ds = booked-then (after (c .points) b (c .call)) cs ds
 
-layout-booked : (p : ℕ) (b : Book) (l : Layout) → layoutAfter p b l (refusal p b (entering l)) ≡ booked b (layoutCalls p b l)
+layout-booked : (p : ℕ) (b : Book) (l : Layout)
+    → layoutAfter p b l (refusal p b (entering l)) ≡ booked b (layoutCalls p b l)
 unfolding layoutAfter enteredAfter layoutCalls booked
 layout-booked p b l =
     either (eqb (refusal p b (entering l)) 0)
@@ -37,38 +39,48 @@ unfolding rowAfter rowCalls booked
 row-booked p b line =
     either (eqb (layoutOf p line .refusal) 0) (λ yes. rw yes (layout-booked p b (layoutOf p line))) (λ no. rw no refl)
 
-line-booked : (p n : ℕ) (b : Book) (line : List ℕ) → lineAfter p n b line ≡ booked b (cond (eqb n 1) [] (rowCalls p b line))
+line-booked : (p n : ℕ) (b : Book) (line : List ℕ)
+    → lineAfter p n b line ≡ booked b (cond (eqb n 1) [] (rowCalls p b line))
 unfolding lineAfter booked
 line-booked p n b line = either (eqb n 1) (λ yes. rw yes refl) (λ no. rw no (row-booked p b line))
 
-read-booked : (p : ℕ) (s : Reading) (l : List ℕ) → lineRead p s l .book ≡ booked (s .book) (cond (eqb (s .line) 1) [] (rowCalls p (s .book) l))
+read-booked : (p : ℕ) (s : Reading) (l : List ℕ)
+    → lineRead p s l .book ≡ booked (s .book) (cond (eqb (s .line) 1) [] (rowCalls p (s .book) l))
 unfolding lineRead
 read-booked p s l = line-booked p (s .line) (s .book) l
 
-lines-booked : (p : ℕ) (s : Reading) (ls : List (List ℕ)) → linesRead p s ls .book ≡ booked (s .book) (linesCalls p s ls)
+lines-booked : (p : ℕ) (s : Reading) (ls : List (List ℕ))
+    → linesRead p s ls .book ≡ booked (s .book) (linesCalls p s ls)
 unfolding linesRead linesCalls booked
 lines-booked p s [] = refl
 lines-booked p s (l ∷ ls) = go (eqb (s .refusal) 0) (lines-booked p (lineRead p s l) ls)
   where
-    go : (t : Bool) → linesRead p (lineRead p s l) ls .book ≡ booked (lineRead p s l .book) (linesCalls p (lineRead p s l) ls)
+    go : (t : Bool)
+        → linesRead p (lineRead p s l) ls .book ≡ booked (lineRead p s l .book) (linesCalls p (lineRead p s l) ls)
         → cond t (linesRead p (lineRead p s l) ls) s .book
-        ≡ booked (s .book) (cond t (cond (eqb (s .line) 1) [] (rowCalls p (s .book) l) ++ linesCalls p (lineRead p s l) ls) [])
+        ≡ booked (s .book) (cond t (cond (eqb (s .line) 1) [] (rowCalls p (s .book) l) ++ linesCalls p
+        (lineRead p s l) ls) [])
     go false r = refl
     go true r =
         r ∙ ap (λ (b : Book). booked b (linesCalls p (lineRead p s l) ls)) (read-booked p s l)
-        ∙ sym (booked-then (s .book) (cond (eqb (s .line) 1) [] (rowCalls p (s .book) l)) (linesCalls p (lineRead p s l) ls))
+        ∙ sym (booked-then (s .book) (cond (eqb (s .line) 1) [] (rowCalls p (s .book) l))
+        (linesCalls p (lineRead p s l) ls))
 
 closing-book : (s : Reading) → closing s .book ≡ s .book
 unfolding closing
 closing-book s = either (eqb (s .refusal) 0 && eqb (s .line) 1) (λ yes. rw yes refl) (λ no. rw no refl)
 
 -- the book of a register is the book after its calls
-pub register-booked : (p : ℕ) (b : Book) (bytes : List ℕ) → registered p b bytes .book ≡ booked b (registerCalls p b bytes)
+pub register-booked : (p : ℕ) (b : Book) (bytes : List ℕ)
+    → registered p b bytes .book ≡ booked b (registerCalls p b bytes)
 unfolding registered registerCalls
-register-booked p b bytes = closing-book (linesRead p (opening b) (linesOf bytes)) ∙ lines-booked p (opening b) (linesOf bytes)
+register-booked p b bytes =
+    closing-book (linesRead p (opening b) (linesOf bytes)) ∙ lines-booked p (opening b) (linesOf bytes)
 
 -- and so, from an empty book, the rows of the movements that its calls leave standing
 pub register-rows : (p n : ℕ) (bytes : List ℕ)
     → registered p (emptyBook p n) bytes .book
-    ≡ rowsOf p (n - length (movements p n (registerCalls p (emptyBook p n) bytes))) (movements p n (registerCalls p (emptyBook p n) bytes))
-register-rows p n bytes = register-booked p (emptyBook p n) bytes ∙ history-rows p n (registerCalls p (emptyBook p n) bytes)
+    ≡ rowsOf p (n - length (movements p n (registerCalls p (emptyBook p n) bytes)))
+    (movements p n (registerCalls p (emptyBook p n) bytes))
+register-rows p n bytes =
+    register-booked p (emptyBook p n) bytes ∙ history-rows p n (registerCalls p (emptyBook p n) bytes)

@@ -1,4 +1,5 @@
--- A row that is taken, case by case: from what the layout reads and what the two calls promise to what the row's definition says.
+-- A row that is taken, case by case: from what the layout reads and what the two calls promise to what the row's
+-- definition says.
 -- Assumes nothing.
 use mathlib.Core.Path.{_≡_, refl, sym, ap, _∙_}
 use mathlib.Core.Bool.{Bool, true, false, cond}
@@ -16,24 +17,32 @@ use Rattle.register.specs.declared.row.Layout.{Layout}
 use Rattle.register.specs.Row.{layoutOf}
 use Rattle.report_steps.specs.declared.Taken.{Taken}
 use Rattle.report_steps.specs.declared.Taken.the-variants.{Entered, PassedOver, Refused}
-use Rattle.report_steps.specs.Intake.{entering, supplying, suppliedTaken, enteredTaken, enteredAfter, layoutTaken, layoutAfter, rowTaken, rowAfter, RowTaken, LevelsTaken}
+use Rattle.report_steps.specs.Intake.{entering, supplying, suppliedTaken, enteredTaken, enteredAfter}
+use Rattle.report_steps.specs.Intake.{layoutTaken, layoutAfter, rowTaken, rowAfter}
+use Rattle.report_steps.specs.InnerTaken.{RowTaken, LevelsTaken}
 
 -- *supply* of a row's levels, refused or accepted
-pub levels-refused : {p x r : ℕ} {b b′ : Book} {given : List ℕ} → Called p b (Call.supply x (take p given)) r b′ → (r ≡ 0 → ⊥)
+pub levels-refused : {p x r : ℕ} {b b′ : Book} {given : List ℕ} → Called p b (Call.supply x (take p given)) r b′
+    → (r ≡ 0 → ⊥)
     → LevelsTaken p b x given (Refused r) b′
 levels-refused {p} {x} {r} {b} {b′} {given} k ne =
     record { answer = rw (← k .answer, ne-eqb r 0 ne) refl; book = k .book }
 
 pub levels-entered : {p x r : ℕ} {b b′ : Book} {given : List ℕ} → Called p b (Call.supply x (take p given)) r b′ → r ≡ 0
     → LevelsTaken p b x given Entered b′
-levels-entered {p} {x} {r} {b} {b′} {given} k z = record { answer = rw (← k .answer, eq-eqb r 0 z) refl; book = k .book }
+levels-entered {p} {x} {r} {b} {b′} {given} k z =
+    record { answer = rw (← k .answer, eq-eqb r 0 z) refl; book = k .book }
 
 -- a row off its layout
-pub row-off : (line : List ℕ) {p : ℕ} {b : Book} {l : Layout} → l ≡ layoutOf p line → (l .refusal ≡ 0 → ⊥) → RowTaken p b line (Refused 16) b
+pub row-off : (line : List ℕ) {p : ℕ} {b : Book} {l : Layout} → l ≡ layoutOf p line → (l .refusal ≡ 0 → ⊥)
+    → RowTaken p b line (Refused 16) b
 unfolding rowTaken rowAfter
-row-off line {p} {b} {l} e ne = record { answer = rw (← e, ne-eqb (l .refusal) 0 ne) refl; book = rw (← e, ne-eqb (l .refusal) 0 ne) refl }
+row-off line {p} {b} {l} e ne =
+    let off = ne-eqb (l .refusal) 0 ne in
+    record { answer = rw (← e, off) refl; book = rw (← e, off) refl }
 
-module _ (line : List ℕ) {p r : ℕ} {b b₁ : Book} {l : Layout} (e : l ≡ layoutOf p line) (z : l .refusal ≡ 0) (k : Called p b (entering l) r b₁) where
+module _ (line : List ℕ) {p r : ℕ} {b b₁ : Book} {l : Layout} (e : l ≡ layoutOf p line) (z : l .refusal ≡ 0)
+    (k : Called p b (entering l) r b₁) where
   -- *enter* refuses, so the book stays as it was
   same : (r ≡ 0 → ⊥) → b₁ ≡ b
   same ne = k .book ∙ after-refused p b (entering l) (λ q. ne (k .answer ∙ q))
@@ -43,7 +52,8 @@ module _ (line : List ℕ) {p r : ℕ} {b b₁ : Book} {l : Layout} (e : l ≡ l
   row-passed two =
       record {
         answer = rw (← e, eq-eqb (l .refusal) 0 z, ← k .answer, eq-eqb r 2 two) refl;
-        book = rw (← e, eq-eqb (l .refusal) 0 z, ← k .answer, ne-eqb r 0 (λ q. absurd (omega arith))) (same (λ q. absurd (omega arith)));
+        book = rw (← e, eq-eqb (l .refusal) 0 z, ← k .answer, ne-eqb r 0 (λ q. absurd (omega arith)))
+            (same (λ q. absurd (omega arith)));
       }
 
   pub row-refused : (r ≡ 2 → ⊥) → (r ≡ 0 → ⊥) → RowTaken p b line (Refused r) b₁
@@ -63,19 +73,24 @@ module _ (line : List ℕ) {p r : ℕ} {b b₁ : Book} {l : Layout} (e : l ≡ l
         book = rw (← e, eq-eqb (l .refusal) 0 z, ← k .answer, zero, eq-eqb (l .fields .computed) 0 blank) (k .book);
       }
 
-  pub row-supplied : {t : Taken} {b₂ : Book} → r ≡ 0 → (l .fields .computed ≡ 0 → ⊥) → LevelsTaken p b₁ (l .fields .identity) (l .levels) t b₂
+  pub row-supplied : {t : Taken} {b₂ : Book} → r ≡ 0 → (l .fields .computed ≡ 0 → ⊥)
+      → LevelsTaken p b₁ (l .fields .identity) (l .levels) t b₂
       → RowTaken p b line t b₂
   unfolding rowTaken rowAfter layoutTaken layoutAfter enteredTaken enteredAfter
   row-supplied zero given s =
+      let some = ne-eqb (l .fields .computed) 0 given in
       record {
-        answer = rw (← e, eq-eqb (l .refusal) 0 z, ← k .answer, zero, ne-eqb (l .fields .computed) 0 given, ← k .book) (s .answer);
-        book = rw (← e, eq-eqb (l .refusal) 0 z, ← k .answer, zero, ne-eqb (l .fields .computed) 0 given, ← k .book) (s .book);
+        answer = rw (← e, eq-eqb (l .refusal) 0 z, ← k .answer, zero, some, ← k .book) (s .answer);
+        book = rw (← e, eq-eqb (l .refusal) 0 z, ← k .answer, zero, some, ← k .book) (s .book);
       }
 
 -- a row keeps a sound book sound
-pub row-sound : {p : ℕ} {b b′ : Book} {r : Taken} (line : List ℕ) → sound p b ≡ true → RowTaken p b line r b′ → sound p b′ ≡ true
+pub row-sound : {p : ℕ} {b b′ : Book} {r : Taken} (line : List ℕ) → sound p b ≡ true → RowTaken p b line r b′
+    → sound p b′ ≡ true
 unfolding rowAfter layoutAfter enteredAfter
-row-sound {p} {b} {b′} {r} line s k = ap (sound p) (k .book) ∙ go (eqb (l .refusal) 0) (eqb (refusal p b (entering l)) 0) (eqb (l .fields .computed) 0)
+row-sound {p} {b} {b′} {r} line s k =
+    ap (sound p) (k .book)
+    ∙ go (eqb (l .refusal) 0) (eqb (refusal p b (entering l)) 0) (eqb (l .fields .computed) 0)
   where
     l : Layout
     l = layoutOf p line
@@ -83,7 +98,9 @@ row-sound {p} {b} {b′} {r} line s k = ap (sound p) (k .book) ∙ go (eqb (l .r
     entered : sound p (after p b (entering l)) ≡ true
     entered = after-sound p p b (entering l) s (λ _. refl)
 
-    go : (x y z : Bool) → sound p (cond x (cond y (cond z (after p b (entering l)) (after p (after p b (entering l)) (supplying p l))) b) b) ≡ true
+    go : (x y z : Bool)
+        → sound p (cond x (cond y (cond z (after p b (entering l))
+        (after p (after p b (entering l)) (supplying p l))) b) b) ≡ true
     go false y z = s
     go true false z = s
     go true true true = entered

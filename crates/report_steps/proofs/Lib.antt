@@ -1,4 +1,6 @@
 pub mod Bookings
 pub mod Intakes
+pub mod LongLines
+pub mod Pieces
 pub mod Readings
-pub mod Streams
+pub mod Takings

@@ -16,7 +16,10 @@ use Rattle.report_steps.specs.Reading.{Reading, opening, lineRead}
 -- a row on its layout: *enter*, and where that is accepted and its levels are not blank, *supply*
 unfoldable pub layoutCalls : ℕ → Book → Layout → List Made
 layoutCalls p b l =
-    made p (entering l) ∷ cond (eqb (refusal p b (entering l)) 0) (cond (eqb (l .fields .computed) 0) [] (made p (supplying p l) ∷ [])) []
+    made p (entering l)
+    ∷ cond (eqb (refusal p b (entering l)) 0)
+    (cond (eqb (l .fields .computed) 0) [] (made p (supplying p l) ∷ []))
+    []
 
 unfoldable pub rowCalls : ℕ → Book → List ℕ → List Made
 rowCalls p b line = cond (eqb (layoutOf p line .refusal) 0) (layoutCalls p b (layoutOf p line)) []
@@ -25,7 +28,9 @@ rowCalls p b line = cond (eqb (layoutOf p line .refusal) 0) (layoutCalls p b (la
 unfoldable pub linesCalls : ℕ → Reading → List (List ℕ) → List Made
 linesCalls p s [] = []
 linesCalls p s (l ∷ ls) =
-    cond (eqb (s .refusal) 0) (cond (eqb (s .line) 1) [] (rowCalls p (s .book) l) ++ linesCalls p (lineRead p s l) ls) []
+    cond (eqb (s .refusal) 0)
+    (cond (eqb (s .line) 1) [] (rowCalls p (s .book) l) ++ linesCalls p (lineRead p s l) ls)
+    []
 
 unfoldable pub registerCalls : ℕ → Book → List ℕ → List Made
 registerCalls p b bytes = linesCalls p (opening b) (linesOf bytes)

@@ -1,7 +1,6 @@
 -- A register's row into a book: RULES, "Files and the report program".
 -- Assumes nothing.
 use Prim.Native.Nat.{ℕ}
-use mathlib.Core.Path.{_≡_}
 use mathlib.Core.Bool.{cond}
 use mathlib.Core.List.{List}
 use lib.ListN.{take}
@@ -38,28 +37,23 @@ unfoldable pub enteredAfter : ℕ → Book → Layout → Book
 enteredAfter p b l = cond (eqb (l .fields .computed) 0) b (after p b (supplying p l))
 
 -- *enter* answered r: a row of 150 kg or less is passed over
-unfoldable pub layoutTaken : ℕ → Book → Layout → ℕ → Taken
+unfoldable pub layoutTaken : (p : ℕ) (b : Book) (l : Layout) (r : ℕ) → Taken
 layoutTaken p b l r =
     cond (eqb r 2) PassedOver (cond (eqb r 0) (enteredTaken p (after p b (entering l)) l) (Refused r))
 
-unfoldable pub layoutAfter : ℕ → Book → Layout → ℕ → Book
+unfoldable pub layoutAfter : (p : ℕ) (b : Book) (l : Layout) (r : ℕ) → Book
 layoutAfter p b l r = cond (eqb r 0) (enteredAfter p (after p b (entering l)) l) b
 
--- a row of a register with p points, on a book: 16, then *enter*, then *supply*. Where *supply* is refused the row stands entered, and the report stops
+-- a row of a register with p points, on a book: 16, then *enter*, then *supply*. Where *supply* is refused the row
+-- stands entered, and the report stops
 unfoldable pub rowTaken : ℕ → Book → List ℕ → Taken
 rowTaken p b line =
-    cond (eqb (layoutOf p line .refusal) 0) (layoutTaken p b (layoutOf p line) (refusal p b (entering (layoutOf p line)))) (Refused 16)
+    cond (eqb (layoutOf p line .refusal) 0)
+    (layoutTaken p b (layoutOf p line) (refusal p b (entering (layoutOf p line))))
+    (Refused 16)
 
 unfoldable pub rowAfter : ℕ → Book → List ℕ → Book
 rowAfter p b line =
-    cond (eqb (layoutOf p line .refusal) 0) (layoutAfter p b (layoutOf p line) (refusal p b (entering (layoutOf p line)))) b
-
--- what is answered, and the book at the end
-pub record RowTaken (p : ℕ) (b : Book) (line : List ℕ) (r : Taken) (b′ : Book) : Type 0 where
-  pub answer : r ≡ rowTaken p b line
-  pub book : b′ ≡ rowAfter p b line
-
--- the same of a row's levels alone
-pub record LevelsTaken (p : ℕ) (b : Book) (identity : ℕ) (given : List ℕ) (r : Taken) (b′ : Book) : Type 0 where
-  pub answer : r ≡ suppliedTaken (refusal p b (Call.supply identity (take p given)))
-  pub book : b′ ≡ after p b (Call.supply identity (take p given))
+    cond (eqb (layoutOf p line .refusal) 0)
+    (layoutAfter p b (layoutOf p line) (refusal p b (entering (layoutOf p line))))
+    b

@@ -1,4 +1,5 @@
 pub mod Booking
+pub mod InnerTaken
 pub mod Intake
 pub mod Reading
 pub mod Stream

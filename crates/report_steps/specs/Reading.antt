@@ -1,20 +1,19 @@
 -- A register read whole, from its bytes to the book: RULES, "Files and the report program".
 -- Assumes nothing.
-use Prim.Native.Nat.{ℕ, _+_, _≤_, _<_, min}
+use Prim.Native.Nat.{ℕ, _+_, _<_, min}
 use mathlib.Core.Path.{_≡_}
-use mathlib.Core.Bool.{true, cond, _&&_}
+use mathlib.Core.Bool.{cond, _&&_}
 use mathlib.Core.List.{List, [], _∷_, _++_}
-use lib.ListN.{length, drop}
+use lib.ListN.{length}
 use lib.Dec.{eqb}
 use lib.IntN.{ℤ, pos, negsuc}
-use Rattle.book_rules.specs.Columns.{Book, sound}
+use Rattle.book_rules.specs.Columns.{Book}
 use Rattle.text.specs.Line.{firstLine, linesOf}
 use Rattle.text.specs.declared.number.Number.{Number}
 use Rattle.text.specs.declared.number.Number.the-variants.{Got, Off}
 use Rattle.register.specs.Header.{headerOf, registerHeader}
 use Rattle.report_steps.specs.declared.core.feeding.Arrived.{Arrived}
 use Rattle.report_steps.specs.declared.core.feeding.Arrived.the-variants.{Bytes, End, Failed}
-use Rattle.report_steps.specs.Stream.{longestLine}
 use Rattle.report_steps.specs.Intake.{takenNumber, rowTaken, rowAfter}
 
 -- how far a register is read: its refusal, 0 for none; the line that is refused, or else the next one; and the book
@@ -31,11 +30,14 @@ abbrev pub pointsRefusal : ℕ → Number → ℕ
 pointsRefusal p (Got n) = cond (eqb n p) 0 16
 pointsRefusal p Off = 16
 
--- line n of a register, on a book: the header, then rows
-unfoldable pub lineRefusal : ℕ → ℕ → Book → List ℕ → ℕ
-lineRefusal p n b line = cond (eqb n 1) (pointsRefusal p (headerOf registerHeader 22 line)) (takenNumber (rowTaken p b line))
+abbrev pub headerPoints : List ℕ → Number
+headerPoints line = headerOf registerHeader 22 line
 
-unfoldable pub lineAfter : ℕ → ℕ → Book → List ℕ → Book
+-- line n of a register, on a book: the header, then rows
+unfoldable pub lineRefusal : (p n : ℕ) (b : Book) (line : List ℕ) → ℕ
+lineRefusal p n b line = cond (eqb n 1) (pointsRefusal p (headerPoints line)) (takenNumber (rowTaken p b line))
+
+unfoldable pub lineAfter : (p n : ℕ) (b : Book) (line : List ℕ) → Book
 lineAfter p n b line = cond (eqb n 1) b (rowAfter p b line)
 
 -- the reading past one line more
@@ -67,12 +69,7 @@ closing s = cond (eqb (s .refusal) 0 && eqb (s .line) 1) (record { refusal = 16;
 unfoldable pub registered : ℕ → Book → List ℕ → Reading
 registered p b bytes = closing (readOn p (opening b) bytes)
 
--- What the steps of a reading promise
-
--- one line
-pub record LineTaken (p n : ℕ) (b : Book) (line : List ℕ) (r : ℕ) (b′ : Book) : Type 0 where
-  pub answer : r ≡ lineRefusal p n b line
-  pub book : b′ ≡ lineAfter p n b line
+-- Bytes as they come
 
 -- to read `all` from s on, whatever follows it, is to read `rest` from s′ on with the same behind it
 pub record Onward (p : ℕ) (s : Reading) (all : List ℕ) (s′ : Reading) (rest : List ℕ) : Type 0 where
@@ -81,32 +78,6 @@ pub record Onward (p : ℕ) (s : Reading) (all : List ℕ) (s′ : Reading) (res
 -- no line of these bytes is ended by a CRLF
 abbrev pub Unended : List ℕ → Type 0
 Unended s = length s < length (firstLine s) + 2
-
--- every line that the bytes end is read, up to the first that is refused; what is left begins at `at`
-pub record LinesTaken (p : ℕ) (s : Reading) (bytes : List ℕ) (at : ℕ) (s′ : Reading) : Type 0 where
-  pub within : at ≤ length bytes
-  pub onward : Onward p s bytes s′ (drop at bytes)
-  pub all : s′ .refusal ≡ 0 → Unended (drop at bytes)
-  pub least : s .line ≤ s′ .line
-  pub most : s′ .line + length (drop at bytes) ≤ s .line + length bytes
-  pub kept : sound p (s′ .book) ≡ true
-
--- the last bytes of a register are read
-pub record LastTaken (p : ℕ) (s : Reading) (bytes : List ℕ) (s′ : Reading) : Type 0 where
-  pub closed : s′ ≡ closing (readOn p s bytes)
-  pub kept : sound p (s′ .book) ≡ true
-
--- a piece of a register is read, up to the first line that is refused, and the bytes of a line still to be ended wait in front: no more than the longest line on its layout has
-pub record Waits (s : Reading) (bytes : List ℕ) (s′ : Reading) (rest : List ℕ) : Type 0 where
-  pub unended : Unended rest
-  pub short : length rest ≤ longestLine
-  pub least : s .line ≤ s′ .line
-  pub most : s′ .line + length rest ≤ s .line + length bytes
-
-pub record PieceTaken (p : ℕ) (s : Reading) (bytes : List ℕ) (s′ : Reading) (rest : List ℕ) : Type 0 where
-  pub onward : Onward p s bytes s′ rest
-  pub waits : s′ .refusal ≡ 0 → Waits s bytes s′ rest
-  pub kept : sound p (s′ .book) ≡ true
 
 -- what a read into some room answered: so many bytes came, none is left to come, or it failed
 abbrev pub arrivedOf : ℤ → ℕ → Arrived

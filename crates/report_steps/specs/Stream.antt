@@ -2,6 +2,9 @@
 -- Assumes nothing.
 use Prim.Native.Nat.{ℕ}
 
--- the longest line on its layout, 84 bytes, with its CRLF
+-- the longest row on its layout, and with its CRLF the longest line
+abbrev pub longestRow : ℕ
+longestRow = 84
+
 abbrev pub longestLine : ℕ
 longestLine = 86

@@ -6,9 +6,9 @@ use register::row::read_layout;
 ghost use mathlib.Core.Path.{_≡_};
 ghost use mathlib.Core.Bool.{true};
 ghost use Prim.Native.Nat.{_≤_};
-ghost use Rattle.book_rules.specs.Columns.{bookOf, sound};
+ghost use Rattle.book_rules.specs.Columns.{bookNow, bookBefore, bookAfter, sound};
 ghost use Rattle.movement.specs.Limits.{maxPoints};
-ghost use Rattle.report_steps.specs.Intake.{RowTaken, LevelsTaken};
+ghost use Rattle.report_steps.specs.InnerTaken.{RowTaken, LevelsTaken};
 
 // A row of a register into the book: 16, then *enter*, then *supply* where its levels are not blank.
 pub fn take_row(
@@ -19,8 +19,9 @@ pub fn take_row(
     points: usize,
     line: &[u8],
 ) -> Taken
-    requires { ⌜ sound points (bookOf (now ids) (now groups) (now marks) (now levels)) ≡ true ⌝ }
-    ensures { λ r. ⌜ RowTaken points (bookOf (now (ids .entry)) (now (groups .entry)) (now (marks .entry)) (now (levels .entry))) (now (line .entry)) r (bookOf (now (ids .exit)) (now (groups .exit)) (now (marks .exit)) (now (levels .exit))) ⌝ }
+    requires { ⌜ sound points (bookNow ids groups marks levels) ≡ true ⌝ }
+    ensures { λ r. ⌜ RowTaken points (bookBefore ids groups marks levels) (now (line .entry)) r
+        (bookAfter ids groups marks levels) ⌝ }
 {
     let layout = read_layout(line, points as u32);
     if layout.refusal != 0 {
@@ -62,9 +63,10 @@ fn take_levels(
     identity: u32,
     given: [u32; 8],
 ) -> Taken
-    requires { ⌜ sound points (bookOf (now ids) (now groups) (now marks) (now levels)) ≡ true ⌝ }
+    requires { ⌜ sound points (bookNow ids groups marks levels) ≡ true ⌝ }
     requires { ⌜ points ≤ maxPoints ⌝ }
-    ensures { λ r. ⌜ LevelsTaken points (bookOf (now (ids .entry)) (now (groups .entry)) (now (marks .entry)) (now (levels .entry))) identity given r (bookOf (now (ids .entry)) (now (groups .entry)) (now (marks .exit)) (now (levels .exit))) ⌝ }
+    ensures { λ r. ⌜ LevelsTaken points (bookBefore ids groups marks levels) identity given r
+        (bookAfter ids groups marks levels) ⌝ }
 {
     let refused = book::core::supply(
         ids,

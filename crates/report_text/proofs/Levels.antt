@@ -17,7 +17,8 @@ use Rattle.load_rules.specs.Tally.{tally}
 first-most : (test : ℕ → Bool) (i f : ℕ) → firstFrom test i f ≤ i + f
 unfolding firstFrom
 first-most test i zero = omega arith
-first-most test i (suc f) = either (test i) (λ yes. rw yes (omega arith)) (λ no. rw no (omega (arith, first-most test (suc i) f)))
+first-most test i (suc f) =
+    either (test i) (λ yes. rw yes (omega arith)) (λ no. rw no (omega (arith, first-most test (suc i) f)))
 
 level-most : (m : ℕ) → levelValue (levelOf m) ≤ 20000
 unfolding levelOf

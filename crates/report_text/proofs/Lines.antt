@@ -8,16 +8,16 @@ use Rattle.text.specs.Field.{joinedBy}
 use Rattle.text.specs.Spelled.{bytes}
 use Rattle.text.specs.Index.{listing}
 use native.Mathlib.Numerals.{add-one}
-use Rattle.report_text.specs.Text.{lineEnd, ended, line, refusedText}
+use Rattle.report_text.specs.Text.{comma, lineEnd, ended, line, refusedText}
 
 pub refused-is : (number n : ℕ)
-    → bytes "refused" ++ ((44 ∷ showNumber number) ++ ((44 ∷ showNumber n) ++ lineEnd)) ≡ refusedText number n
+    → bytes "refused" ++ ((comma ∷ showNumber number) ++ ((comma ∷ showNumber n) ++ lineEnd)) ≡ refusedText number n
 unfolding refusedText ended joinedBy
 refused-is number n = simp append-assoc
 
 -- six fields, and the end of their line
 pub six-is : (a b c d e f : List ℕ)
-    → a ++ (((44 ∷ b) ++ ((44 ∷ c) ++ (44 ∷ d))) ++ ((44 ∷ e) ++ ((44 ∷ f) ++ lineEnd)))
+    → a ++ (((comma ∷ b) ++ ((comma ∷ c) ++ (comma ∷ d))) ++ ((comma ∷ e) ++ ((comma ∷ f) ++ lineEnd)))
     ≡ line (a ∷ b ∷ c ∷ d ∷ e ∷ f ∷ []) ++ lineEnd
 unfolding joinedBy
 six-is a b c d e f = simp append-assoc

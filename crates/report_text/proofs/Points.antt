@@ -13,8 +13,9 @@ use Rattle.text.specs.Index.{listing}
 use Rattle.room.specs.Room.{Wrote}
 use Rattle.room.proofs.Laws.{wrote-then, wrote-none}
 use Rattle.register.specs.declared.limits.Limits.{Limits}
-use Rattle.report_text.specs.Text.{headerLine, lineEnd, ended, line, pointFields, pointLine, refusedText, pointsText, bookRefusal, bookText}
-use Rattle.report_text.specs.Room.{WroteWithin}
+use Rattle.report_text.specs.Text.{headerLine, lineEnd, ended, line, pointFields, pointLine, refusedText}
+use Rattle.report_text.specs.Text.{pointsText, bookRefusal, bookText}
+use Rattle.report_text.specs.InnerRoom.{longestPoint, WroteWithin}
 use Rattle.report_text.proofs.Lines.{ended-none, ended-more, ended-header}
 
 -- the limits, by what a line looks at
@@ -22,30 +23,37 @@ abbrev pub limitsWith : ℕ → ℕ → List ℕ → Limits
 limitsWith points days limits = record { refusal = 0; line = 0; points = points; days = days; limits = limits }
 
 -- the lines of the first n points are written at `at`
-pub record Passed (points days : ℕ) (limits : List ℕ) (b : Book) (n : ℕ) (s : List ℕ) (at : ℕ) (e : List ℕ) (next : ℕ) : Type 0 where
+pub record Passed (points days : ℕ) (limits : List ℕ) (b : Book) (n : ℕ) (s : List ℕ) (at : ℕ) (e : List ℕ)
+    (next : ℕ) : Type 0 where
   pub wrote : Wrote s at (ended (listing (pointLine (limitsWith points days limits) b) n)) e next
 
-pub points-none : {points days : ℕ} {limits : List ℕ} {b : Book} {s : List ℕ} {at : ℕ} → Passed points days limits b 0 s at s at
+pub points-none : {points days : ℕ} {limits : List ℕ} {b : Book} {s : List ℕ} {at : ℕ}
+    → Passed points days limits b 0 s at s at
 points-none {points} {days} {limits} {b} {s} {at} =
     record { wrote = rw (ended-none (pointLine (limitsWith points days limits) b)) (wrote-none s at) }
 
 -- one point more
-pub points-more : {points days n i j at : ℕ} {limits s mid e : List ℕ} {b : Book} {load : Load} → Passed points days limits b n s at mid i
-    → WroteWithin 85 mid i (line (pointFields n (getD limits n 0) load) ++ lineEnd) e j → load ≡ bookLoad points n b days → i + 85 ≤ length s
+pub points-more : {points days n i j at : ℕ} {limits s mid e : List ℕ} {b : Book} {load : Load}
+    → Passed points days limits b n s at mid i
+    → WroteWithin longestPoint mid i (line (pointFields n (getD limits n 0) load) ++ lineEnd) e j
+    → load ≡ bookLoad points n b days → i + longestPoint ≤ length s
     → Passed points days limits b (n + 1) s at e j
 unfolding pointLine
 points-more {points} {days} {n} {i} {j} {at} {limits} {s} {mid} {e} {b} {load} w v q room =
     let f = pointLine (limitsWith points days limits) b in
-    let u : WroteWithin 85 mid i (f n ++ lineEnd) e j = rw q at v in
+    let u : WroteWithin longestPoint mid i (f n ++ lineEnd) e j = rw q at v in
     let lines = ended (listing f n) in
     record {
       wrote = rw (ended-more f n)
-          at (wrote-then (omega (arith, length-append lines (f n ++ lineEnd), w .wrote .place, u .wrote .place, u .within)) (w .wrote) (u .wrote));
+          at (wrote-then
+          (omega (arith, length-append lines (f n ++ lineEnd), w .wrote .place, u .wrote .place, u .within))
+          (w .wrote) (u .wrote));
     }
 
 -- the header and all points
 pub points-all : (l : Limits) (b : Book) {s mid e : List ℕ} {i j n : ℕ} → Wrote s 0 (headerLine ++ lineEnd) mid i
-    → Passed (l .points) (l .days) (l .limits) b n mid i e j → n ≡ l .points → j ≤ length s → Wrote s 0 (pointsText l b) e j
+    → Passed (l .points) (l .days) (l .limits) b n mid i e j → n ≡ l .points → j ≤ length s
+    → Wrote s 0 (pointsText l b) e j
 unfolding pointsText pointLine
 points-all l b {s} {mid} {e} {i} {j} {n} w v q room =
     let ls = listing (pointLine l b) (l .points) in
@@ -54,17 +62,20 @@ points-all l b {s} {mid} {e} {i} {j} {n} w v q room =
     at (wrote-then (omega (arith, length-append (headerLine ++ lineEnd) (ended ls), w .place, u .place)) w u)
 
 -- the whole report, by the refusal of its book
-pub report-refused : (l : Limits) (b : Book) {s e : List ℕ} {r n : ℕ} → n ≡ bookRefusal l b → (n ≡ 0 → ⊥) → Wrote s 0 (refusedText n 0) e r
+pub report-refused : (l : Limits) (b : Book) {s e : List ℕ} {r n : ℕ} → n ≡ bookRefusal l b → (n ≡ 0 → ⊥)
+    → Wrote s 0 (refusedText n 0) e r
     → Wrote s 0 (bookText l b) e r
 unfolding bookText
 report-refused l b {s} {e} {r} {n} q ne w = rw (← q, ne-eqb n 0 ne) w
 
-pub report-points : (l : Limits) (b : Book) {s e : List ℕ} {r n : ℕ} → n ≡ bookRefusal l b → n ≡ 0 → Wrote s 0 (pointsText l b) e r
+pub report-points : (l : Limits) (b : Book) {s e : List ℕ} {r n : ℕ} → n ≡ bookRefusal l b → n ≡ 0
+    → Wrote s 0 (pointsText l b) e r
     → Wrote s 0 (bookText l b) e r
 unfolding bookText
 report-points l b {s} {e} {r} {n} q z w = rw (← q, z) w
 
 -- the first load's refusal is the book's
-pub refusal-is : (l : Limits) (b : Book) {load : Load} → load ≡ bookLoad (l .points) 0 b (l .days) → load .refused ≡ bookRefusal l b
+pub refusal-is : (l : Limits) (b : Book) {load : Load} → load ≡ bookLoad (l .points) 0 b (l .days)
+    → load .refused ≡ bookRefusal l b
 unfolding bookRefusal
 refusal-is l b q = ap (λ (a : Load). a .refused) q

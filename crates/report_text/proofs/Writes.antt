@@ -9,11 +9,11 @@ use Rattle.text.specs.Number.{showNumber, showLevel}
 use Rattle.room.specs.Room.{Wrote}
 use Rattle.room.proofs.Laws.{wrote-then}
 use Rattle.text.proofs.Shown.{shown-width, level-most}
-use Rattle.report_text.specs.Room.{WroteWithin}
+use Rattle.report_text.specs.InnerRoom.{longestNumber, WroteWithin}
 
 -- a number of a machine's 64 bits has at most 20 digits
-pub number-most : (n : ℕ) → n < 2 ^ 64 → length (showNumber n) ≤ 20
-number-most n h = shown-width 20 19 n (omega arith)
+pub number-most : (n : ℕ) → n < 2 ^ 64 → length (showNumber n) ≤ longestNumber
+number-most n h = shown-width longestNumber 19 n (omega arith)
 
 pub within : {m : ℕ} {s t e : List ℕ} {at i : ℕ} → length t ≤ m → Wrote s at t e i → WroteWithin m s at t e i
 within {m} {s} {t} {e} {at} {i} h w = record { wrote = w; within = omega (arith, w .place) }
@@ -23,7 +23,8 @@ pub within-then : {m n : ℕ} {s a b mid e : List ℕ} {at i j : ℕ} → at + (
     → WroteWithin m s at a mid i → WroteWithin n mid i b e j → WroteWithin (m + n) s at (a ++ b) e j
 within-then {m} {n} {s} {a} {b} {mid} {e} {at} {i} {j} room u v =
     record {
-      wrote = wrote-then (omega (arith, length-append a b, u .wrote .place, u .within, v .wrote .place, v .within)) (u .wrote) (v .wrote);
+      wrote = wrote-then (omega (arith, length-append a b, u .wrote .place, u .within, v .wrote .place, v .within))
+          (u .wrote) (v .wrote);
       within = omega (arith, u .within, v .within);
     }
 

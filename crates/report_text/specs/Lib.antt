@@ -1,3 +1,3 @@
 pub mod Totals
 pub mod Text
-pub mod Room
+pub mod InnerRoom

@@ -1,6 +1,7 @@
 -- The report as text, from the limits and a book, and the one line of a refusal: RULES, "Files and the report program".
 -- Assumes nothing.
 use Prim.Native.Nat.{ℕ, _+_}
+use Prim.Native.Char.{code}
 use mathlib.Core.Bool.{cond}
 use mathlib.Core.List.{List, [], _∷_, _++_}
 use lib.ListN.{getD}
@@ -22,15 +23,18 @@ use Rattle.report_text.specs.Totals.{computedIn, missingIn}
 
 -- lines end in CRLF
 abbrev pub lineEnd : List ℕ
-lineEnd = 13 ∷ 10 ∷ []
+lineEnd = bytes "\r\n"
 
 unfoldable pub ended : List (List ℕ) → List ℕ
 ended [] = []
 ended (l ∷ ls) = l ++ (lineEnd ++ ended ls)
 
 -- fields are parted by a comma
+abbrev pub comma : ℕ
+comma = code ","
+
 abbrev pub line : List (List ℕ) → List ℕ
-line fields = joinedBy 44 fields
+line fields = joinedBy comma fields
 
 -- the rounded level or `below`; `over` or `within`
 abbrev pub levelText : Level → List ℕ

@@ -15,12 +15,16 @@ ghost use mathlib.Core.List.{_∷_, _++_};
 ghost use Prim.Native.Nat.{_+_, _≤_, _<_};
 ghost use lib.ListN.{length};
 ghost use Rattle.level.specs.Level.{levelValue, verdictOf};
-ghost use Rattle.book_rules.specs.Columns.{bookOf};
+ghost use Rattle.movement.specs.Limits.{maxPoints};
+ghost use Rattle.book_rules.specs.Columns.{bookBefore};
 ghost use Rattle.room.specs.Room.{Wrote};
 ghost use Rattle.text.specs.Number.{showNumber, showLevel};
 ghost use Rattle.report_text.specs.Totals.{computedIn, missingIn};
-ghost use Rattle.report_text.specs.Text.{lineEnd, line, levelText, verdictText, pointFields, headerLine, refusedText, pointsText};
-ghost use Rattle.report_text.specs.Room.{longestPoint, longestReport, WroteWithin, LimitsFit, Reported};
+ghost use Rattle.report_text.specs.Text.{comma, lineEnd, line, levelText, verdictText, pointFields};
+ghost use Rattle.report_text.specs.Text.{headerLine, refusedText, pointsText};
+ghost use Rattle.report_text.specs.InnerRoom.{longestField, longestWord, longestJudged, longestTotals};
+ghost use Rattle.report_text.specs.InnerRoom.{longestPoint, headerSize, longestReport, longestRefused};
+ghost use Rattle.report_text.specs.InnerRoom.{WroteWithin, LimitsFit, Reported};
 
 // A report: how many bytes it has, and the refusal of the whole book, 0 for none.
 pub struct Report {
@@ -30,8 +34,9 @@ pub struct Report {
 
 // A comma and a number.
 fn put_field(out: &mut [u8], at: usize, n: u64) -> usize
-    requires { ⌜ at + 21 ≤ length (now out) ⌝ }
-    ensures { λ r. ⌜ WroteWithin 21 (now (out .entry)) at (44 ∷ showNumber n) (now (out .exit)) r ⌝ }
+    requires { ⌜ at + longestField ≤ length (now out) ⌝ }
+    ensures { λ r. ⌜ WroteWithin longestField (now (out .entry)) at (comma ∷ showNumber n)
+        (now (out .exit)) r ⌝ }
 {
     let next = put_byte(out, at, b',');
     put_number(out, next, n)
@@ -42,14 +47,15 @@ fn put_end(out: &mut [u8], at: usize) -> usize
     requires { ⌜ at + 2 ≤ length (now out) ⌝ }
     ensures { λ r. ⌜ WroteWithin 2 (now (out .entry)) at lineEnd (now (out .exit)) r ⌝ }
 {
-    let next = put_byte(out, at, 13);
-    put_byte(out, next, 10)
+    let next = put_byte(out, at, b'\r');
+    put_byte(out, next, b'\n')
 }
 
 // A refusal's one line.
 pub fn put_refused(out: &mut [u8], number: u32, line: u64) -> usize
     requires { ⌜ longestReport ≤ length (now out) ⌝ }
-    ensures { λ r. ⌜ WroteWithin 51 (now (out .entry)) 0 (refusedText number line) (now (out .exit)) r ⌝ }
+    ensures { λ r. ⌜ WroteWithin longestRefused (now (out .entry)) 0 (refusedText number line)
+        (now (out .exit)) r ⌝ }
 {
     let word = put_text(out, 0, b"refused");
     let first = put_field(out, word, number as u64);
@@ -59,8 +65,9 @@ pub fn put_refused(out: &mut [u8], number: u32, line: u64) -> usize
 
 // A comma, and a level or `below`.
 fn put_rounded(out: &mut [u8], at: usize, level: Level) -> usize
-    requires { ⌜ (levelValue level < 100000) × (at + 7 ≤ length (now out)) ⌝ }
-    ensures { λ r. ⌜ WroteWithin 7 (now (out .entry)) at (44 ∷ levelText level) (now (out .exit)) r ⌝ }
+    requires { ⌜ (levelValue level < 100000) × (at + longestWord ≤ length (now out)) ⌝ }
+    ensures { λ r. ⌜ WroteWithin longestWord (now (out .entry)) at (comma ∷ levelText level)
+        (now (out .exit)) r ⌝ }
 {
     let next = put_byte(out, at, b',');
     match level {
@@ -71,8 +78,9 @@ fn put_rounded(out: &mut [u8], at: usize, level: Level) -> usize
 
 // A comma, and `over` or `within`.
 fn put_verdict(out: &mut [u8], at: usize, verdict: Verdict) -> usize
-    requires { ⌜ at + 7 ≤ length (now out) ⌝ }
-    ensures { λ r. ⌜ WroteWithin 7 (now (out .entry)) at (44 ∷ verdictText verdict) (now (out .exit)) r ⌝ }
+    requires { ⌜ at + longestWord ≤ length (now out) ⌝ }
+    ensures { λ r. ⌜ WroteWithin longestWord (now (out .entry)) at (comma ∷ verdictText verdict)
+        (now (out .exit)) r ⌝ }
 {
     let next = put_byte(out, at, b',');
     match verdict {
@@ -83,8 +91,9 @@ fn put_verdict(out: &mut [u8], at: usize, verdict: Verdict) -> usize
 
 // A comma, and a limit.
 fn put_limit(out: &mut [u8], at: usize, limit: u32) -> usize
-    requires { ⌜ (limit < 100000) × (at + 7 ≤ length (now out)) ⌝ }
-    ensures { λ r. ⌜ WroteWithin 7 (now (out .entry)) at (44 ∷ showLevel limit) (now (out .exit)) r ⌝ }
+    requires { ⌜ (limit < 100000) × (at + longestWord ≤ length (now out)) ⌝ }
+    ensures { λ r. ⌜ WroteWithin longestWord (now (out .entry)) at (comma ∷ showLevel limit)
+        (now (out .exit)) r ⌝ }
 {
     let next = put_byte(out, at, b',');
     put_level(out, next, limit)
@@ -92,8 +101,10 @@ fn put_limit(out: &mut [u8], at: usize, limit: u32) -> usize
 
 // What a point has: the rounded level, the limit and the verdict.
 fn put_judged(out: &mut [u8], at: usize, level: Level, limit: u32) -> usize
-    requires { ⌜ (levelValue level < 100000) × (limit < 100000) × (at + 21 ≤ length (now out)) ⌝ }
-    ensures { λ r. ⌜ WroteWithin 21 (now (out .entry)) at ((44 ∷ levelText level) ++ ((44 ∷ showLevel limit) ++ (44 ∷ verdictText (verdictOf level limit)))) (now (out .exit)) r ⌝ }
+    requires { ⌜ (levelValue level < 100000) × (limit < 100000) × (at + longestJudged ≤ length (now out)) ⌝ }
+    ensures { λ r. ⌜ WroteWithin longestJudged (now (out .entry)) at
+        ((comma ∷ levelText level)
+        ++ ((comma ∷ showLevel limit) ++ (comma ∷ verdictText (verdictOf level limit)))) (now (out .exit)) r ⌝ }
 {
     let rounded = put_rounded(out, at, level);
     let next = put_limit(out, rounded, limit);
@@ -102,8 +113,10 @@ fn put_judged(out: &mut [u8], at: usize, level: Level, limit: u32) -> usize
 
 // Movements computed and movements without levels, and the end of the line.
 fn put_totals(out: &mut [u8], at: usize, counts: [Counts; 18]) -> usize
-    requires { ⌜ at + 44 ≤ length (now out) ⌝ }
-    ensures { λ r. ⌜ WroteWithin 44 (now (out .entry)) at ((44 ∷ showNumber (computedIn counts)) ++ ((44 ∷ showNumber (missingIn counts)) ++ lineEnd)) (now (out .exit)) r ⌝ }
+    requires { ⌜ at + longestTotals ≤ length (now out) ⌝ }
+    ensures { λ r. ⌜ WroteWithin longestTotals (now (out .entry)) at
+        ((comma ∷ showNumber (computedIn counts)) ++ ((comma ∷ showNumber (missingIn counts)) ++ lineEnd))
+        (now (out .exit)) r ⌝ }
 {
     let totals = added_up(counts);
     let computed = put_field(out, at, totals.computed);
@@ -113,8 +126,10 @@ fn put_totals(out: &mut [u8], at: usize, counts: [Counts; 18]) -> usize
 
 // The line of a point.
 fn put_point(out: &mut [u8], at: usize, point: usize, load: Load, limit: u32) -> usize
-    requires { ⌜ (point < 8) × (levelValue (load .level) < 100000) × (limit < 100000) × (at + longestPoint ≤ length (now out)) ⌝ }
-    ensures { λ r. ⌜ WroteWithin longestPoint (now (out .entry)) at (line (pointFields point limit load) ++ lineEnd) (now (out .exit)) r ⌝ }
+    requires { ⌜ (point < maxPoints) × (levelValue (load .level) < 100000) × (limit < 100000)
+        × (at + longestPoint ≤ length (now out)) ⌝ }
+    ensures { λ r. ⌜ WroteWithin longestPoint (now (out .entry)) at
+        (line (pointFields point limit load) ++ lineEnd) (now (out .exit)) r ⌝ }
 {
     let counts = load.counts;
     let level = load.level;
@@ -126,7 +141,7 @@ fn put_point(out: &mut [u8], at: usize, point: usize, load: Load, limit: u32) ->
 // The header.
 fn put_header(out: &mut [u8]) -> usize
     requires { ⌜ longestReport ≤ length (now out) ⌝ }
-    ensures { λ r. ⌜ WroteWithin 44 (now (out .entry)) 0 (headerLine ++ lineEnd) (now (out .exit)) r ⌝ }
+    ensures { λ r. ⌜ WroteWithin headerSize (now (out .entry)) 0 (headerLine ++ lineEnd) (now (out .exit)) r ⌝ }
 {
     let next = put_text(out, 0, b"point,level,limit,verdict,computed,missing");
     put_end(out, next)
@@ -142,7 +157,8 @@ fn put_points(
     limits: Limits,
 ) -> usize
     requires { ⌜ LimitsFit limits × (longestReport ≤ length (now out)) ⌝ }
-    ensures { λ r. ⌜ Wrote (now (out .entry)) 0 (pointsText limits (bookOf (now (ids .entry)) (now (groups .entry)) (now (marks .entry)) (now (levels .entry)))) (now (out .exit)) r ⌝ }
+    ensures { λ r. ⌜ Wrote (now (out .entry)) 0 (pointsText limits (bookBefore ids groups marks levels))
+        (now (out .exit)) r ⌝ }
 {
     let points = limits.points as usize;
     let days = limits.days;
@@ -167,7 +183,8 @@ pub fn put_report(
     limits: Limits,
 ) -> Report
     requires { ⌜ LimitsFit limits × (longestReport ≤ length (now out)) ⌝ }
-    ensures { λ r. ⌜ Reported limits (bookOf (now (ids .entry)) (now (groups .entry)) (now (marks .entry)) (now (levels .entry))) (now (out .entry)) r (now (out .exit)) ⌝ }
+    ensures { λ r. ⌜ Reported limits (bookBefore ids groups marks levels) (now (out .entry)) r
+        (now (out .exit)) ⌝ }
 {
     let points = limits.points as usize;
     let first = load_at(ids, groups, marks, levels, points, 0, limits.days);

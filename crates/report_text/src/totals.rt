@@ -2,6 +2,7 @@
 use load_rules::Counts;
 ghost use mathlib.Core.Path.{_≡_};
 ghost use Prim.Native.Nat.{_+_, _*_, _^_, _≤_};
+ghost use Rattle.movement.specs.Limits.{groupCount};
 ghost use Rattle.report_text.specs.Totals.{computedIn, missingIn};
 
 pub struct Totals {
@@ -11,7 +12,7 @@ pub struct Totals {
 
 // One count more of at most 18.
 fn plus(sum: u64, n: u32) -> u64
-    requires { ⌜ sum ≤ 18 * 2 ^ 32 ⌝ }
+    requires { ⌜ sum ≤ groupCount * 2 ^ 32 ⌝ }
     ensures { λ r. ⌜ (r ≡ sum + n) × (r ≤ sum + 2 ^ 32) ⌝ }
 {
     sum + n as u64

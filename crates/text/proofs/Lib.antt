@@ -5,5 +5,6 @@ pub mod Exact
 pub mod Free
 pub mod Fields
 pub mod Lines
+pub mod Streams
 pub mod Sames
 pub mod Indices

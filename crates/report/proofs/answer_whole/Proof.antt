@@ -12,12 +12,6 @@ start c = let columns = c .before .before .before .before in columns .before .be
 abbrev book : tie.Start → Book
 book s = bookOf (s .args .ids .now) (s .args .groups .now) (s .args .marks .now) (s .args .levels .now)
 
-refuse-requires : tie.Need-refuse-requires
-refuse-requires c κs = search needs
-
-same-length : tie.Need-same-length
-same-length c = search needs
-
 returns : tie.Need-returns
 returns c =
     let written = c .before .before in
@@ -25,42 +19,33 @@ returns c =
     let s = start (test .before) in
     sized-refused (s .args .limits) (book s) (test .if1 .taken) (written .refuse .ensures)
 
-put-report-requires : tie.Need-put-report-requires
-put-report-requires c κs = search needs
-
-of-book-requires : tie.Need-of-book-requires
-of-book-requires c κs = search needs
-
-same-length-2 : tie.Need-same-length-2
-same-length-2 c = search needs
-
 returns-2 : tie.Need-returns-2
 returns-2 c =
-    let written = c .before .before .before .before .before in
+    let said = c .before in
+    let written = said .before .before .before .before in
     let test = written .before .before in
     let s = start (test .before) in
-    sized-report (s .args .limits) (book s) (s .args .read .line) (test .if1 .left) (written .put-report .ensures .wrote)
-
-same-length-3 : tie.Need-same-length-3
-same-length-3 c = search needs
+    sized-report (s .args .limits) (book s) (s .args .read .line) (test .if1 .left)
+    (written .put-report .ensures .wrote)
 
 returns-3 : tie.Need-returns-3
 returns-3 c =
     let written = c .before .before .before .before in
     let test = written .before .before in
     let s = start (test .before) in
-    sized-report (s .args .limits) (book s) (s .args .read .line) (test .if1 .left) (written .put-report .ensures .wrote)
+    sized-report (s .args .limits) (book s) (s .args .read .line) (test .if1 .left)
+    (written .put-report .ensures .wrote)
 
 pub answer-whole-spec : {M : Type 1} → statement M
 answer-whole-spec =
     tie.close
     (tie.spec
-    refuse-requires
-    same-length
+    (λ c κs. search needs)
+    (λ c. search needs)
     returns
-    put-report-requires
-    of-book-requires
-    same-length-2
+    (λ c κs. search needs)
+    (λ c κs. search needs)
+    (λ c. search needs)
     returns-2
-    same-length-3
+    (λ c. search needs)
     returns-3)

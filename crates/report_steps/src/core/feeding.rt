@@ -1,4 +1,5 @@
-// A register's bytes as they come: its lines, one after another, into the book. What is read of all pieces is what is read of the whole.
+// A register's bytes as they come: its lines, one after another, into the book. What is read of all pieces is what is
+// read of the whole.
 use crate::core::take_row;
 use register::header::register_points;
 use text::core::line_end;
@@ -7,14 +8,17 @@ ghost use mathlib.Core.Path.{_≡_};
 ghost use mathlib.Core.Bool.{true};
 ghost use Prim.Native.Nat.{_+_, _^_, _≤_, _<_};
 ghost use lib.ListN.{length, take, drop};
-ghost use Rattle.book_rules.specs.Columns.{bookOf, sound};
-ghost use Rattle.register.specs.Header.{headerOf, registerHeader};
-ghost use Rattle.report_steps.specs.Reading.{pointsRefusal, readingAt, arrivedOf, LineTaken, LinesTaken, LastTaken, PieceTaken, Unended};
+ghost use Rattle.book_rules.specs.Columns.{bookNow, bookBefore, bookAfter, sound};
+ghost use Rattle.report_steps.specs.Reading.{pointsRefusal, headerPoints, readingAt, Unended, arrivedOf};
+ghost use Rattle.report_steps.specs.InnerTaken.{LineTaken, LinesTaken, LastTaken, PieceTaken};
 
-// The longest line of a register on its layout, with its CRLF.
-const LONGEST_LINE: usize = 86;
+// The longest row of a register on its layout, and with its CRLF the longest line.
+pub const LONGEST_ROW: usize = 84;
 
-// Where the reading stands: the bytes before `at` are read; `line` is the number of the next line, or of the one that is refused.
+const LONGEST_LINE: usize = LONGEST_ROW + 2;
+
+// Where the reading stands: the bytes before `at` are read; `line` is the number of the next line, or of the one that
+// is refused.
 pub struct Feed {
     pub at: usize,
     pub line: u64,
@@ -28,7 +32,8 @@ pub enum Arrived {
     Failed,
 }
 
-// The same once a piece is taken: `left` bytes of the next line wait at the front of the buffer. Where a line is refused none was moved, and it begins at `at`.
+// The same once a piece is taken: `left` bytes of the next line wait at the front of the buffer. Where a line is
+// refused none was moved, and it begins at `at`.
 pub struct Piece {
     pub at: usize,
     pub left: usize,
@@ -38,7 +43,7 @@ pub struct Piece {
 
 // The refusal of a first line: it is the header of a register with as many levels as there are points.
 fn header_refusal(line: &[u8], points: usize) -> u32
-    ensures { λ r. ⌜ r ≡ pointsRefusal points (headerOf registerHeader 22 (now (line .entry))) ⌝ }
+    ensures { λ r. ⌜ r ≡ pointsRefusal points (headerPoints (now (line .entry))) ⌝ }
 {
     match register_points(line) {
         Number::Got(n) => {
@@ -61,8 +66,9 @@ pub fn take_line(
     line: &[u8],
     number: u64,
 ) -> u32
-    requires { ⌜ sound points (bookOf (now ids) (now groups) (now marks) (now levels)) ≡ true ⌝ }
-    ensures { λ r. ⌜ LineTaken points number (bookOf (now (ids .entry)) (now (groups .entry)) (now (marks .entry)) (now (levels .entry))) (now (line .entry)) r (bookOf (now (ids .exit)) (now (groups .exit)) (now (marks .exit)) (now (levels .exit))) ⌝ }
+    requires { ⌜ sound points (bookNow ids groups marks levels) ≡ true ⌝ }
+    ensures { λ r. ⌜ LineTaken points number (bookBefore ids groups marks levels) (now (line .entry)) r
+        (bookAfter ids groups marks levels) ⌝ }
 {
     if number == 1 {
         return header_refusal(line, points);
@@ -80,9 +86,10 @@ pub fn take_lines(
     bytes: &[u8],
     line: u64,
 ) -> Feed
-    requires { ⌜ sound points (bookOf (now ids) (now groups) (now marks) (now levels)) ≡ true ⌝ }
+    requires { ⌜ sound points (bookNow ids groups marks levels) ≡ true ⌝ }
     requires { ⌜ line + length (now bytes) < 2 ^ 64 ⌝ }
-    ensures { λ r. ⌜ LinesTaken points (readingAt 0 line (bookOf (now (ids .entry)) (now (groups .entry)) (now (marks .entry)) (now (levels .entry)))) (now (bytes .entry)) (r .at) (readingAt (r .refusal) (r .line) (bookOf (now (ids .exit)) (now (groups .exit)) (now (marks .exit)) (now (levels .exit)))) ⌝ }
+    ensures { λ r. ⌜ LinesTaken points (readingAt 0 line (bookBefore ids groups marks levels)) (now (bytes .entry))
+        (r .at) (readingAt (r .refusal) (r .line) (bookAfter ids groups marks levels)) ⌝ }
 {
     let mut at = 0;
     let mut number = line;
@@ -117,11 +124,12 @@ pub fn take_last(
     bytes: &[u8],
     line: u64,
 ) -> Feed
-    requires { ⌜ sound points (bookOf (now ids) (now groups) (now marks) (now levels)) ≡ true ⌝ }
+    requires { ⌜ sound points (bookNow ids groups marks levels) ≡ true ⌝ }
     requires { ⌜ Unended (now bytes) ⌝ }
     requires { ⌜ 1 ≤ line ⌝ }
     requires { ⌜ line + length (now bytes) < 2 ^ 64 ⌝ }
-    ensures { λ r. ⌜ LastTaken points (readingAt 0 line (bookOf (now (ids .entry)) (now (groups .entry)) (now (marks .entry)) (now (levels .entry)))) (now (bytes .entry)) (readingAt (r .refusal) (r .line) (bookOf (now (ids .exit)) (now (groups .exit)) (now (marks .exit)) (now (levels .exit)))) ⌝ }
+    ensures { λ r. ⌜ LastTaken points (readingAt 0 line (bookBefore ids groups marks levels)) (now (bytes .entry))
+        (readingAt (r .refusal) (r .line) (bookAfter ids groups marks levels)) ⌝ }
 {
     if bytes.len() == 0 {
         if line == 1 {
@@ -175,10 +183,12 @@ pub fn take_piece(
     len: usize,
     line: u64,
 ) -> Piece
-    requires { ⌜ sound points (bookOf (now ids) (now groups) (now marks) (now levels)) ≡ true ⌝ }
+    requires { ⌜ sound points (bookNow ids groups marks levels) ≡ true ⌝ }
     requires { ⌜ len ≤ length (now bytes) ⌝ }
     requires { ⌜ line + len < 2 ^ 64 ⌝ }
-    ensures { λ r. ⌜ PieceTaken points (readingAt 0 line (bookOf (now (ids .entry)) (now (groups .entry)) (now (marks .entry)) (now (levels .entry)))) (take len (now (bytes .entry))) (readingAt (r .refusal) (r .line) (bookOf (now (ids .exit)) (now (groups .exit)) (now (marks .exit)) (now (levels .exit)))) (take (r .left) (now (bytes .exit))) ⌝ }
+    ensures { λ r. ⌜ PieceTaken points (readingAt 0 line (bookBefore ids groups marks levels))
+        (take len (now (bytes .entry))) (readingAt (r .refusal) (r .line) (bookAfter ids groups marks levels))
+        (take (r .left) (now (bytes .exit))) ⌝ }
 {
     let feed = take_lines(ids, groups, marks, levels, points, &bytes[..len], line);
     let at = feed.at;

@@ -1,4 +1,5 @@
--- `report::feed::all_of` meets its contract. The loop's invariant: the bytes that came stand at the front of the buffer.
+-- `report::feed::all_of` meets its contract. The loop's invariant: the bytes that came stand at the front of the
+-- buffer.
 -- Assumes nothing.
 use mathlib.Core.Path.{_≡_, refl, sym, _∙_}
 use Prim.Native.Nat.{ℕ, _+_, _-_, _≤_}
@@ -42,41 +43,25 @@ came k =
     let w = k .before .before in
     let n = turn w .loop .n in
     let room = length (buffer w) - n in
-    let b = came-some (toZ w64 (ofZ w64 (lent w .before .read .result))) (length (take room (drop n (buffer w)))) (k .k .given .0 .0) (sym (w .what-came .ensures) ∙ k .k .given .1) in
-    (b .0, omega (arith, b .1, length-take room (drop n (buffer w)), length-drop n (buffer w), turn w .loop .inv .0, long w))
-
-loop-holds : tie.Need-loop-holds Inv-loop μ-loop
-loop-holds c = search needs
-
-sub-read : tie.Need-sub-read Inv-loop μ-loop
-sub-read c = search needs
-
-part-read-start : tie.Need-part-read-start Inv-loop μ-loop
-part-read-start c = search needs
-
-part-read-end : tie.Need-part-read-end Inv-loop μ-loop
-part-read-end c = search needs
-
-read-requires : tie.Need-read-requires Inv-loop μ-loop
-read-requires c κs = search needs
-
-sub-what-came : tie.Need-sub-what-came Inv-loop μ-loop
-sub-what-came c = search needs
-
-part-what-came-start : tie.Need-part-what-came-start Inv-loop μ-loop
-part-what-came-start c = search needs
-
-part-what-came-end : tie.Need-part-what-came-end Inv-loop μ-loop
-part-what-came-end c = search needs
-
-what-came-requires : tie.Need-what-came-requires Inv-loop μ-loop
-what-came-requires c κs = search needs
-
-enum-known-k : tie.Need-enum-known-k Inv-loop μ-loop
-enum-known-k c = search needs
+    let b =
+    came-some (toZ w64 (ofZ w64 (lent w .before .read .result))) (length (take room (drop n (buffer w))))
+    (k .k .given .0 .0) (sym (w .what-came .ensures) ∙ k .k .given .1) in (
+      b .0,
+      omega (
+        arith,
+        b .1,
+        length-take room (drop n (buffer w)),
+        length-drop n (buffer w),
+        turn w .loop .inv .0,
+        long w,
+      ),
+    )
 
 add-n : tie.Need-add-n Inv-loop μ-loop
-add-n c = let k = c .before in let w = k .before .before in let known = turn w .before .before .good in record { fits = omega (arith, came k, long w, turn w .loop .inv .1) }
+add-n c =
+    let k = c .before in
+    let w = k .before .before in
+    let known = turn w .before .before .good in record { fits = omega (arith, came k, long w, turn w .loop .inv .1) }
 
 loop-less : tie.Need-loop-less Inv-loop μ-loop
 loop-less c = let k = c .before in let w = k .before .before in omega (arith, came k, long w, turn w .loop .inv)
@@ -84,29 +69,11 @@ loop-less c = let k = c .before in let w = k .before .before in omega (arith, ca
 loop-again : tie.Need-loop-again Inv-loop μ-loop
 loop-again c = let k = c .before in let w = k .before .before in (came k .1, long w ∙ turn w .loop .inv .1)
 
-enum-told : tie.Need-enum-told Inv-loop μ-loop
-enum-told c = search needs
-
-same-length : tie.Need-same-length Inv-loop μ-loop
-same-length c = search needs
-
 returns : tie.Need-returns Inv-loop μ-loop
 returns c =
     let w = c .before .before in
     let fits : turn w .loop .n ≤ length (buffer w) = omega (arith, turn w .loop .inv .0, long w) in
     (fits, sym (length-take-le (turn w .loop .n) (buffer w) fits))
-
-enum-told-2 : tie.Need-enum-told-2 Inv-loop μ-loop
-enum-told-2 c = search needs
-
-same-length-2 : tie.Need-same-length-2 Inv-loop μ-loop
-same-length-2 c = search needs
-
-returns-2 : tie.Need-returns-2 Inv-loop μ-loop
-returns-2 c = search needs
-
-same-length-3 : tie.Need-same-length-3 Inv-loop μ-loop
-same-length-3 c = search needs
 
 returns-3 : tie.Need-returns-3 Inv-loop μ-loop
 returns-3 c =
@@ -119,24 +86,24 @@ all-of-spec =
     (tie.spec
     Inv-loop
     μ-loop
-    loop-holds
-    sub-read
-    part-read-start
-    part-read-end
-    read-requires
-    sub-what-came
-    part-what-came-start
-    part-what-came-end
-    what-came-requires
-    enum-known-k
+    (λ c. search needs)
+    (λ c. search needs)
+    (λ c. search needs)
+    (λ c. search needs)
+    (λ c κs. search needs)
+    (λ c. search needs)
+    (λ c. search needs)
+    (λ c. search needs)
+    (λ c κs. search needs)
+    (λ c. search needs)
     add-n
     loop-less
     loop-again
-    enum-told
-    same-length
+    (λ c. search needs)
+    (λ c. search needs)
     returns
-    enum-told-2
-    same-length-2
-    returns-2
-    same-length-3
+    (λ c. search needs)
+    (λ c. search needs)
+    (λ c. search needs)
+    (λ c. search needs)
     returns-3)

@@ -1,112 +1,89 @@
 -- `report::feed::read_on` meets its contract: a read leaves the bytes that waited as they were.
 -- Assumes nothing.
-use mathlib.Core.Path.{_≡_, refl}
+use mathlib.Core.Path.{_≡_}
 use mathlib.Core.List.{List}
 use Prim.Native.Nat.{ℕ, _-_, _≤_}
 use native.Mathlib.Omega.{arith}
 use lib.ListN.{length, take}
 use borrow.Rule.Slice.PartMut.{putMid, take-put}
+use Rattle.report.specs.Feeding.{Waiting}
 use Rattle.report.proofs.Turns.{turn-failed, turn-answered}
 use borrow.Author.Needs.{needs}
 use Rattle.report.proofs.feed.read_on.Statement.{statement}
 use Rattle.report.proofs.feed.read_on.Tie as tie
-use Rattle.report.proofs.feed.read_on.Reads as reads
-use Rattle.report.proofs.feed.read_on.Lts as lts
-use Rattle.libc.proofs.read.Reads as read-reads
-use Rattle.report.proofs.feed.answered.Reads as answered-reads
-use Rattle.report.proofs.feed.failed.Reads as failed-reads
+
+-- places on the way, from where the buffer is back: the read, the test before it, and the start
+abbrev read : tie.After-slice-known6 → tie.After-read
+read w = w .before .before
+
+abbrev tested : tie.After-slice-known6 → tie.Else1
+tested w = read w .before .before
+
+abbrev start : tie.After-slice-known6 → tie.Start
+start w = let levels = tested w .before .before in levels .before .before .before .before
 
 -- the buffer once the read is done: the bytes that waited stand as they did
 abbrev buffer : tie.After-slice-known6 → List ℕ
 buffer w =
-    let s = w .before .before .before .before .before .before .before .before .before .before in
-    putMid (s .args .left) (length (s .args .bytes .now) - s .args .left) (s .args .bytes .now) (w .before .before .read .last .1 .0)
+    let a = start w .args in
+    putMid (a .left) (length (a .bytes .now) - a .left) (a .bytes .now) (read w .read .last .1 .0)
 
 inside : (c : tie.Start) → c .args .left ≤ length (c .args .bytes .now)
 inside c = omega (arith, c .pre .1 .short, c .pre .1 .room)
 
-front : (w : tie.After-slice-known6) → take (w .before .before .before .before .before .before .before .before .before .before .args .left) (buffer w) ≡ take (w .before .before .before .before .before .before .before .before .before .before .args .left) (w .before .before .before .before .before .before .before .before .before .before .args .bytes .now)
+front : (w : tie.After-slice-known6) → let a =
+    start w .args in take (a .left) (buffer w) ≡ take (a .left) (a .bytes .now)
 front w =
-    let s = w .before .before .before .before .before .before .before .before .before .before in
-    take-put (s .args .left) (length (s .args .bytes .now) - s .args .left) (s .args .bytes .now) (w .before .before .read .last .1 .0) (inside s)
+    let a = start w .args in
+    take-put (a .left) (length (a .bytes .now) - a .left) (a .bytes .now) (read w .read .last .1 .0) (inside (start w))
 
-long : (w : tie.After-slice-known6) → length (buffer w) ≡ length (w .before .before .before .before .before .before .before .before .before .before .args .bytes .now)
+long : (w : tie.After-slice-known6) → length (buffer w) ≡ length (start w .args .bytes .now)
 long w = w .before .bytes .given .1
 
--- src/feed.rt:163:8
-sub-if1 : tie.Need-sub-if1
-sub-if1 c = search needs
+failed : tie.Need-returns
+failed c =
+    let levels = c .before .before .before in
+    turn-failed (levels .before .before .before .before .pre .0) (c .failed .ensures)
 
--- src/feed.rt:164:9
-failed-requires : tie.Need-failed-requires
-failed-requires c κs = search needs
-
--- src/feed.rt:164:9
-returns : tie.Need-returns
-returns c = turn-failed (c .before .before .before .before .before .before .before .pre .0) (c .failed .ensures)
-
--- src/feed.rt:166:43
-sub-read : tie.Need-sub-read
-sub-read c = search needs
-
--- src/feed.rt:166:43
-part-read-start : tie.Need-part-read-start
-part-read-start c = search needs
-
--- src/feed.rt:166:43
-part-read-end : tie.Need-part-read-end
-part-read-end c = search needs
-
--- src/feed.rt:166:9
-read-requires : tie.Need-read-requires
-read-requires c κs = search needs
-
--- src/feed.rt:167:5
 answered-requires : tie.Need-answered-requires
 answered-requires c κs =
-    let w = c .before .before .before .before .before in
-    let s = w .before .before .before .before .before .before .before .before .before .before in
-    (s .pre .0, (record { unended = rw (front w) (s .pre .1 .unended); short = s .pre .1 .short; room = omega (arith, long w, s .pre .1 .room); first = s .pre .1 .first }, omega (arith, long w, c .before .before .before .before .before .before .before .before .before .if1 .left)))
+    let lent = c .before in
+    let w = lent .before .before .before .before in
+    let s = start w in
+    let k = s .pre .1 in
+    let waits : Waiting (buffer w) (s .args .left) (s .args .line) =
+    record {
+      unended = rw (front w) (k .unended);
+      short = k .short;
+      room = omega
+          (arith, long w, k .room);
+      first = k .first;
+    } in
+    (s .pre .0, (waits, omega (arith, long w, tested w .if1 .left)))
 
--- src/feed.rt:149:1
-same-length : tie.Need-same-length
-same-length c = search needs
-
--- src/feed.rt:149:1
-same-length-2 : tie.Need-same-length-2
-same-length-2 c = search needs
-
--- src/feed.rt:149:1
-same-length-3 : tie.Need-same-length-3
-same-length-3 c = search needs
-
--- src/feed.rt:149:1
-same-length-4 : tie.Need-same-length-4
-same-length-4 c = search needs
-
--- src/feed.rt:149:1
-same-length-5 : tie.Need-same-length-5
-same-length-5 c = search needs
-
--- src/feed.rt:149:1
-returns-2 : tie.Need-returns-2
-returns-2 c = turn-answered (c .before .before .before .before .before .before .before .before .before .before .answered .ensures) (front (c .before .before .before .before .before .before .before .before .before .before .before .before .before .before .before .before))
+answered : tie.Need-returns-2
+answered c =
+    let marks = c .before .before .before .before in
+    let ids = marks .before .before .before .before in
+    let answer = ids .before .before in
+    let lent = answer .before .before in
+    turn-answered (answer .answered .ensures) (front (lent .before .before .before .before))
 
 pub read-on-spec : {M : Type 1} → statement M
 read-on-spec =
     tie.close
     (tie.spec
-    sub-if1
-    failed-requires
-    returns
-    sub-read
-    part-read-start
-    part-read-end
-    read-requires
+    (λ c. search needs)
+    (λ c κs. search needs)
+    failed
+    (λ c. search needs)
+    (λ c. search needs)
+    (λ c. search needs)
+    (λ c κs. search needs)
     answered-requires
-    same-length
-    same-length-2
-    same-length-3
-    same-length-4
-    same-length-5
-    returns-2)
+    (λ c. search needs)
+    (λ c. search needs)
+    (λ c. search needs)
+    (λ c. search needs)
+    (λ c. search needs)
+    answered)

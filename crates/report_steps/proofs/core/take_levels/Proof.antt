@@ -12,10 +12,16 @@ slice-aggregate-supply : tie.Need-slice-aggregate-supply
 slice-aggregate-supply c = sym (length-take-le _ _ (omega arith))
 
 refused : tie.Need-returns
-refused c = levels-refused (c .before .before .before .before .before .supply .ensures) (c .if1 .taken)
+refused c =
+    let levels = c .before in
+    let supply = levels .before .before .before .before in
+    levels-refused (supply .supply .ensures) (c .if1 .taken)
 
 entered : tie.Need-returns-2
-entered c = levels-entered (c .before .before .before .before .before .supply .ensures) (c .if1 .left)
+entered c =
+    let levels = c .before in
+    let supply = levels .before .before .before .before in
+    levels-entered (supply .supply .ensures) (c .if1 .left)
 
 pub take-levels-spec : {M : Type 1} → statement M
 take-levels-spec =

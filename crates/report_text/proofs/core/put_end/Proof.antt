@@ -5,21 +5,17 @@ use borrow.Author.Needs.{needs}
 use Rattle.report_text.proofs.core.put_end.Statement.{statement}
 use Rattle.report_text.proofs.core.put_end.Tie as tie
 
-put-byte-requires : tie.Need-put-byte-requires
-put-byte-requires c κs = search needs
-
-put-byte-requires-2 : tie.Need-put-byte-requires-2
-put-byte-requires-2 c κs = search needs
-
-same-length : tie.Need-same-length
-same-length c = search needs
-
 returns : tie.Need-returns
 returns c =
     let second = c .before .before in
     let first = second .before .before .before .before in
     let s = first .before .before .before in
-    within-then (s .pre) (within {m = 1} (omega arith) (first .put-byte .ensures)) (within {m = 1} (omega arith) (second .put-byte2 .ensures))
+    within-then (s .pre) (within {m = 1} (omega arith) (first .put-byte .ensures))
+    (within {m = 1} (omega arith) (second .put-byte2 .ensures))
 
 pub put-end-spec : {M : Type 1} → statement M
-put-end-spec = tie.close (tie.spec put-byte-requires put-byte-requires-2 same-length returns)
+put-end-spec = tie.close (tie.spec
+    (λ c κs. search needs)
+    (λ c κs. search needs)
+    (λ c. search needs)
+    returns)

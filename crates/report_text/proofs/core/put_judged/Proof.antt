@@ -5,21 +5,6 @@ use borrow.Author.Needs.{needs}
 use Rattle.report_text.proofs.core.put_judged.Statement.{statement}
 use Rattle.report_text.proofs.core.put_judged.Tie as tie
 
-put-rounded-requires : tie.Need-put-rounded-requires
-put-rounded-requires c κs = search needs
-
-put-limit-requires : tie.Need-put-limit-requires
-put-limit-requires c κs = search needs
-
-judge-requires : tie.Need-judge-requires
-judge-requires c κs = search needs
-
-put-verdict-requires : tie.Need-put-verdict-requires
-put-verdict-requires c κs = search needs
-
-same-length : tie.Need-same-length
-same-length c = search needs
-
 returns : tie.Need-returns
 returns c =
     let verdict = c .before .before in
@@ -28,16 +13,17 @@ returns c =
     let rounded = limit .before .before .before .before in
     let s = rounded .before .before .before in
     within-then (s .pre .2) (rounded .put-rounded .ensures)
-    (within-then (omega (arith, s .pre .2, rounded .put-rounded .ensures .within, rounded .put-rounded .kept .0)) (limit .put-limit .ensures)
+    (within-then (omega (arith, s .pre .2, rounded .put-rounded .ensures .within, rounded .put-rounded .kept .0))
+    (limit .put-limit .ensures)
     (rw (judge .judge .ensures) at (verdict .put-verdict .ensures)))
 
 pub put-judged-spec : {M : Type 1} → statement M
 put-judged-spec =
     tie.close
     (tie.spec
-    put-rounded-requires
-    put-limit-requires
-    judge-requires
-    put-verdict-requires
-    same-length
+    (λ c κs. search needs)
+    (λ c κs. search needs)
+    (λ c κs. search needs)
+    (λ c κs. search needs)
+    (λ c. search needs)
     returns)

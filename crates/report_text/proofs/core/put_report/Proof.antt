@@ -1,4 +1,5 @@
--- `report_text::core::put_report` meets its contract: the one line of rule 10, or the header and the points. Assumes nothing.
+-- `report_text::core::put_report` meets its contract: the one line of rule 10, or the header and the points. Assumes
+-- nothing.
 use Rattle.book_rules.specs.Columns.{Book, bookOf}
 use Rattle.report_text.proofs.Points.{report-refused, report-points, refusal-is}
 use borrow.Author.Needs.{needs}
@@ -12,31 +13,17 @@ start c = let limits = c .before .before .before .before in limits .before .befo
 abbrev book : tie.Start → Book
 book s = bookOf (s .args .ids .now) (s .args .groups .now) (s .args .marks .now) (s .args .levels .now)
 
-cast-points : tie.Need-cast-points
-cast-points c = search needs
-
-load-at-requires : tie.Need-load-at-requires
-load-at-requires c κs = search needs
-
-put-refused-requires : tie.Need-put-refused-requires
-put-refused-requires c κs = search needs
-
-same-length : tie.Need-same-length
-same-length c = search needs
-
 returns : tie.Need-returns
 returns c =
     let size = c .before .before in
     let loaded = size .before .before .before in
     let s = start loaded in
     let q = refusal-is (s .args .limits) (book s) (loaded .load-at .ensures) in
-    record { wrote = report-refused (s .args .limits) (book s) q (size .before .before .if1 .taken) (size .put-refused .ensures .wrote); refused = q }
-
-put-points-requires : tie.Need-put-points-requires
-put-points-requires c κs = search needs
-
-same-length-2 : tie.Need-same-length-2
-same-length-2 c = search needs
+    record {
+      wrote = report-refused (s .args .limits) (book s) q (size .before .before .if1 .taken)
+          (size .put-refused .ensures .wrote);
+      refused = q;
+    }
 
 returns-2 : tie.Need-returns-2
 returns-2 c =
@@ -44,17 +31,21 @@ returns-2 c =
     let loaded = size .before .before .before in
     let s = start loaded in
     let q = refusal-is (s .args .limits) (book s) (loaded .load-at .ensures) in
-    record { wrote = report-points (s .args .limits) (book s) q (size .before .before .if1 .left) (size .put-points .ensures); refused = q }
+    record {
+      wrote = report-points (s .args .limits) (book s) q (size .before .before .if1 .left)
+          (size .put-points .ensures);
+      refused = q;
+    }
 
 pub put-report-spec : {M : Type 1} → statement M
 put-report-spec =
     tie.close
     (tie.spec
-    cast-points
-    load-at-requires
-    put-refused-requires
-    same-length
+    (λ c. search needs)
+    (λ c κs. search needs)
+    (λ c κs. search needs)
+    (λ c. search needs)
     returns
-    put-points-requires
-    same-length-2
+    (λ c κs. search needs)
+    (λ c. search needs)
     returns-2)

@@ -1,24 +1,10 @@
--- `report_text::core::put_totals` meets its contract: two numbers and the end of the line, each past the other. Assumes nothing.
+-- `report_text::core::put_totals` meets its contract: two numbers and the end of the line, each past the other.
+-- Assumes nothing.
 use native.Mathlib.Omega.{arith}
 use Rattle.report_text.proofs.Writes.{within-then}
 use borrow.Author.Needs.{needs}
 use Rattle.report_text.proofs.core.put_totals.Statement.{statement}
 use Rattle.report_text.proofs.core.put_totals.Tie as tie
-
-added-up-requires : tie.Need-added-up-requires
-added-up-requires c κs = search needs
-
-put-field-requires : tie.Need-put-field-requires
-put-field-requires c κs = search needs
-
-put-field-requires-2 : tie.Need-put-field-requires-2
-put-field-requires-2 c κs = search needs
-
-put-end-requires : tie.Need-put-end-requires
-put-end-requires c κs = search needs
-
-same-length : tie.Need-same-length
-same-length c = search needs
 
 returns : tie.Need-returns
 returns c =
@@ -28,15 +14,16 @@ returns c =
     let sums = computed .before .before in
     let s = sums .before .before in
     within-then (s .pre) (rw (sums .added-up .ensures .0) at (computed .put-field .ensures))
-    (within-then (omega (arith, s .pre, computed .put-field .ensures .within, computed .put-field .kept .0)) (rw (sums .added-up .ensures .1) at (missing .put-field2 .ensures)) (end .put-end .ensures))
+    (within-then (omega (arith, s .pre, computed .put-field .ensures .within, computed .put-field .kept .0))
+    (rw (sums .added-up .ensures .1) at (missing .put-field2 .ensures)) (end .put-end .ensures))
 
 pub put-totals-spec : {M : Type 1} → statement M
 put-totals-spec =
     tie.close
     (tie.spec
-    added-up-requires
-    put-field-requires
-    put-field-requires-2
-    put-end-requires
-    same-length
+    (λ c κs. search needs)
+    (λ c κs. search needs)
+    (λ c κs. search needs)
+    (λ c κs. search needs)
+    (λ c. search needs)
     returns)

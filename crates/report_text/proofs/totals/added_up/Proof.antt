@@ -1,4 +1,5 @@
--- `report_text::totals::added_up` meets its contract. The loop's invariant: both sums are those of the groups passed, each of which adds less than 2^32.
+-- `report_text::totals::added_up` meets its contract. The loop's invariant: both sums are those of the groups passed,
+-- each of which adds less than 2^32.
 -- Assumes nothing.
 use mathlib.Core.Path.{_≡_, refl, sym, ap, _∙_}
 use mathlib.Core.List.{List}
@@ -6,6 +7,7 @@ use Prim.Native.Nat.{ℕ, suc, _+_, _-_, _*_, _^_, _≤_, _<_}
 use native.Mathlib.Numerals.{add-one}
 use native.Mathlib.Omega.{arith}
 use borrow.Author.Needs.{needs}
+use Rattle.movement.specs.Limits.{groupCount}
 use Rattle.load_rules.specs.declared.Counts.{Counts}
 use Rattle.load_rules.specs.Factors.{sumTo}
 use Rattle.report_text.specs.Totals.{countsIn, computedIn, missingIn}
@@ -22,11 +24,11 @@ more f counts g = ap (to f counts) (add-one g)
 
 abbrev Inv-loop : tie.InvT-loop
 Inv-loop counts computed₀ missing₀ g₀ computed missing g =
-    (g ≤ 18) × (computed ≡ to (λ c. c .computed) counts g) × (missing ≡ to (λ c. c .missing) counts g)
+    (g ≤ groupCount) × (computed ≡ to (λ c. c .computed) counts g) × (missing ≡ to (λ c. c .missing) counts g)
     × (computed ≤ g * 2 ^ 32) × (missing ≤ g * 2 ^ 32)
 
 abbrev μ-loop : tie.MeasureT-loop
-μ-loop counts computed₀ missing₀ g₀ computed missing g = 18 - g
+μ-loop counts computed₀ missing₀ g₀ computed missing g = groupCount - g
 
 loop-holds : tie.Need-loop-holds Inv-loop μ-loop
 unfolding sumTo
@@ -38,9 +40,11 @@ loop-again c =
     let counts = l .before .args .t1 in
     let g = l .loop .g in
     let v : c .before .plus .result ≡ to (λ k. k .computed) counts (g + 1) =
-    rw (more (λ k. k .computed) counts g) (c .before .plus .ensures .0 ∙ ap (λ (n : ℕ). n + countsIn counts g .computed) (l .loop .inv .1)) in
+    rw (more (λ k. k .computed) counts g) (c .before .plus .ensures .0 ∙ ap
+    (λ (n : ℕ). n + countsIn counts g .computed) (l .loop .inv .1)) in
     let u : c .plus2 .result ≡ to (λ k. k .missing) counts (g + 1) =
-    rw (more (λ k. k .missing) counts g) (c .plus2 .ensures .0 ∙ ap (λ (n : ℕ). n + countsIn counts g .missing) (l .loop .inv .2)) in
+    rw (more (λ k. k .missing) counts g) (c .plus2 .ensures .0 ∙ ap (λ (n : ℕ). n + countsIn counts g .missing)
+    (l .loop .inv .2)) in
     (omega arith, v, u, omega arith, omega arith)
 
 returns : tie.Need-returns Inv-loop μ-loop
@@ -48,7 +52,7 @@ unfolding computedIn missingIn
 returns c =
     let l = c .before in
     let counts = l .before .args .t1 in
-    let last : l .loop .g ≡ 18 = omega arith in
+    let last : l .loop .g ≡ groupCount = omega arith in
     (l .loop .inv .1 ∙ ap (to (λ k. k .computed) counts) last, l .loop .inv .2 ∙ ap (to (λ k. k .missing) counts) last)
 
 pub added-up-spec : {M : Type 1} → statement M

@@ -1,95 +1,66 @@
 -- `report_steps::core::feeding::take_last` meets its contract: the last line, or none.
 -- Assumes nothing.
-use Rattle.book_rules.specs.Columns.{bookOf}
-use Rattle.report_steps.proofs.Readings.{last-headless, last-empty, last-refused, last-taken}
+use Rattle.book_rules.specs.Columns.{Book, bookOf}
+use Rattle.report_steps.proofs.Takings.{last-headless, last-empty, last-refused, last-taken}
 use borrow.Author.Needs.{needs}
 use Rattle.report_steps.proofs.core.feeding.take_last.Statement.{statement}
 use Rattle.report_steps.proofs.core.feeding.take_last.Tie as tie
-use Rattle.report_steps.proofs.core.feeding.take_last.Reads as reads
-use Rattle.report_steps.proofs.core.feeding.take_last.Lts as lts
-use Rattle.report_steps.proofs.core.feeding.take_line.Reads as take-line-reads
 
--- src/feeding.rt:109:13
-returns : tie.Need-returns
-returns c =
-    let s = c .before .before .before .before .before .before .before in
-    let a = s .args in
-    last-headless (a .points) (a .line) (bookOf (a .ids .now) (a .groups .now) (a .marks .now) (a .levels .now)) (a .bytes .now) (s .pre .0) (c .before .if1 .taken) (c .if2 .taken)
+-- places on the way: the start, and the line that was taken once its columns are back; and the book at the start
+abbrev start : tie.After-shared-slice-known → tie.Start
+start c = let levels = c .before in levels .before .before .before .before
 
--- src/feeding.rt:115:9
-returns-2 : tie.Need-returns-2
-returns-2 c =
-    let s = c .before .before .before .before .before .before .before in
-    let a = s .args in
-    last-empty (a .points) (a .line) (bookOf (a .ids .now) (a .groups .now) (a .marks .now) (a .levels .now)) (a .bytes .now) (s .pre .0) (c .before .if1 .taken) (c .if2 .left)
+abbrev taken : tie.After-slice-known8 → tie.After-take-line
+taken c = let groups = c .before .before .before .before in groups .before .before .before .before
 
--- src/feeding.rt:121:9
-take-line-requires : tie.Need-take-line-requires
-take-line-requires c κs = search needs
+abbrev some : tie.After-take-line → tie.Else1
+some c = let lent = c .before in lent .before .before .before .before
 
--- src/feeding.rt:123:9
-same-length : tie.Need-same-length
-same-length c = search needs
+abbrev book : tie.Start → Book
+book s = bookOf (s .args .ids .now) (s .args .groups .now) (s .args .marks .now) (s .args .levels .now)
 
--- src/feeding.rt:123:9
-same-length-2 : tie.Need-same-length-2
-same-length-2 c = search needs
+headless : tie.Need-returns
+headless c =
+    let none = c .before in
+    let s = start (none .before) in
+    last-headless (s .args .points) (s .args .line) (book s) (s .args .bytes .now) (s .pre .0) (none .if1 .taken)
+    (c .if2 .taken)
 
--- src/feeding.rt:123:9
-same-length-3 : tie.Need-same-length-3
-same-length-3 c = search needs
+empty : tie.Need-returns-2
+empty c =
+    let none = c .before in
+    let s = start (none .before) in
+    last-empty (s .args .points) (s .args .line) (book s) (s .args .bytes .now) (s .pre .0) (none .if1 .taken)
+    (c .if2 .left)
 
--- src/feeding.rt:123:9
-same-length-4 : tie.Need-same-length-4
-same-length-4 c = search needs
+refused : tie.Need-returns-3
+refused c =
+    let line = taken (c .before) in
+    let s = start (some line .before) in
+    last-refused (line .take-line .ensures) (s .pre .0) (s .pre .1 .0) (some line .if1 .left) (c .if3 .taken)
 
--- src/feeding.rt:123:9
-returns-3 : tie.Need-returns-3
-returns-3 c =
-    let s = c .before .before .before .before .before .before .before .before .before .before .before .before .before .before .before .before .before .before .before .before in
-    last-refused (c .before .before .before .before .before .before .before .before .before .take-line .ensures) (s .pre .0) (s .pre .1 .0) (c .before .before .before .before .before .before .before .before .before .before .before .before .before .before .if1 .left) (c .if3 .taken)
-
--- src/feeding.rt:131:15
-add-t20 : tie.Need-add-t20
-add-t20 c = search needs
-
--- src/feeding.rt:93:1
-same-length-5 : tie.Need-same-length-5
-same-length-5 c = search needs
-
--- src/feeding.rt:93:1
-same-length-6 : tie.Need-same-length-6
-same-length-6 c = search needs
-
--- src/feeding.rt:93:1
-same-length-7 : tie.Need-same-length-7
-same-length-7 c = search needs
-
--- src/feeding.rt:93:1
-same-length-8 : tie.Need-same-length-8
-same-length-8 c = search needs
-
--- src/feeding.rt:93:1
-returns-4 : tie.Need-returns-4
-returns-4 c =
-    let s = c .before .before .before .before .before .before .before .before .before .before .before .before .before .before .before .before .before .before .before .before in
-    last-taken (c .before .before .before .before .before .before .before .before .before .take-line .ensures) (s .pre .0) (s .pre .1 .0) (c .before .before .before .before .before .before .before .before .before .before .before .before .before .before .if1 .left) (s .pre .1 .1 .0) (c .if3 .left)
+accepted : tie.Need-returns-4
+accepted c =
+    let line = taken (c .before) in
+    let s = start (some line .before) in
+    last-taken (line .take-line .ensures) (s .pre .0) (s .pre .1 .0) (some line .if1 .left) (s .pre .1 .1 .0)
+    (c .if3 .left)
 
 pub take-last-spec : {M : Type 1} → statement M
 take-last-spec =
     tie.close
     (tie.spec
-    returns
-    returns-2
-    take-line-requires
-    same-length
-    same-length-2
-    same-length-3
-    same-length-4
-    returns-3
-    add-t20
-    same-length-5
-    same-length-6
-    same-length-7
-    same-length-8
-    returns-4)
+    headless
+    empty
+    (λ c κs. search needs)
+    (λ c. search needs)
+    (λ c. search needs)
+    (λ c. search needs)
+    (λ c. search needs)
+    refused
+    (λ c. search needs)
+    (λ c. search needs)
+    (λ c. search needs)
+    (λ c. search needs)
+    (λ c. search needs)
+    accepted)

@@ -1,19 +1,19 @@
--- `report_steps::core::feeding::to_front` meets its contract: the bytes before `i` are those from `from` on, and the others are as they were.
+-- `report_steps::core::feeding::to_front` meets its contract: the bytes before `i` are those from `from` on, and the
+-- others are as they were.
 -- Assumes nothing.
 use mathlib.Core.Path.{_≡_, refl, _∙_}
 use Prim.Native.Nat.{_+_, _-_, _≤_}
 use native.Mathlib.Omega.{arith}
 use lib.ListN.{length, take, drop, length-set}
 use borrow.Author.Needs.{needs}
-use Rattle.report_steps.proofs.Readings.{front-next}
+use Rattle.report_steps.proofs.Pieces.{front-next}
 use Rattle.report_steps.proofs.core.feeding.to_front.Statement.{statement}
 use Rattle.report_steps.proofs.core.feeding.to_front.Tie as tie
-use Rattle.report_steps.proofs.core.feeding.to_front.Reads as reads
-use Rattle.report_steps.proofs.core.feeding.to_front.Lts as lts
 
 abbrev Inv-loop : tie.InvT-loop
 Inv-loop bytes₀ from n i₀ bytes i =
-    (i ≤ n) × (length bytes ≡ length bytes₀) × (take i bytes ≡ take i (drop from bytes₀)) × (drop i bytes ≡ drop i bytes₀)
+    (i ≤ n) × (length bytes ≡ length bytes₀) × (take i bytes ≡ take i (drop from bytes₀))
+    × (drop i bytes ≡ drop i bytes₀)
 
 abbrev μ-loop : tie.MeasureT-loop
 μ-loop bytes₀ from n i₀ bytes i = n - i
@@ -22,7 +22,10 @@ loop-again : tie.Need-loop-again Inv-loop μ-loop
 loop-again c =
     let l = c .before .before .loop in
     let s = c .before .before .before in
-    let f = front-next (s .args .bytes .now) (l .bytes) (s .args .from) (s .args .n) (l .i) (s .pre) (omega arith) (l .inv .1) (l .inv .2) (l .inv .3) in
+    let a = s .args in
+    let f =
+    front-next (a .bytes .now) (l .bytes) (a .from) (a .n) (l .i) (s .pre) (omega arith) (l .inv .1) (l .inv .2)
+    (l .inv .3) in
     (search needs, search needs, f .0, f .1)
 
 returns : tie.Need-returns Inv-loop μ-loop

@@ -6,36 +6,50 @@ use lib.IntN.{ℤ, pos}
 use lib.Signed.{ltZ}
 use lib.ListN.{length}
 use mir.Syntax.{w64}
+use mir.Val.{toZ, ofZ}
 use mir.ValLaws.{toZ-ofZ}
 use borrow.Author.Needs.{needs}
 use Rattle.io.specs.Counts.{clamped}
-use Rattle.report_steps.proofs.Readings.{came-failed, came-end, came-bytes}
+use Rattle.report_steps.proofs.Pieces.{came-failed, came-end, came-bytes}
 use Rattle.report_steps.proofs.core.feeding.what_came.Statement.{statement}
 use Rattle.report_steps.proofs.core.feeding.what_came.Tie as tie
 
+-- the answer, as it was before it was stored
+got-is : (s : tie.Start) → toZ w64 (ofZ w64 (s .args .got)) ≡ s .args .got
+got-is s = toZ-ofZ w64 (s .args .got) (s .fits .got)
+
 below : (c : tie.Then1) → ltZ (c .before .before .args .got) (pos 0) ≡ true
-below c = let s = c .before .before in subst (λ (z : ℤ). ltZ z (pos 0) ≡ true) (toZ-ofZ w64 (s .args .got) (s .fits .got)) (c .if1 .taken)
+below c = subst (λ (z : ℤ). ltZ z (pos 0) ≡ true) (got-is (c .before .before)) (c .if1 .taken)
 
 above : (c : tie.Else1) → ltZ (c .before .before .args .got) (pos 0) ≡ false
-above c = let s = c .before .before in subst (λ (z : ℤ). ltZ z (pos 0) ≡ false) (toZ-ofZ w64 (s .args .got) (s .fits .got)) (c .if1 .left)
+above c = subst (λ (z : ℤ). ltZ z (pos 0) ≡ false) (got-is (c .before .before)) (c .if1 .left)
 
-counted : (c : tie.After-count) → c .count .result ≡ clamped (c .before .before .before .args .got) (length (c .before .before .before .args .room .now))
+counted : (c : tie.After-count) → let a = c .before .before .before .args in
+    c .count .result ≡ clamped (a .got) (length (a .room .now))
 counted c =
     let s = c .before .before .before in
-    subst (λ (z : ℤ). c .count .result ≡ clamped z (length (s .args .room .now))) (toZ-ofZ w64 (s .args .got) (s .fits .got)) (c .count .ensures .1)
+    subst (λ (z : ℤ). c .count .result ≡ clamped z (length (s .args .room .now))) (got-is s) (c .count .ensures .1)
 
-returns : tie.Need-returns
-returns c = let s = c .before .before in came-failed (s .args .got) (length (s .args .room .now)) (below c)
+failed : tie.Need-returns
+failed c = let a = c .before .before .args in came-failed (a .got) (length (a .room .now)) (below c)
 
-returns-2 : tie.Need-returns-2
-returns-2 c =
-    let s = c .before .before .before .before in
-    came-end (s .args .got) (length (s .args .room .now)) (c .before .count .result) (above (c .before .before)) (counted (c .before)) (c .if2 .taken)
+end : tie.Need-returns-2
+end c =
+    let count = c .before in
+    let a = count .before .before .before .args in
+    came-end (a .got) (length (a .room .now)) (count .count .result) (above (count .before)) (counted count)
+    (c .if2 .taken)
 
-returns-3 : tie.Need-returns-3
-returns-3 c =
-    let s = c .before .before .before .before in
-    came-bytes (s .args .got) (length (s .args .room .now)) (c .before .count .result) (above (c .before .before)) (counted (c .before)) (c .if2 .left)
+bytes : tie.Need-returns-3
+bytes c =
+    let count = c .before in
+    let a = count .before .before .before .args in
+    came-bytes (a .got) (length (a .room .now)) (count .count .result) (above (count .before)) (counted count)
+    (c .if2 .left)
 
 pub what-came-spec : {M : Type 1} → statement M
-what-came-spec = tie.close (tie.spec returns (λ c κs. search needs) returns-2 returns-3)
+what-came-spec = tie.close (tie.spec
+    failed
+    (λ c κs. search needs)
+    end
+    bytes)

@@ -1,0 +1,119 @@
+-- A piece of a register, the bytes of it that wait at the front of the buffer, and what a read answered.
+-- Assumes nothing.
+use mathlib.Core.Path.{_≡_, refl, sym, ap, _∙_}
+use mathlib.Core.Bool.{true, false}
+use mathlib.Core.List.{List, _++_}
+use Prim.Native.Nat.{ℕ, suc, _+_, _-_, _≤_, _<_, min}
+use native.Mathlib.Numerals.{add-one}
+use native.Mathlib.Omega.{arith}
+use lib.Dec.{eqb}
+use lib.IntN.{ℤ, pos, negsuc}
+use lib.Signed.{ltZ}
+use lib.ListN.{length, getD, set, take, drop, length-drop}
+use lib.Seq.{drop-at, drop-drop, length-take-le, take-add, drop-set-lt, getD-drop, take-suc, take-suc-set}
+use borrow.Author.Tests.{ne-eqb, eqb-true, ltb-true}
+use Rattle.text.specs.Line.{linesOf}
+use Rattle.text.proofs.Digits.{either}
+use Rattle.io.specs.Counts.{clamped}
+use Rattle.report_steps.specs.declared.core.feeding.Arrived.the-variants.{Bytes, End, Failed}
+use Rattle.report_steps.specs.Stream.{longestLine}
+use Rattle.report_steps.specs.Reading.{Reading, Onward, arrivedOf}
+use Rattle.report_steps.specs.InnerTaken.{LinesTaken, PieceTaken}
+use Rattle.report_steps.proofs.Readings.{stuck}
+use Rattle.report_steps.proofs.LongLines.{offAt, onward-long}
+
+-- one byte more is moved to the front
+pub front-next : (xs ys : List ℕ) (from n i : ℕ) → from + n ≤ length xs → i < n → length ys ≡ length xs
+    → take i ys ≡ take i (drop from xs) → drop i ys ≡ drop i xs
+    → (take (i + 1) (set ys i (getD ys (from + i) 0)) ≡ take (i + 1) (drop from xs))
+    × (drop (i + 1) (set ys i (getD ys (from + i) 0)) ≡ drop (i + 1) xs)
+front-next xs ys from n i fits l len front back =
+    let short : i < length ys = omega arith in
+    let inside : i < length (drop from xs) = omega (arith, length-drop from xs) in
+    let same : getD ys (from + i) 0 ≡ getD (drop from xs) i 0 =
+    let c : from + i ≡ i + from = omega arith in
+    ap (λ (k : ℕ). getD ys k 0) c ∙ sym (getD-drop i ys from 0)
+    ∙ ap (λ (q : List ℕ). getD q from 0) back ∙ getD-drop i xs from 0
+    ∙ ap (λ (k : ℕ). getD xs k 0) (sym c) ∙ sym (getD-drop from xs i 0) in (
+      rw (add-one i, take-suc-set ys i (getD ys (from + i) 0) short, front, same)
+          (sym (take-suc (drop from xs) i 0 inside)),
+      rw (add-one i, drop-set-lt (suc i) ys i (getD ys (from + i) 0) (omega arith)) (rest short),
+    )
+  where
+    rest : i < length ys → drop (suc i) ys ≡ drop (suc i) xs
+    rest short =
+        let a : drop 1 (drop i ys) ≡ drop (i + 1) ys = drop-drop 1 i ys in
+        let b : drop 1 (drop i xs) ≡ drop (i + 1) xs = drop-drop 1 i xs in
+        rw add-one at (sym a ∙ ap (drop 1) back ∙ b)
+
+-- where a reading is refused, no byte that follows counts
+onward-refused : {p : ℕ} {s s′ : Reading} {xs ys : List ℕ} (rest : List ℕ) → Onward p s xs s′ ys
+    → (s′ .refusal ≡ 0 → ⊥) → Onward p s xs s′ rest
+onward-refused {p} {s} {s′} {xs} {ys} rest f ne =
+    record { same = λ t. f .same t ∙ stuck p s′ (linesOf (ys ++ t)) ne ∙ sym (stuck p s′ (linesOf (rest ++ t)) ne) }
+
+pub piece-refused : {p at : ℕ} {s s′ : Reading} {xs : List ℕ} (rest : List ℕ) → LinesTaken p s xs at s′
+    → (s′ .refusal ≡ 0 → ⊥) → PieceTaken p s xs s′ rest
+piece-refused {p} {at} {s} {s′} {xs} rest k ne =
+    record { onward = onward-refused rest (k .onward) ne; waits = λ z. absurd (ne z); kept = k .kept }
+
+pub piece-long : {p at : ℕ} {s s′ : Reading} {xs : List ℕ} (rest : List ℕ) → LinesTaken p s xs at s′
+    → s′ .refusal ≡ 0 → longestLine < length (drop at xs)
+    → PieceTaken p s xs (offAt s′) rest
+piece-long {p} {at} {s} {s′} {xs} rest k z long =
+    record {
+      onward = record {
+        same = λ t. k .onward .same t ∙ onward-long p s′ (drop at xs) z (k .all z) long t
+            ∙ sym (stuck p (offAt s′) (linesOf (rest ++ t)) (λ e. absurd (omega arith)));
+      };
+      waits = λ e. absurd (omega arith);
+      kept = k .kept;
+    }
+
+pub piece-left : {p at : ℕ} {s s′ : Reading} {xs : List ℕ} (rest : List ℕ) → LinesTaken p s xs at s′
+    → s′ .refusal ≡ 0 → length (drop at xs) ≤ longestLine → rest ≡ drop at xs
+    → PieceTaken p s xs s′ rest
+piece-left {p} {at} {s} {s′} {xs} rest k z short e =
+    record {
+      onward = rw e (k .onward);
+      waits = λ q. rw e (record { unended = k .all z; short = short; least = k .least; most = k .most });
+      kept = k .kept;
+    }
+
+-- the bytes that wait, as the buffer has them
+pub waiting : (bytes : List ℕ) (at len : ℕ) → at ≤ len → len ≤ length bytes
+    → drop at (take len bytes) ≡ take (len - at) (drop at bytes)
+waiting bytes at len a l =
+    let e : len ≡ at + (len - at) = omega arith in
+    let n : length (take at bytes) ≡ at = length-take-le at bytes (omega arith) in
+    ap (λ (k : ℕ). drop at (take k bytes)) e ∙ ap (drop at) (take-add at (len - at) bytes)
+    ∙ drop-at (take at bytes) (take (len - at) (drop at bytes)) at n
+
+-- what a read answered
+pub came-failed : (z : ℤ) (room : ℕ) → ltZ z (pos 0) ≡ true → Failed ≡ arrivedOf z room
+came-failed (pos k) room e = absurd (omega (arith, ltb-true k 0 e))
+came-failed (negsuc k) room e = refl
+
+pub came-end : (z : ℤ) (room n : ℕ) → ltZ z (pos 0) ≡ false → n ≡ clamped z room → n ≡ 0 → End ≡ arrivedOf z room
+came-end (pos k) room n e q none = rw (← q, none) refl
+came-end (negsuc k) room n e q none = let never : _≡_ {A = ℕ} 0 1 = cc in absurd (omega arith)
+
+pub came-bytes : (z : ℤ) (room n : ℕ) → ltZ z (pos 0) ≡ false → n ≡ clamped z room → (n ≡ 0 → ⊥)
+    → Bytes n ≡ arrivedOf z room
+came-bytes (pos k) room n e q some = rw (← q, ne-eqb n 0 some) refl
+came-bytes (negsuc k) room n e q some = let never : _≡_ {A = ℕ} 0 1 = cc in absurd (omega arith)
+
+-- the end is taken for one only where the read answered 0, though there was room; and all bytes that it answered are
+-- taken
+pub arrived-end : (z : ℤ) (room : ℕ) → 1 ≤ room → arrivedOf z room ≡ End → z ≡ pos 0
+arrived-end (pos k) room h e =
+    either (eqb (min k room) 0)
+    (λ yes. let q : k ≡ 0 = omega (arith, eqb-true (min k room) 0 yes) in ap pos q)
+    (λ no. let f : Bytes (min k room) ≡ End = rw no at e in let never : _≡_ {A = ℕ} 0 1 = cc in absurd (omega arith))
+arrived-end (negsuc k) room h e = let never : _≡_ {A = ℕ} 0 1 = cc in absurd (omega arith)
+
+pub arrived-bytes : (k room n : ℕ) → k ≤ room → arrivedOf (pos k) room ≡ Bytes n → n ≡ k
+arrived-bytes k room n h e =
+    either (eqb (min k room) 0)
+    (λ yes. let f : End ≡ Bytes n = rw yes at e in let never : _≡_ {A = ℕ} 0 1 = cc in absurd (omega arith))
+    (λ no. let f : Bytes (min k room) ≡ Bytes n = rw no at e in let q : min k room ≡ n = cc in omega arith)
