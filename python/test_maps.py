@@ -75,7 +75,7 @@ class Gdal(unittest.TestCase):
     def test_a_grid_there_and_back(self):
         ours = read(os.path.join(TOP, "examples", "network.asc"))
         with folder_with_examples():
-            output("gdal_translate", "-q", "-ot", "Float64", "-a_srs", "EPSG:28992", "network.asc", "levels.tif")
+            output("gdal_translate", "-q", "-a_srs", "EPSG:28992", "network.asc", "levels.tif")
             os.remove("network.asc")
             run_sh(block("sh", "gdal_translate"))
             with self.assertRaises(Refused) as caught:
