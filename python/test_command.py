@@ -8,7 +8,7 @@ import tempfile
 import unittest
 
 import okubinrafo
-from okubinrafo import Account, Book, Group, LibraryMissing
+from okubinrafo import Account, Book, Group, LibraryMissing, Refused
 from okubinrafo.reports import explained
 
 HERE = os.path.dirname(os.path.abspath(__file__))
@@ -78,7 +78,7 @@ class Reports(Case):
         light = self.reports(0, below, LIMITS, HEADER + "0,G,150,S,07:00:00,999.99")
         self.assertIn("rows of 150 kg or less that were passed over: 1", light)
         whole = self.reports(1, "refused,10,0\r\n", LIMITS, HEADER + "1,G,151,S,07:00:00,")
-        self.assertIn("register.csv: refused 10: movements stand and none is computed", whole)
+        self.assertIn(f"register.csv: refused 10: {Refused(10).sentence}", whole)
 
     def test_refusals_name_their_line(self):
         row = "7,G,70000,S,07:00:00,1.00\r\n"

@@ -66,7 +66,8 @@ def _answer(asked):
         passed_over = _read_register(book, asked.register).passed_over
         text = _TEXTS[asked.command](book, limits)
     except Refused as refused:
-        reason = refused.__cause__.strerror if refused.__cause__ else refused.sentence
+        cause = refused.__cause__
+        reason = refused.sentence if cause is None else cause.strerror or cause
         where = f"{place}, line {refused.line}" if refused.line else place
         _say(f"okubinrafo: {where}: refused {refused.number}: {reason}")
         return f"refused,{refused.number},{refused.line or 0}\r\n", REFUSED
