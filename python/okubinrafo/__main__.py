@@ -77,7 +77,7 @@ def _answer(asked):
 
 
 def _read_limits(path):
-    """The limits of a file, which counts as empty where it can't be read. Their ranges are judged with an empty book."""
+    """The limits of a file, which counts as empty where it can't be read; their ranges are judged by an empty book."""
     try:
         with open(path, "rb") as file:
             content = file.read(_LIMITS_BYTES)
