@@ -14,6 +14,29 @@
 #include <stddef.h>
 #include <stdint.h>
 
+#define OKUBINRAFO_VERSION "0.2.0"
+
+/* The refusals by name: what a function returns where it doesn't return 0 (RULES, Refusal numbers). */
+enum {
+    OKUBINRAFO_OUT_OF_RANGE = 1,          /* type, kind, time or mass; or small with 6,000 kg or more */
+    OKUBINRAFO_TOO_LIGHT = 2,             /* 150 kg or less */
+    OKUBINRAFO_WRONG_IDENTITY = 3,        /* 0, or over 99,999 */
+    OKUBINRAFO_ALREADY_STANDS = 4,        /* the identity already stands */
+    OKUBINRAFO_DOES_NOT_STAND = 5,        /* the identity doesn't stand */
+    OKUBINRAFO_NO_UNUSED_ROW = 6,         /* the book is full */
+    OKUBINRAFO_WRONG_LEVELS = 7,          /* another number of levels than points, or one over 12,000 */
+    OKUBINRAFO_NO_LEVELS_HELD = 8,        /* nothing to take back */
+    OKUBINRAFO_NOT_SOUND = 9,             /* the book, its number of points, or the point asked for */
+    OKUBINRAFO_NONE_COMPUTED = 10,        /* movements stand and none is computed */
+    OKUBINRAFO_WRONG_DAYS = 11,           /* outside 1 to 366 */
+    OKUBINRAFO_WRONG_NETWORK = 12,        /* size, spacing, origin or count of values */
+    OKUBINRAFO_WRONG_NETWORK_LEVEL = 13,  /* over 15,000, or no data */
+    OKUBINRAFO_TOO_LITTLE_ROOM = 14,      /* less room is lent than the answer needs */
+    OKUBINRAFO_WRONG_LEVEL_ASKED = 15,    /* a limit or contour level outside its range */
+    OKUBINRAFO_REGISTER_OFF_LAYOUT = 16,  /* the text of a register, or a journal's numbers */
+    OKUBINRAFO_NETWORK_OFF_LAYOUT = 17    /* the text of a network */
+};
+
 #ifdef __cplusplus
 extern "C" {
 #endif

@@ -1,4 +1,4 @@
-"""Tests of the Python module over the library that OKUBINRAFO_LIB names: the rules' numbers, and each refusal."""
+"""Tests of the Python package over the library that OKUBINRAFO_LIB names: the rules' numbers, and each refusal."""
 
 import os
 import tempfile
@@ -56,6 +56,7 @@ class Books(Case):
         self.refused(11, book.load, 0, 367)
         self.refused(15, book.verdict, 0, 1, 12001)
         self.refused(9, Book(1, 9).load, 0, 1)
+        self.refused(9, Book(50_001, 1).load, 0, 1)
         self.assertEqual(list(book.rows()), before)
         full = Book(1, 1)
         full.enter(7, 0, 0, 0, 7000)
@@ -83,10 +84,12 @@ class Books(Case):
     def test_replay(self):
         book = Book(2, 1)
         entered, too_light = ("enter", 5, 0, 0, 0, 7000), ("enter", 5, 0, 0, 0, 1)
-        calls = [entered, ("supply", 5, [300]), ("take_back", 6), ("withdraw", 5), too_light, ("enter", 8, 2, 0, 0, 7000)]
+        supplied, withdrawn = ("supply", 5, [300]), ("withdraw", 5)
+        calls = [entered, supplied, ("take_back", 6), withdrawn, too_light, ("enter", 8, 2, 0, 0, 7000)]
         self.assertEqual(book.replay(calls), [0, 0, 5, 0, 2, 0])
         self.assertEqual(list(book.rows()), [(8, 14, None)])
         self.assertEqual(book.replay([]), [])
+        self.assertEqual(Book(50_000, 8).replay([("enter", 99_999, 0, 0, 0, 151)]), [0])
 
 
 class Registers(Case):
@@ -147,8 +150,10 @@ class Networks(Case):
         self.assertEqual(hill.contours(4500), [((2, 7, 3, 10), True)])
         text = "MULTILINESTRING ((50.000 100.000, 100.000 50.000, 150.000 100.000, 100.000 150.000, 50.000 100.000))"
         self.assertEqual(hill.print_contours(4500), text)
-        self.assertEqual(hill.lines(4500), [[(50.0, 100.0), (100.0, 50.0), (150.0, 100.0), (100.0, 150.0), (50.0, 100.0)]])
-        self.assertEqual((hill.contours(4000), hill.print_contours(4000), hill.lines(4000)), ([], "MULTILINESTRING EMPTY", []))
+        line = [(50.0, 100.0), (100.0, 50.0), (150.0, 100.0), (100.0, 150.0), (50.0, 100.0)]
+        self.assertEqual(hill.lines(4500), [line])
+        self.assertEqual(hill.print_contours(4000), "MULTILINESTRING EMPTY")
+        self.assertEqual((hill.contours(4000), hill.lines(4000)), ([], []))
 
     def test_crossings(self):
         hill = Network(HILL, 3, 3, 100, 1000, 2000)
@@ -167,10 +172,12 @@ class Networks(Case):
         self.assertTrue(board.print_contours(7500).startswith("MULTILINESTRING (("))
 
     def test_texts(self):
-        text = b"ncols 2\r\nnrows 3\r\nxllcenter 5\r\nyllcenter 6\r\ncellsize 100\r\n1.00 2.00\r\n3.00 4.00\r\n5.00 150.00\r\n"
+        header = b"ncols 2\r\nnrows 3\r\nxllcenter 5\r\nyllcenter 6\r\ncellsize 100\r\n"
+        text = header + b"1.00 2.00\r\n3.00 4.00\r\n5.00 150.00\r\n"
         network = okubinrafo.read_network(text)
         self.assertEqual(list(network.levels), [500, 15000, 300, 400, 100, 200])
-        self.assertEqual((network.columns, network.rows, network.spacing, network.west, network.south), (2, 3, 100, 5, 6))
+        self.assertEqual((network.columns, network.rows, network.spacing), (2, 3, 100))
+        self.assertEqual((network.west, network.south), (5, 6))
         self.assertEqual(network.write(), text)
         self.refused(17, okubinrafo.read_network, b"")
         self.refused(17, okubinrafo.read_network, text.replace(b"\r", b""))

@@ -1,0 +1,90 @@
+//! A book of movements: its calls, loads and verdicts.
+
+use crate::raw;
+use crate::refusal::{Answer, Refusal};
+
+/// Type, kind and period give this many groups: number 6·type + 3·kind + period.
+pub const GROUPS: usize = 18;
+const LOAD_NUMBERS: usize = 3 + 2 * GROUPS;
+
+/// A book: four columns that the caller lends, all zero at first. Rows: 1 to 50,000, as many as identities, groups and
+/// marks; levels has `points` (1 to 8) numbers a row.
+#[derive(Debug)]
+pub struct Book<'a> {
+    pub identities: &'a mut [u32],
+    pub groups: &'a mut [u32],
+    pub marks: &'a mut [u32],
+    pub levels: &'a mut [u32],
+    pub points: u32,
+}
+
+/// A load at a point.
+#[derive(Clone, Debug, PartialEq, Eq)]
+pub struct Load {
+    pub total: u64,
+    /// None: below zero.
+    pub level: Option<u64>,
+    /// V of each group.
+    pub computed: [u64; GROUPS],
+    /// U of each group.
+    pub missing: [u64; GROUPS],
+}
+
+/// Calls a function of the header with a book, to write to or to read, numbers, slices to read and slices to write to.
+macro_rules! with_book {
+    ($name:ident, $pointer:ident, $book:expr, [$($number:expr),*], [$($given:expr),*], [$($room:expr),*]) => {
+        // SAFETY: each slice is lent with its own length, and those that are written to are borrowed for that alone.
+        Refusal::of(unsafe {
+            raw::$name(
+                $book.identities.$pointer(), $book.identities.len(), $book.groups.$pointer(), $book.groups.len(),
+                $book.marks.$pointer(), $book.marks.len(), $book.levels.$pointer(), $book.levels.len(), $book.points,
+                $($number,)* $($given.as_ptr(), $given.len(),)* $($room.as_mut_ptr(), $room.len(),)*
+            )
+        })
+    };
+}
+
+impl Book<'_> {
+    /// Enters a movement, not computed. aircraft: 0 large, 1 small, 2 helicopter; kind: 0 start, 1 landing.
+    pub fn enter(&mut self, identity: u32, aircraft: u32, kind: u32, time: u32, mass: u32) -> Answer<()> {
+        with_book!(okubinrafo_enter, as_mut_ptr, self, [identity, aircraft, kind, time, mass], [], [])
+    }
+
+    /// Supplies all levels of a standing movement, which marks it computed.
+    pub fn supply(&mut self, identity: u32, given: &[u32]) -> Answer<()> {
+        with_book!(okubinrafo_supply, as_mut_ptr, self, [identity], [given], [])
+    }
+
+    /// Takes the levels of a movement back: it is no longer computed.
+    pub fn take_back(&mut self, identity: u32) -> Answer<()> {
+        with_book!(okubinrafo_take_back, as_mut_ptr, self, [identity], [], [])
+    }
+
+    /// Withdraws a movement: its room and its identity are free again.
+    pub fn withdraw(&mut self, identity: u32) -> Answer<()> {
+        with_book!(okubinrafo_withdraw, as_mut_ptr, self, [identity], [], [])
+    }
+
+    /// Makes the calls of a journal (include/okubinrafo.h); `answers` gets one number a call, 0 or its refusal.
+    pub fn replay(&mut self, journal: &[u32], answers: &mut [u32]) -> Answer<()> {
+        with_book!(okubinrafo_replay, as_mut_ptr, self, [], [journal], [answers])
+    }
+
+    /// The load at a point over a number of days.
+    pub fn load(&self, point: u32, days: u32) -> Answer<Load> {
+        let mut answer = [0; LOAD_NUMBERS];
+        with_book!(okubinrafo_load, as_ptr, self, [point, days], [], [answer])?;
+        let [total, given, level, counts @ ..] = answer;
+        let (computed, missing) = counts.split_at(GROUPS);
+        let groups = |part: &[u64]| part.try_into().expect("a number a group");
+        let level = (given == 1).then_some(level);
+        Ok(Load { total, level, computed: groups(computed), missing: groups(missing) })
+    }
+
+    /// Whether the level at a point is over a limit.
+    pub fn verdict(&self, point: u32, days: u32, limit: u32) -> Answer<bool> {
+        let mut answer = [0];
+        with_book!(okubinrafo_verdict, as_ptr, self, [point, days, limit], [], [answer])?;
+        Ok(answer == [1])
+    }
+}

@@ -1,0 +1,84 @@
+//! Refusals by their numbers and names.
+
+use std::fmt;
+
+/// Why a call was refused: a number of the rules (docs/RULES.md, Refusal numbers).
+#[derive(Clone, Copy, Debug, PartialEq, Eq, Hash)]
+pub struct Refusal(pub u32);
+
+pub type Answer<T> = Result<T, Refusal>;
+
+macro_rules! refusals {
+    ($($name:ident = $number:literal, $reason:literal;)*) => {
+        impl Refusal {
+            $(#[doc = $reason] pub const $name: Refusal = Refusal($number);)*
+            /// Every refusal with its name.
+            pub const ALL: &'static [(&'static str, Refusal)] = &[$((stringify!($name), Refusal::$name)),*];
+        }
+    };
+}
+
+refusals! {
+    OUT_OF_RANGE = 1, "type, kind, time or mass is outside its range, or small with 6,000 kg or more";
+    TOO_LIGHT = 2, "the mass is 150 kg or less";
+    WRONG_IDENTITY = 3, "the identity is 0 or over 99,999";
+    ALREADY_STANDS = 4, "the identity already stands";
+    DOES_NOT_STAND = 5, "the identity doesn't stand";
+    NO_UNUSED_ROW = 6, "the book is full";
+    WRONG_LEVELS = 7, "another number of levels than points, or one over 12,000";
+    NO_LEVELS_HELD = 8, "there are no levels to take back";
+    NOT_SOUND = 9, "the book, its number of points, or the point asked for";
+    NONE_COMPUTED = 10, "movements stand and none is computed";
+    WRONG_DAYS = 11, "the days are outside 1 to 366";
+    WRONG_NETWORK = 12, "size, spacing, origin or count of values of a network";
+    WRONG_NETWORK_LEVEL = 13, "a network level is over 15,000 or no data";
+    TOO_LITTLE_ROOM = 14, "less room is lent than the answer needs";
+    WRONG_LEVEL_ASKED = 15, "a limit or contour level is outside its range";
+    REGISTER_OFF_LAYOUT = 16, "the text of a register, or a journal's numbers";
+    NETWORK_OFF_LAYOUT = 17, "the text of a network";
+}
+
+impl Refusal {
+    /// What the library returned as an answer.
+    pub(crate) fn of(number: u32) -> Answer<()> {
+        match number {
+            0 => Ok(()),
+            number => Err(Refusal(number)),
+        }
+    }
+}
+
+impl fmt::Display for Refusal {
+    fn fmt(&self, to: &mut fmt::Formatter<'_>) -> fmt::Result {
+        match Refusal::ALL.iter().find(|(_, refusal)| refusal == self) {
+            Some((name, _)) => write!(to, "refused ({}): {}", self.0, name.to_lowercase().replace('_', " ")),
+            None => write!(to, "refused ({})", self.0),
+        }
+    }
+}
+
+impl std::error::Error for Refusal {}
+
+#[cfg(test)]
+mod tests {
+    use super::*;
+
+    #[test]
+    fn names_and_numbers_are_the_headers() {
+        let named = |line: &'static str| {
+            let (name, number) = line.trim().strip_prefix("OKUBINRAFO_")?.split_once(" = ")?;
+            let digits = number.find(|byte: char| !byte.is_ascii_digit()).unwrap_or(number.len());
+            Some((name, Refusal(number[..digits].parse().ok()?)))
+        };
+        let header: Vec<_> = include_str!("../../include/okubinrafo.h").lines().filter_map(named).collect();
+        assert_eq!(header, Refusal::ALL);
+        assert_eq!(header.last().map(|(_, refusal)| refusal.0), Some(header.len() as u32));
+        assert!(header.len() >= 17);
+    }
+
+    #[test]
+    fn a_refusal_says_its_number_and_name() {
+        assert_eq!(Refusal::ALREADY_STANDS.to_string(), "refused (4): already stands");
+        assert_eq!(Refusal(99).to_string(), "refused (99)");
+    }
+}

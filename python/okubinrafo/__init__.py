@@ -1,0 +1,20 @@
+"""Okubinrafo from Python: the yearly noise load of regional airfields, by the proved library.
+
+Everything here is the shared library's answer; this package only lends it memory. Levels are whole hundredths of a dB,
+times are seconds of the local day, points are counted from 0. A refusal is the exception Refused with the rules'
+number. The library is the file that OKUBINRAFO_LIB names, or libokubinrafo.so beside this file.
+"""
+
+from .books import DAY, EVENING, HELICOPTER, LANDING, LARGE, NIGHT, SMALL, START, Account, Book, Group, Load
+from .library import LibraryMissing
+from .networks import Contour, Crossing, Network, read_network
+from .refusals import Refused
+from .registers import Limits, Row, read_limits, read_row, write_row
+
+__version__ = "0.2.0"
+__all__ = [
+    *("LARGE", "SMALL", "HELICOPTER", "START", "LANDING", "DAY", "EVENING", "NIGHT"),
+    *("Account", "Book", "Contour", "Crossing", "Group", "Limits", "Load", "Network", "Row"),
+    *("LibraryMissing", "Refused"),
+    *("read_limits", "read_network", "read_row", "write_row"),
+]
