@@ -11,3 +11,6 @@ pub mod Spelling
 pub mod Refusing
 pub mod LimitsExact
 pub mod Orders
+pub mod WholeText
+pub mod RowExact
+pub mod FullBook

@@ -81,7 +81,7 @@ pub spelled-free : (d : ℕ) → d < 46 → countOf d (bytes "refused") ≡ 0
 unfolding atLeast
 spelled-free d low = least-free 46 d low (bytes "refused") refl
 
-fields-free : (d : ℕ) → d < 46 → (point limit : ℕ) (load : Load) → Free d (pointFields point limit load)
+pub fields-free : (d : ℕ) → d < 46 → (point limit : ℕ) (load : Load) → Free d (pointFields point limit load)
 fields-free d low point limit load zero h = shown-free d low 20 (point + 1)
 fields-free d low point limit load (suc zero) h = level-text-free d low (load .level)
 fields-free d low point limit load (suc (suc zero)) h = level-free d low limit

@@ -40,7 +40,7 @@ use Rattle.report_rules.proofs.Printed.{lines-ended, header-unbroken, f
 use Rattle.report_rules.proofs.Counting.{computed-printed, missing-printed, both}
 
 -- where nothing is refused, the text is the header and a line for each point
-book-points : (l : Limits) (b : Book) → bookRefusal l b ≡ 0 → bookText l b ≡ pointsText l b
+pub book-points : (l : Limits) (b : Book) → bookRefusal l b ≡ 0 → bookText l b ≡ pointsText l b
 unfolding bookText
 book-points l b z = rw z refl
 
@@ -53,7 +53,7 @@ points-free l b (suc i) h =
     ap (countOf 13) (listing-at (pointLine l b) [] (l .points) i less)
     ∙ line-unbroken i (getD (l .limits) i 0) (bookLoad (l .points) i b (l .days))
 
-points-lines : (l : Limits) (b : Book) → linesOf (pointsText l b) ≡ headerLine ∷ listing (pointLine l b) (l .points)
+pub points-lines : (l : Limits) (b : Book) → linesOf (pointsText l b) ≡ headerLine ∷ listing (pointLine l b) (l .points)
 unfolding pointsText
 points-lines l b = lines-ended (headerLine ∷ listing (pointLine l b) (l .points)) (points-free l b)
 

@@ -20,7 +20,7 @@ use Rattle.register.specs.Cell.{rowCell, cellAt, gotAt, valueAt, blankAt, blank
 use Rattle.register.specs.Row.{eightFrom, fieldsOf, rowLayout, layoutOf}
 use Rattle.register.specs.declared.cell.Table.the-variants.{Register}
 use Rattle.register.specs.declared.row.Layout.{Layout}
-use Rattle.register.proofs.Columns.{cell-exact, shown-level}
+use Rattle.register.proofs.Columns.{cell-exact, shown-level, top-level}
 use Rattle.register.proofs.Rows.{layout-points}
 use Rattle.register.proofs.Converse.{OnLayout, got-value, marked}
 use Rattle.report_rules.specs.Spelled.{column, RowSpelled}
@@ -97,6 +97,22 @@ module _ (p : ℕ) (row : List ℕ) (e : layoutOf p row .refusal ≡ 0) where
       let m : mark ≡ 0 = sym mark-is ∙ none in
       let b : eqb (length (fieldOf 44 (5 + i) (bareLine row))) 0 ≡ true = on .blanks i h ∙ rw m refl in
       nothing (fieldOf 44 (5 + i) (bareLine row)) (eqb-true (length (fieldOf 44 (5 + i) (bareLine row))) 0 b)
+
+  -- identity and mass have up to seven digits, a level up to 999.99
+  pub value-below : (layoutOf p row .fields .identity < 10000000) × (layoutOf p row .fields .mass < 10000000)
+  unfolding rowLayout topOf
+  value-below =
+      let in0 : 0 < 5 + p = omega arith in
+      let in2 : 2 < 5 + p = omega arith in (
+        rw (field (λ l. l .fields .identity) 0 (omega arith) refl) (text 0 in0 (head 0 (omega arith)) .1),
+        rw (field (λ l. l .fields .mass) 2 (omega arith) refl) (text 2 in2 (head 2 (omega arith)) .1),
+      )
+
+  pub level-below : layoutOf p row .fields .computed ≡ 1 → (i : ℕ) → i < p → getD (layoutOf p row .levels) i 0 < 100000
+  level-below one i h =
+      let m : mark ≡ 1 = sym mark-is ∙ one in
+      let b : blankCell (5 + i) (fieldOf 44 (5 + i) (bareLine row)) ≡ false = rw (le-leb 5 (5 + i) (omega arith)) (on .blanks i h ∙ rw m refl) in
+      rw (level i h, ← top-level (5 + i) (omega arith)) (text (5 + i) (omega arith) b .1)
 
   pub row-spelled : RowSpelled p row
   unfolding rowLayout shownCell topOf

@@ -4,3 +4,6 @@ pub mod Spelled
 pub mod Refused
 pub mod LimitsSpelled
 pub mod RowOrders
+pub mod WholeText
+pub mod RowExact
+pub mod FullBook

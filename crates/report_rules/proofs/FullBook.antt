@@ -1,0 +1,69 @@
+-- The report's book holds 2,000 flights, and one more is refused 6.
+-- Assumes nothing.
+use mathlib.Core.Path.{_≡_, refl, sym, ap, _∙_}
+use mathlib.Core.Bool.{true, false}
+use mathlib.Core.List.{List}
+use Prim.Native.Nat.{ℕ, _+_, _≤_, _<_}
+use native.Mathlib.Omega.{arith}
+use lib.Dec.{eqb, ltb}
+use lib.ListN.{length}
+use borrow.Author.Tests.{eq-eqb, le-leb, lt-ltb, le-ltb}
+use Rattle.movement.specs.Limits.{maxPoints}
+use Rattle.movement.proofs.Ranges.{ranges-hold}
+use Rattle.book_rules.specs.Columns.{Book}
+use Rattle.book_rules.specs.Calls.{refusal}
+use Rattle.book_rules.specs.History.{Movement, Made, made, emptyBook, booked, movements, standing, sizesFit, standingRefusal, listRefusal}
+use Rattle.book_rules.proofs.History.{told-all, history-refusal}
+use Rattle.register.specs.Row.{layoutOf}
+use Rattle.report_steps.specs.Intake.{entering}
+use Rattle.report_steps.specs.Reading.{lineRefusal, registered}
+use Rattle.report_steps.specs.Booking.{registerCalls}
+use Rattle.report_steps.proofs.Bookings.{register-booked}
+use Rattle.report_rules.specs.Report.{bookRows}
+use Rattle.report_rules.specs.Flights.{rowsIn, flightsIn, bookIn, standingIn}
+use Rattle.report_rules.specs.FullBook.{Fresh, TwoThousand}
+use Rattle.report_rules.proofs.Flights.{all-stand}
+use Rattle.report_rules.proofs.Refusing.{row-refused}
+
+module _ (p : ℕ) (register : List ℕ) (some : 1 ≤ p) (few : p ≤ 8) (accepted : registered p (emptyBook p bookRows) register .refusal ≡ 0) where
+  abbrev cs : List Made
+  cs = registerCalls p (emptyBook p bookRows) register
+
+  -- *enter* is refused by the list of flights
+  listed : (row : List ℕ) → refusal p (bookIn p register) (entering (layoutOf p row)) ≡ listRefusal p bookRows (standingIn p register) (made p (entering (layoutOf p row)))
+  listed row =
+      ap (λ (b : Book). refusal p b (entering (layoutOf p row))) (register-booked p (emptyBook p bookRows) register)
+      ∙ history-refusal p bookRows cs (made p (entering (layoutOf p row)))
+
+  -- where nothing else refuses it, by whether there is room
+  no-room : (row : List ℕ) → Fresh p register row → ltb (length (standingIn p register)) 2000 ≡ false
+      → listRefusal p bookRows (standingIn p register) (made p (entering (layoutOf p row))) ≡ 6
+  unfolding listRefusal standingRefusal sizesFit
+  no-room row f e =
+      let x = layoutOf p row .fields in
+      let moved = ranges-hold .accepted (x .ty) (x .kind) (x .time) (x .mass) .1 (f .range, f .heavy) in
+      let named = ranges-hold .identity (x .identity) .1 (f .identity) in
+      rw (eq-eqb p p refl, le-leb 1 p some, le-leb p maxPoints few, moved, named, f .new, e) refl
+
+  some-room : (row : List ℕ) → Fresh p register row → ltb (length (standingIn p register)) 2000 ≡ true
+      → listRefusal p bookRows (standingIn p register) (made p (entering (layoutOf p row))) ≡ 0
+  unfolding listRefusal standingRefusal sizesFit
+  some-room row f e =
+      let x = layoutOf p row .fields in
+      let moved = ranges-hold .accepted (x .ty) (x .kind) (x .time) (x .mass) .1 (f .range, f .heavy) in
+      let named = ranges-hold .identity (x .identity) .1 (f .identity) in
+      rw (eq-eqb p p refl, le-leb 1 p some, le-leb p maxPoints few, moved, named, f .new, e) refl
+
+  pub two-thousand : TwoThousand p register
+  two-thousand =
+      let stand = all-stand p register accepted .count in
+      let told = told-all p bookRows cs in
+      record {
+        most = omega (arith, stand, told .same);
+        full = λ n row ne f two.
+            let six = listed row ∙ no-room row f (le-ltb (length (standingIn p register)) 2000 (omega (arith, stand))) in
+            row-refused p n (bookIn p register) row ne .entered (f .read) (λ z. absurd (omega arith)) (λ z. absurd (omega arith)) ∙ six;
+        room = λ n row ne f less.
+            let none = listed row ∙ some-room row f (lt-ltb (length (standingIn p register)) 2000 (omega (arith, stand))) in
+            row-refused p n (bookIn p register) row ne .blank (f .read) none (f .bare);
+      }
