@@ -1,6 +1,8 @@
-// Runs contours of small networks and of one of full size, and prints each answer beside what it should be: edges, counts, closed marks, or the refusal.
+// Runs contours of small networks and of one of full size, and prints each answer beside what it should be: edges,
+// counts, closed marks, or the refusal.
 use libc::STDOUT_FILENO;
 use network::Frame;
+use network::limits::MAX_EDGES;
 
 fn main() {
     small_networks();
@@ -19,6 +21,14 @@ fn frame(columns: u32, rows: u32) -> Frame {
         west: 0,
         south: 0,
     }
+}
+
+// Four by three points: a peak, and the north-east corner in.
+fn peak() -> [u32; 12] {
+    let mut levels = [4000u32; 12];
+    levels[5] = 4016;
+    levels[11] = 4016;
+    levels
 }
 
 fn small_networks() {
@@ -44,22 +54,9 @@ fn small_networks() {
     show(&border, frame(3, 3), 4500, b"8 7 6 | 3 | 0");
     // no contour
     show(&hill, frame(3, 3), 4000, b"| |");
-    // a peak, and the north-east corner in: the open contour first, though the closed one has lower edges
-    let peak = [
-        4000u32,
-        4000,
-        4000,
-        4000,
-        4000,
-        4016,
-        4000,
-        4000,
-        4000,
-        4000,
-        4000,
-        4016,
-    ];
-    show(&peak, frame(4, 3), 4001, b"8 16 3 10 4 14 | 2 4 | 0 1");
+    // the open contour first, though the closed one has lower edges
+    let levels = peak();
+    show(&levels, frame(4, 3), 4001, b"8 16 3 10 4 14 | 2 4 | 0 1");
 }
 
 // A saddle whose corners add up to 100.00, at levels on both sides of a quarter of that, and at it.
@@ -87,43 +84,26 @@ fn refusals() {
     show(&level, frame(2, 2), 0, b"refused 15");
     show(&level, frame(2, 2), 15001, b"refused 15");
     // seven contours, and room for six
-    let stripes = [
-        5000u32,
-        4000,
-        5000,
-        4000,
-        5000,
-        4000,
-        5000,
-        4000,
-        5000,
-        4000,
-        5000,
-        4000,
-        5000,
-        4000,
-        5000,
-        4000,
-    ];
-    show(&stripes, frame(8, 2), 4500, b"refused 14");
+    show(&stripes(), frame(8, 2), 4500, b"refused 14");
+}
+
+// Eight by two points, in turn 50.00 and 40.00.
+fn stripes() -> [u32; 16] {
+    let mut levels = [4000u32; 16];
+    levels[0] = 5000;
+    levels[2] = 5000;
+    levels[4] = 5000;
+    levels[6] = 5000;
+    levels[8] = 5000;
+    levels[10] = 5000;
+    levels[12] = 5000;
+    levels[14] = 5000;
+    levels
 }
 
 // Printed contours: two lines, a south-west point unlike each way, and places at half a millimetre, which round up.
 fn prints() {
-    let peak = [
-        4000u32,
-        4000,
-        4000,
-        4000,
-        4000,
-        4016,
-        4000,
-        4000,
-        4000,
-        4000,
-        4000,
-        4016,
-    ];
+    let levels = peak();
     let near = Frame {
         columns: 4,
         rows: 3,
@@ -132,22 +112,24 @@ fn prints() {
         south: 2000,
     };
     show_text(
-        &peak,
+        &levels,
         near,
         4001,
-        b"MULTILINESTRING ((1002.063 2002.000, 1003.000 2001.063), (1000.063 2001.000, 1001.000 2000.063, 1001.938 2001.000, 1001.000 2001.938, 1000.063 2001.000))",
+        b"MULTILINESTRING ((1002.063 2002.000, 1003.000 2001.063), ",
+        b"(1000.063 2001.000, 1001.000 2000.063, 1001.938 2001.000, 1001.000 2001.938, 1000.063 2001.000))",
     );
-    show_text(&peak, near, 4000, b"MULTILINESTRING EMPTY");
+    show_text(&levels, near, 4000, b"MULTILINESTRING ", b"EMPTY");
 }
 
-// Prints the text of one network's contours, and on the next line what it should be.
-fn show_text(levels: &[u32], frame: Frame, v: u32, right: &[u8]) {
+// Prints the text of one network's contours, and on the next line what it should be, given in two parts.
+fn show_text(levels: &[u32], frame: Frame, v: u32, first: &[u8], second: &[u8]) {
     let mut text = [0u8; 256];
     let mut size = [0u32; 1];
     wkt::print_contours(levels, frame, v, &mut text, &mut size);
     show_front(&text, count(size[0]));
     io::write_all(STDOUT_FILENO, b"\n");
-    io::write_all(STDOUT_FILENO, right);
+    io::write_all(STDOUT_FILENO, first);
+    io::write_all(STDOUT_FILENO, second);
     io::write_all(STDOUT_FILENO, b"\n");
 }
 
@@ -218,14 +200,14 @@ fn wide(x: u32) -> u64 {
     x as u64
 }
 
-// A checkerboard of 256 by 256 points, whose every square is a saddle that cuts off its in corners: an open contour around each border
-// point that is in, and a closed one around each inner one.
+// A checkerboard of 256 by 256 points, whose every square is a saddle that cuts off its in corners: an open contour
+// around each border point that is in, and a closed one around each inner one.
 fn full_size() {
     let mut levels = [4000u32; 65536];
     checker(&mut levels);
-    let mut edges = [9u32; 130560];
-    let mut counts = [9u32; 130560];
-    let mut closed = [9u32; 130560];
+    let mut edges = [9u32; MAX_EDGES];
+    let mut counts = [9u32; MAX_EDGES];
+    let mut closed = [9u32; MAX_EDGES];
     let mut sizes = [0u32; 2];
     contour::contours(
         &levels,

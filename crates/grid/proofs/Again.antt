@@ -228,8 +228,8 @@ module _ (s : List ℕ) (headers room : ℕ) (read : readRefusal s headers room 
       let f = frameOf lines in
       let last = refuse 14 (leb headerSize headers && leb (length levels) room) 0 in
       let g = refuse 13 (all (rowGiven (noDataOf lines)) (rowsOf lines)) last in
-      let a = refuse-none 17 (eqb (faultLine lines) 0) (refuse 12 (rowsFit f (rowsOf lines)) (checked levels f g)) (omega arith) read in
-      let b = refuse-none 12 (rowsFit f (rowsOf lines)) (checked levels f g) (omega arith) (a .1) in
+      let a = refuse-none 17 (eqb (faultLine lines) 0) (refuse 12 (rowsFit f (rowsOf lines)) (checked maxNetworkLevel levels f g)) (omega arith) read in
+      let b = refuse-none 12 (rowsFit f (rowsOf lines)) (checked maxNetworkLevel levels f g) (omega arith) (a .1) in
       let c = refuse-none 12 (sided f && placed f && filled levels f) (refuse 13 (allWithin maxNetworkLevel levels) g) (omega arith) (b .1) in
       let d = refuse-none 13 (allWithin maxNetworkLevel levels) g (omega arith) (c .1) in
       let e = refuse-none 13 (all (rowGiven (noDataOf lines)) (rowsOf lines)) last (omega arith) (d .1) in

@@ -16,6 +16,7 @@ use Rattle.text.specs.declared.number.Number.the-variants.{Got}
 use Rattle.text.proofs.Digits.{either}
 use Rattle.refusal.proofs.Laws.{and-left, and-right}
 use Rattle.network.specs.Edges.{Checked}
+use Rattle.network.specs.Limits.{maxNetworkLevel}
 use Rattle.network.specs.Refusals.{networkRefusal}
 use Rattle.network.specs.declared.Frame.{Frame}
 use Rattle.network.proofs.Refusals.{not-refused, checked-on, checked-off}
@@ -216,7 +217,7 @@ module _ (levels : List ℕ) (f : Frame) (none : networkRefusal levels f ≡ 0) 
   unfolding linesRefusal
   refusal-back headers levelRoom h l =
       rw (lines-back, fault-lines, rows-lines, frame-lines, data-lines, levels-lines, fit-lines)
-      (checked-on levels f _ none
+      (checked-on maxNetworkLevel levels f _ none
       ∙ rw (rows-given (f .columns) levels wide (checks .quiet) (f .rows) held, le-leb headerSize headers h, le-leb (length levels) levelRoom l))
 
 -- what a call of `write_network` answers and leaves, given to a call of `read_network`, is the same frame and the same levels
@@ -231,7 +232,7 @@ network-back levels f text sizes headers into w h l =
     let none : networkRefusal levels f ≡ 0 =
     either (eqb (networkRefusal levels f) 0)
     (λ yes. eqb-true _ 0 yes)
-    (λ off. sym (checked-off levels f _ (eqb-false (networkRefusal levels f) 0 off)) ∙ w) in
+    (λ off. sym (checked-off maxNetworkLevel levels f _ (eqb-false (networkRefusal levels f) 0 off)) ∙ w) in
     let on = eq-eqb (writeRefusal levels f (length text) (length sizes)) 0 w in
     let same : take (getD (sizeAfter levels f text sizes) 0 0) (textAfter levels f text sizes) ≡ show =
     rw on (take-at show (drop (length show) text) (length show) refl) in

@@ -300,20 +300,20 @@ module _ (levels : List ℕ) (f : Frame) (text sizes : List ℕ) where
 
   -- refused as a network, for the room of its text or of its size, and written
   pub network-refused : (n : ℕ) → n ≡ networkRefusal levels f → (n ≡ 0 → ⊥) → Outcome n text sizes
-  network-refused n e h = refused n (checked-off levels f _ (λ z. h (e ∙ z)) ∙ sym e) h
+  network-refused n e h = refused n (checked-off maxNetworkLevel levels f _ (λ z. h (e ∙ z)) ∙ sym e) h
 
   module _ (none : networkRefusal levels f ≡ 0) where
     pub text-refused : length text < length (showNetwork levels f) → Outcome 14 text sizes
-    text-refused h = refused 14 (checked-on levels f _ none ∙ rw (lt-leb (length (showNetwork levels f)) (length text) h)) (λ z. omega arith)
+    text-refused h = refused 14 (checked-on maxNetworkLevel levels f _ none ∙ rw (lt-leb (length (showNetwork levels f)) (length text) h)) (λ z. omega arith)
 
     pub size-refused : length (showNetwork levels f) ≤ length text → length sizes < 1 → Outcome 14 text sizes
     size-refused h l =
-        refused 14 (checked-on levels f _ none ∙ rw (le-leb (length (showNetwork levels f)) (length text) h, lt-leb 1 (length sizes) l)) (λ z. omega arith)
+        refused 14 (checked-on maxNetworkLevel levels f _ none ∙ rw (le-leb (length (showNetwork levels f)) (length text) h, lt-leb 1 (length sizes) l)) (λ z. omega arith)
 
     pub written : length (showNetwork levels f) ≤ length text → 1 ≤ length sizes
         → Outcome 0 (over (showNetwork levels f) text) (over (length (showNetwork levels f) ∷ []) sizes)
     written h l =
         let e : writeRefusal levels f (length text) (length sizes) ≡ 0 =
-        checked-on levels f _ none ∙ rw (le-leb (length (showNetwork levels f)) (length text) h, le-leb 1 (length sizes) l) in
+        checked-on maxNetworkLevel levels f _ none ∙ rw (le-leb (length (showNetwork levels f)) (length text) h, le-leb 1 (length sizes) l) in
         let on = eq-eqb (writeRefusal levels f (length text) (length sizes)) 0 e in
         (sym e, rw on, rw on)

@@ -7,6 +7,7 @@ use lib.ListN.{length, drop}
 use lib.Dec.{eqb, leb}
 use Rattle.text.specs.Line.{linesOf}
 use Rattle.refusal.specs.Refuse.{refuse}
+use Rattle.network.specs.Limits.{maxNetworkLevel}
 use Rattle.network.specs.Refusals.{checked}
 use Rattle.network.specs.declared.Frame.{Frame}
 use Rattle.grid.specs.Row.{all, rowGiven, levelsOf}
@@ -31,7 +32,7 @@ unfoldable pub linesRefusal : List (List ℕ) → ℕ → ℕ → ℕ
 linesRefusal lines headers room =
     refuse 17 (eqb (faultLine lines) 0)
     (refuse 12 (rowsFit (frameOf lines) (rowsOf lines))
-    (checked (levelsOf (rowsOf lines)) (frameOf lines)
+    (checked maxNetworkLevel (levelsOf (rowsOf lines)) (frameOf lines)
     (refuse 13 (all (rowGiven (noDataOf lines)) (rowsOf lines))
     (refuse 14 (leb headerSize headers && leb (length (levelsOf (rowsOf lines))) room) 0))))
 

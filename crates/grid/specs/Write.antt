@@ -8,6 +8,7 @@ use lib.Dec.{eqb, leb}
 use Rattle.text.specs.Number.{showWhole, showLevel}
 use Rattle.text.specs.Field.{joinedBy}
 use Rattle.refusal.specs.Refuse.{refuse}
+use Rattle.network.specs.Limits.{maxNetworkLevel}
 use Rattle.network.specs.Refusals.{checked}
 use Rattle.network.specs.declared.Frame.{Frame}
 use Rattle.grid.specs.File.{ncols, nrows, xllcenter, yllcenter, cellsize}
@@ -53,7 +54,7 @@ showNetwork levels f = textOf (networkLines levels f)
 -- what it is refused with, or 0, where room is lent for so many bytes and sizes
 abbrev pub writeRefusal : List ℕ → Frame → ℕ → ℕ → ℕ
 writeRefusal levels f room sizes =
-    checked levels f (refuse 14 (leb (length (showNetwork levels f)) room && leb 1 sizes) 0)
+    checked maxNetworkLevel levels f (refuse 14 (leb (length (showNetwork levels f)) room && leb 1 sizes) 0)
 
 abbrev pub ifWritten : List ℕ → Frame → List ℕ → List ℕ → List ℕ → List ℕ → List ℕ
 ifWritten levels f text sizes answer old =

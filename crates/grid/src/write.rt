@@ -2,6 +2,7 @@
 use crate::put::put_network;
 use crate::size::text_size;
 use network::Frame;
+use network::limits::MAX_NETWORK_LEVEL;
 use network::refusal;
 ghost use mathlib.Core.Path.{_≡_};
 ghost use lib.ListN.{length};
@@ -13,7 +14,7 @@ pub fn write_network(levels: &[u32], frame: Frame, text: &mut [u8], size: &mut [
         × (now (text .exit) ≡ textAfter (now (levels .entry)) frame (now (text .entry)) (now (size .entry)))
         × (now (size .exit) ≡ sizeAfter (now (levels .entry)) frame (now (text .entry)) (now (size .entry))) ⌝ }
 {
-    let why = refusal(levels, frame);
+    let why = refusal(levels, frame, MAX_NETWORK_LEVEL);
     if why != 0 {
         return why;
     }

@@ -15,6 +15,7 @@ use Rattle.text.specs.Same.{sameText}
 use Rattle.text.specs.Spelled.{bytes}
 use Rattle.text.proofs.Digits.{either}
 use Rattle.network.specs.Edges.{Checked}
+use Rattle.network.specs.Limits.{maxNetworkLevel}
 use Rattle.network.specs.Refusals.{networkRefusal}
 use Rattle.network.specs.declared.Frame.{Frame}
 use Rattle.network.proofs.Refusals.{not-refused, checked-off}
@@ -100,7 +101,7 @@ written-left levels f text sizes w =
     let none : networkRefusal levels f ≡ 0 =
     either (eqb (networkRefusal levels f) 0)
     (λ yes. eqb-true (networkRefusal levels f) 0 yes)
-    (λ off. sym (checked-off levels f _ (eqb-false (networkRefusal levels f) 0 off)) ∙ w) in
+    (λ off. sym (checked-off maxNetworkLevel levels f _ (eqb-false (networkRefusal levels f) 0 off)) ∙ w) in
     let on = eq-eqb (writeRefusal levels f (length text) (length sizes)) 0 w in
     let same : take (getD (sizeAfter levels f text sizes) 0 0) (textAfter levels f text sizes) ≡ show =
     rw on (take-at show (drop (length show) text) (length show) refl) in

@@ -1,5 +1,5 @@
-// The cases of the rules that run in no other program: crossings and map points, on the hill that they work by hand. Each line of output has an
-// answer and then what it should be.
+// The cases of the rules that run in no other program: crossings and map points, on the hill that they work by hand.
+// Each line of output has an answer and then what it should be.
 use libc::STDOUT_FILENO;
 use mapping::Asked;
 use mapping::Mapped;
