@@ -17,13 +17,14 @@ use Rattle.book_rules.specs.Columns.{Book, bookOf, sound}
 use Rattle.book_rules.specs.History.{emptyBook}
 use Rattle.report_steps.specs.declared.core.feeding.Arrived.the-variants.{Bytes, End, Failed}
 use Rattle.report_steps.specs.Stream.{longestLine}
-use Rattle.report_steps.specs.Reading.{Reading, readingAt, opening, closing, registered, readOn, Onward, arrivedOf}
+use Rattle.report_steps.specs.Reading.{Reading, readingAt, offAt, opening, closing, registered, readOn}
+use Rattle.report_steps.specs.Reading.{Onward, arrivedOf}
 use Rattle.report_steps.proofs.Readings.{onward-more, onward-then, stuck}
 use Rattle.report_steps.proofs.LongLines.{endless-off}
 use Rattle.text.specs.Line.{linesOf}
 use Rattle.report_rules.specs.Report.{endless}
 use Rattle.report.specs.declared.feed.Turn.{Turn}
-use Rattle.report.specs.Feeding.{stateReading, stateStopped, stateFailed, turnedTo, failedAt, offIn}
+use Rattle.report.specs.Feeding.{stateReading, stateStopped, stateFailed, turnedTo, failedAt}
 use Rattle.report.specs.Feeding.{Waiting, cameOf, heldOf, Answered, Turned, Registered}
 use Rattle.report.specs.InnerFeeding.{Pieced, Lasted}
 
@@ -58,7 +59,7 @@ clamped-most (pos k) room = min-le-right k room
 clamped-most (negsuc k) room = omega arith
 
 -- a read that failed leaves the book, and is refused at the line being read
-failed-off : {line : ℕ} {t : Turn} {b : Book} → t ≡ failedAt line → turnedTo t b ≡ offIn (readingAt 0 line b)
+failed-off : {line : ℕ} {t : Turn} {b : Book} → t ≡ failedAt line → turnedTo t b ≡ offAt (readingAt 0 line b)
 failed-off {line} {t} {b} e = ap (λ (x : Turn). turnedTo x b) e
 
 pub turn-failed : {p line : ℕ} {waited : List ℕ} {t : Turn} {b : Book} {bytes : List ℕ} → sound p b ≡ true
@@ -214,11 +215,11 @@ come-none p b bytes k room =
 
 -- where no byte comes any more, the line being read goes on without an end
 broken-off : {p left line : ℕ} {b₀ b : Book} {bytes : List ℕ} → (k : Come p b₀ bytes left line b)
-    → registered p b₀ (k .all ++ endless) ≡ offIn (readingAt 0 line b)
+    → registered p b₀ (k .all ++ endless) ≡ offAt (readingAt 0 line b)
 unfolding registered
 broken-off {p} {left} {line} {b₀} {b} {bytes} k =
     ap closing (k .onward .same endless ∙ endless-off p (readingAt 0 line b) (take left bytes) refl (k .waits .unended))
-    ∙ refused-closes (offIn (readingAt 0 line b)) (λ e. absurd (omega arith))
+    ∙ refused-closes (offAt (readingAt 0 line b)) (λ e. absurd (omega arith))
 
 module _ {p left line : ℕ} {b₀ b b′ : Book} {bytes bytes′ : List ℕ} {t : Turn} (k : Come p b₀ bytes left line b)
     (d : Turned p (readingAt 0 line b) (take left bytes) t b′ bytes′) where

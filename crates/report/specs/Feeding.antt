@@ -9,7 +9,7 @@ use lib.IntN.{ℤ, pos}
 use Rattle.io.specs.Counts.{clamped}
 use Rattle.book_rules.specs.Columns.{Book, sound}
 use Rattle.report_steps.specs.Stream.{longestLine}
-use Rattle.report_steps.specs.Reading.{Reading, readingAt, closing, registered, readOn, Onward, Unended}
+use Rattle.report_steps.specs.Reading.{Reading, readingAt, offAt, closing, registered, readOn, Onward, Unended}
 use Rattle.report_rules.specs.Report.{endless}
 use Rattle.report.specs.declared.feed.Turn.{Turn}
 
@@ -33,9 +33,6 @@ turnedTo t b = readingAt (t .refusal) (t .line) b
 -- a read that failed in a line: 16 at that line
 abbrev pub failedAt : ℕ → Turn
 failedAt line = record { at = 0; left = 0; line = line; refusal = 16; state = stateFailed }
-
-abbrev pub offIn : Reading → Reading
-offIn s = record { refusal = 16; line = s .line; book = s .book }
 
 -- the bytes that wait for their line's end stand in front of the buffer, and there is room behind them
 pub record Waiting (bytes : List ℕ) (left line : ℕ) : Type 0 where
@@ -62,7 +59,7 @@ pub record Answered (p : ℕ) (s : Reading) (bytes : List ℕ) (left : ℕ) (ans
       → (answer ≡ pos 0) × (turnedTo t b′ ≡ closing (readOn p s (take left bytes)))
   pub stops : t .state ≡ stateStopped → (u : List ℕ)
       → turnedTo t b′ ≡ closing (readOn p s (heldOf answer bytes left ++ u))
-  pub fails : t .state ≡ stateFailed → (cameOf answer bytes left ≡ []) × (turnedTo t b′ ≡ offIn s)
+  pub fails : t .state ≡ stateFailed → (cameOf answer bytes left ≡ []) × (turnedTo t b′ ≡ offAt s)
   pub refused : t .state ≡ stateStopped → t .refusal ≡ 0 → ⊥
   pub states : t .state ≤ stateFailed
 
@@ -77,7 +74,7 @@ pub record Turned (p : ℕ) (s : Reading) (waited : List ℕ) (t : Turn) (b′ :
   pub ends : t .state ≡ stateEnded → (got ≡ []) × (turnedTo t b′ ≡ closing (readOn p s waited))
   pub stops : t .state ≡ stateStopped → (u : List ℕ)
       → turnedTo t b′ ≡ closing (readOn p s (waited ++ got ++ u))
-  pub fails : t .state ≡ stateFailed → (got ≡ []) × (turnedTo t b′ ≡ offIn s)
+  pub fails : t .state ≡ stateFailed → (got ≡ []) × (turnedTo t b′ ≡ offAt s)
   pub refused : t .state ≡ stateStopped → t .refusal ≡ 0 → ⊥
   pub states : t .state ≤ stateFailed
 

@@ -47,14 +47,14 @@ sum-missing p (m ∷ ms) good =
 
 -- of the load at a point that counts each movement
 module _ (p n pt days : ℕ) (cs : List Made) (a : Load) (each : CountsEach a pt (movements p n cs) days) where
-  pub computed-printed : totals.computedIn (a .counts) ≡ howMany computed (movements p n cs)
-  unfolding totals.computedIn
+  pub computed-printed : totals.allComputed (a .counts) ≡ howMany computed (movements p n cs)
+  unfolding totals.allComputed
   computed-printed =
       sum-ext (λ g. countsAt a g .computed) (λ g. afresh.computedIn g (movements p n cs)) groupCount (each .computed)
       ∙ sum-computed p (movements p n cs) (told-all p n cs .good)
 
-  pub missing-printed : totals.missingIn (a .counts) ≡ howMany (λ m. not (computed m)) (movements p n cs)
-  unfolding totals.missingIn
+  pub missing-printed : totals.allMissing (a .counts) ≡ howMany (λ m. not (computed m)) (movements p n cs)
+  unfolding totals.allMissing
   missing-printed =
       sum-ext (λ g. countsAt a g .missing) (λ g. afresh.missingIn g (movements p n cs)) groupCount (each .missing)
       ∙ sum-missing p (movements p n cs) (told-all p n cs .good)

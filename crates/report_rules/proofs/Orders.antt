@@ -22,7 +22,7 @@ use Rattle.book_rules.proofs.Order.{Decides, decides, given-by}
 use Rattle.register.specs.declared.row.Fields.{Fields}
 use Rattle.register.specs.Row.{pointsFit, layoutOf, faultOf, rowRefusal}
 use Rattle.register.specs.Write.{showRow, zeroWhereBlank, rowLevelsFit, writeFault, writeRefusal}
-use Rattle.report_rules.specs.RowOrders.{Ranged, Identified, InReadOrder, Written, InWriteOrder}
+use Rattle.report_rules.specs.RowOrders.{Ranged, Identified, InReadOrder, LevelsWritten, InWriteOrder}
 use Rattle.report_rules.proofs.LimitsExact.{within-all}
 
 -- a test that passes exactly if this holds
@@ -79,7 +79,7 @@ read-order p line room =
 
 -- the levels of a row to be written
 written-for : (p : ℕ) (f : Fields) (levels : List ℕ)
-    → Decides (rowLevelsFit p (f .computed) levels) (Written p f levels → ⊥)
+    → Decides (rowLevelsFit p (f .computed) levels) (LevelsWritten p f levels → ⊥)
 unfolding rowLevelsFit
 written-for p f levels = passes-for (levelsFit p levels && zeroWhereBlank (f .computed) levels) (there, back)
   where
@@ -93,7 +93,7 @@ written-for p f levels = passes-for (levelsFit p levels && zeroWhereBlank (f .co
         (λ yes. rw yes (within-all 0 levels (λ i. omega (arith, z (eqb-true (f .computed) 0 yes) i))))
         (λ no. rw no refl)
 
-    there : (levelsFit p levels && zeroWhereBlank (f .computed) levels) ≡ true → Written p f levels
+    there : (levelsFit p levels && zeroWhereBlank (f .computed) levels) ≡ true → LevelsWritten p f levels
     there t =
         record {
           range = ranges-hold .levels p levels .0 (and-left (levelsFit p levels)
@@ -101,7 +101,7 @@ written-for p f levels = passes-for (levelsFit p levels && zeroWhereBlank (f .co
           zeros = zeros (and-right (levelsFit p levels) (zeroWhereBlank (f .computed) levels) t);
         }
 
-    back : Written p f levels → (levelsFit p levels && zeroWhereBlank (f .computed) levels) ≡ true
+    back : LevelsWritten p f levels → (levelsFit p levels && zeroWhereBlank (f .computed) levels) ≡ true
     back w = rw (ranges-hold .levels p levels .1 (w .range), blank (w .zeros)) refl
 
 shape-for : (p : ℕ) (f : Fields)

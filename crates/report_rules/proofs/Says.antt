@@ -131,13 +131,13 @@ module _ (limits register : List ℕ) (fine : limitsOf limits .refusal ≡ 0) (a
 
   -- the flights computed, and those without levels, of the load at each point
   with-levels : (point : ℕ) → point < p
-      → totals.computedIn (bookLoad p point b (l .days) .counts) ≡ howMany computed (flightsIn p (rowsIn register))
+      → totals.allComputed (bookLoad p point b (l .days) .counts) ≡ howMany computed (flightsIn p (rowsIn register))
   with-levels point h =
       computed-printed p bookRows point (l .days) cs (bookLoad p point b (l .days)) (counts point h)
       ∙ all-stand p register accepted .each computed
 
   without : (point : ℕ) → point < p
-      → totals.missingIn (bookLoad p point b (l .days) .counts)
+      → totals.allMissing (bookLoad p point b (l .days) .counts)
       ≡ howMany (λ m. not (computed m)) (flightsIn p (rowsIn register))
   without point h =
       missing-printed p bookRows point (l .days) cs (bookLoad p point b (l .days)) (counts point h)

@@ -28,7 +28,7 @@ InReadOrder p line room r =
     (r ≡ 0)))))
 
 -- a level for each point, none over 12,000, and zeros where the row is not computed
-pub record Written (p : ℕ) (f : Fields) (levels : List ℕ) : Type 0 where
+pub record LevelsWritten (p : ℕ) (f : Fields) (levels : List ℕ) : Type 0 where
   pub range : LevelsInRange p levels
   pub zeros : f .computed ≡ 0 → (i : ℕ) → getD levels i 0 ≡ 0
 
@@ -38,6 +38,6 @@ InWriteOrder p f levels room r =
     Given r 9 ((1 ≤ p) × (p ≤ 8) × (f .computed ≤ 1) → ⊥)
     (Given r 1 (Ranged f → ⊥)
     (Given r 3 (Identified f → ⊥)
-    (Given r 7 (Written p f levels → ⊥)
+    (Given r 7 (LevelsWritten p f levels → ⊥)
     (Given r 14 (room < length (showRow f levels))
     (r ≡ 0)))))

@@ -19,7 +19,7 @@ use Rattle.register.proofs.Longest.{long-row}
 use Rattle.report_steps.specs.Stream.{longestRow, longestLine}
 use Rattle.report_steps.specs.Intake.{rowTaken, rowAfter}
 use Rattle.report_steps.specs.Reading.{Reading, headerPoints, lineRefusal, lineAfter, lineRead, linesRead}
-use Rattle.report_steps.specs.Reading.{readOn, Unended}
+use Rattle.report_steps.specs.Reading.{readOn, offAt, Unended}
 use Rattle.report_steps.proofs.Readings.{stuck}
 
 first-least : (xs t : List ℕ) → Unended xs → length xs ≤ length (firstLine (xs ++ t)) + 1
@@ -74,10 +74,6 @@ long-refused p n b line h =
 pub long-after : (p n : ℕ) (b : Book) (line : List ℕ) → longestRow < length (bareLine line) → lineAfter p n b line ≡ b
 unfolding lineAfter rowAfter
 long-after p n b line h = either (eqb n 1) (λ yes. rw yes refl) (λ no. rw (no, long-row p line h) refl)
-
--- the reading that is refused 16 at its line
-abbrev pub offAt : Reading → Reading
-offAt s = record { refusal = 16; line = s .line; book = s .book }
 
 -- more bytes than any line on its layout has, and no CRLF in them: whatever follows, the line is refused
 pub onward-long : (p : ℕ) (s : Reading) (xs : List ℕ) → s .refusal ≡ 0 → Unended xs → longestLine < length xs

@@ -17,10 +17,10 @@ use Rattle.text.proofs.Digits.{either}
 use Rattle.io.specs.Counts.{clamped}
 use Rattle.report_steps.specs.declared.core.feeding.Arrived.the-variants.{Bytes, End, Failed}
 use Rattle.report_steps.specs.Stream.{longestLine}
-use Rattle.report_steps.specs.Reading.{Reading, Onward, arrivedOf}
+use Rattle.report_steps.specs.Reading.{Reading, offAt, Onward, arrivedOf}
 use Rattle.report_steps.specs.InnerTaken.{LinesTaken, PieceTaken}
 use Rattle.report_steps.proofs.Readings.{stuck}
-use Rattle.report_steps.proofs.LongLines.{offAt, onward-long}
+use Rattle.report_steps.proofs.LongLines.{onward-long}
 
 -- one byte more is moved to the front
 pub front-next : (xs ys : List ℕ) (from n i : ℕ) → from + n ≤ length xs → i < n → length ys ≡ length xs

@@ -65,6 +65,10 @@ opening b = record { refusal = 0; line = 1; book = b }
 unfoldable pub closing : Reading → Reading
 closing s = cond (eqb (s .refusal) 0 && eqb (s .line) 1) (record { refusal = 16; line = 1; book = s .book }) s
 
+-- the reading that is refused 16 at its line
+abbrev pub offAt : Reading → Reading
+offAt s = record { refusal = 16; line = s .line; book = s .book }
+
 -- a register of p points, whole, into a book
 unfoldable pub registered : ℕ → Book → List ℕ → Reading
 registered p b bytes = closing (readOn p (opening b) bytes)

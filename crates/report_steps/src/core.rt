@@ -2,6 +2,7 @@
 pub mod feeding;
 
 use crate::Taken;
+use movement::limits::MAX_POINTS;
 use register::row::read_layout;
 ghost use mathlib.Core.Path.{_≡_};
 ghost use mathlib.Core.Bool.{true};
@@ -61,7 +62,7 @@ fn take_levels(
     levels: &mut [u32],
     points: usize,
     identity: u32,
-    given: [u32; 8],
+    given: [u32; MAX_POINTS],
 ) -> Taken
     requires { ⌜ sound points (bookNow ids groups marks levels) ≡ true ⌝ }
     requires { ⌜ points ≤ maxPoints ⌝ }

@@ -19,7 +19,7 @@ use Rattle.text.specs.Field.{joinedBy}
 use Rattle.text.specs.Index.{listing}
 use Rattle.text.specs.Spelled.{bytes}
 use Rattle.register.specs.declared.limits.Limits.{Limits}
-use Rattle.report_text.specs.Totals.{computedIn, missingIn}
+use Rattle.report_text.specs.Totals.{allComputed, allMissing}
 
 -- lines end in CRLF
 abbrev pub lineEnd : List ℕ
@@ -52,8 +52,8 @@ pointFields point limit load =
     ∷ levelText (load .level)
     ∷ showLevel limit
     ∷ verdictText (verdictOf (load .level) limit)
-    ∷ showNumber (computedIn (load .counts))
-    ∷ showNumber (missingIn (load .counts))
+    ∷ showNumber (allComputed (load .counts))
+    ∷ showNumber (allMissing (load .counts))
     ∷ []
 
 unfoldable pub pointLine : Limits → Book → ℕ → List ℕ

@@ -11,8 +11,8 @@ use Rattle.load_rules.specs.Factors.{sumTo}
 abbrev pub countsIn : List Counts → ℕ → Counts
 countsIn counts g = getD counts g (record { computed = 0; missing = 0 })
 
-unfoldable pub computedIn : List Counts → ℕ
-computedIn counts = sumTo (λ g. countsIn counts g .computed) groupCount
+unfoldable pub allComputed : List Counts → ℕ
+allComputed counts = sumTo (λ g. countsIn counts g .computed) groupCount
 
-unfoldable pub missingIn : List Counts → ℕ
-missingIn counts = sumTo (λ g. countsIn counts g .missing) groupCount
+unfoldable pub allMissing : List Counts → ℕ
+allMissing counts = sumTo (λ g. countsIn counts g .missing) groupCount

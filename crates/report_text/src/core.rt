@@ -19,7 +19,7 @@ ghost use Rattle.movement.specs.Limits.{maxPoints};
 ghost use Rattle.book_rules.specs.Columns.{bookBefore};
 ghost use Rattle.room.specs.Room.{Wrote};
 ghost use Rattle.text.specs.Number.{showNumber, showLevel};
-ghost use Rattle.report_text.specs.Totals.{computedIn, missingIn};
+ghost use Rattle.report_text.specs.Totals.{allComputed, allMissing};
 ghost use Rattle.report_text.specs.Text.{comma, lineEnd, line, levelText, verdictText, pointFields};
 ghost use Rattle.report_text.specs.Text.{headerLine, refusedText, pointsText};
 ghost use Rattle.report_text.specs.InnerRoom.{longestField, longestWord, longestJudged, longestTotals};
@@ -115,7 +115,7 @@ fn put_judged(out: &mut [u8], at: usize, level: Level, limit: u32) -> usize
 fn put_totals(out: &mut [u8], at: usize, counts: [Counts; 18]) -> usize
     requires { ⌜ at + longestTotals ≤ length (now out) ⌝ }
     ensures { λ r. ⌜ WroteWithin longestTotals (now (out .entry)) at
-        ((comma ∷ showNumber (computedIn counts)) ++ ((comma ∷ showNumber (missingIn counts)) ++ lineEnd))
+        ((comma ∷ showNumber (allComputed counts)) ++ ((comma ∷ showNumber (allMissing counts)) ++ lineEnd))
         (now (out .exit)) r ⌝ }
 {
     let totals = added_up(counts);

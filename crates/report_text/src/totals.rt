@@ -3,7 +3,7 @@ use load_rules::Counts;
 ghost use mathlib.Core.Path.{_≡_};
 ghost use Prim.Native.Nat.{_+_, _*_, _^_, _≤_};
 ghost use Rattle.movement.specs.Limits.{groupCount};
-ghost use Rattle.report_text.specs.Totals.{computedIn, missingIn};
+ghost use Rattle.report_text.specs.Totals.{allComputed, allMissing};
 
 pub struct Totals {
     pub computed: u64,
@@ -20,7 +20,7 @@ fn plus(sum: u64, n: u32) -> u64
 
 // V and U of all groups, added up.
 pub fn added_up(counts: [Counts; 18]) -> Totals
-    ensures { λ r. ⌜ (r .computed ≡ computedIn counts) × (r .missing ≡ missingIn counts) ⌝ }
+    ensures { λ r. ⌜ (r .computed ≡ allComputed counts) × (r .missing ≡ allMissing counts) ⌝ }
 {
     let mut computed: u64 = 0;
     let mut missing: u64 = 0;

@@ -10,7 +10,7 @@ use borrow.Author.Needs.{needs}
 use Rattle.movement.specs.Limits.{groupCount}
 use Rattle.load_rules.specs.declared.Counts.{Counts}
 use Rattle.load_rules.specs.Factors.{sumTo}
-use Rattle.report_text.specs.Totals.{countsIn, computedIn, missingIn}
+use Rattle.report_text.specs.Totals.{countsIn, allComputed, allMissing}
 use Rattle.report_text.proofs.totals.added_up.Statement.{statement}
 use Rattle.report_text.proofs.totals.added_up.Tie as tie
 
@@ -48,7 +48,7 @@ loop-again c =
     (omega arith, v, u, omega arith, omega arith)
 
 returns : tie.Need-returns Inv-loop μ-loop
-unfolding computedIn missingIn
+unfolding allComputed allMissing
 returns c =
     let l = c .before in
     let counts = l .before .args .t1 in
