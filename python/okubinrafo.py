@@ -15,34 +15,14 @@ LARGE, SMALL, HELICOPTER = 0, 1, 2
 START, LANDING = 0, 1
 DAY, EVENING, NIGHT = 0, 1, 2
 
-_SENTENCES = {
-    1: "type, kind, time or mass is outside its range, or a small aircraft has 6,000 kg or more",
-    2: "the mass is 150 kg or less",
-    3: "the identity is 0 or over 99,999",
-    4: "the identity already stands",
-    5: "the identity doesn't stand",
-    6: "there is no unused row",
-    7: "the number of levels isn't the number of points, or a level is over 120.00",
-    8: "no levels are held that could be taken back",
-    9: "the book is not sound, the points are outside 1 to 8, or the point asked for isn't there",
-    10: "movements stand and none is computed",
-    11: "the days are outside 1 to 366",
-    12: "the network's size, spacing, origin or count of values is wrong",
-    13: "a network level is over 150.00 or is the file's no-data value",
-    14: "the room lent for the answer is smaller than needed",
-    15: "the limit or contour level is outside its range",
-    16: "the register text or journal is off its layout",
-    17: "the network text is off its layout",
-}
-
 
 class Refused(Exception):
-    """A refused call. number is the rules'; line is the line of a file at fault, where there is one."""
+    """A refused call: the rules' number, its sentence, and the line of a file at fault, where there is one."""
 
     def __init__(self, number, line=None):
         self.number = number
         self.line = line
-        self.sentence = _SENTENCES.get(number, "unknown refusal")
+        self.sentence = sentence(number)
         place = "" if line is None else f", line {line}"
         super().__init__(f"refused ({number}{place}): {self.sentence}")
 
@@ -59,6 +39,7 @@ _ALONG = (None, "horizontal", "vertical")
 _U32, _U64, _F64, _U8 = ctypes.c_uint32, ctypes.c_uint64, ctypes.c_double, ctypes.c_uint8
 _LOAD_NUMBERS = 39
 _ROW_BYTES = 86
+_SENTENCE_BYTES = 120
 _LIGHT_MASS = 150
 _JOURNAL = {"enter": 1, "supply": 2, "take_back": 3, "withdraw": 4}
 
@@ -97,6 +78,13 @@ def _numbers(values):
 
 def _text(content):
     return (_U8 * len(content)).from_buffer_copy(content)
+
+
+def sentence(number):
+    """The sentence for a refusal's number, in English; empty for a number that is no refusal."""
+    text, size = (_U8 * _SENTENCE_BYTES)(), (_U32 * 1)()
+    _call("sentence", number, text, size)
+    return bytes(text[: size[0]]).decode("ascii")
 
 
 class Book:
@@ -212,7 +200,8 @@ def _row_for_calls(line, points):
     identity, type, mass, kind, time, *levels = line.decode().rstrip("\r\n").split(",")
     hours, minutes, seconds = map(int, time.split(":"))
     held = None if levels[0] == "" else tuple(int(level.replace(".", "")) for level in levels)
-    return Row(int(identity), "GKH".index(type), int(mass), "SL".index(kind), hours * 3600 + minutes * 60 + seconds, held)
+    second = hours * 3600 + minutes * 60 + seconds
+    return Row(int(identity), "GKH".index(type), int(mass), "SL".index(kind), second, held)
 
 
 class Network:

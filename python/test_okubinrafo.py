@@ -61,7 +61,7 @@ class Books(Case):
         full.enter(7, 0, 0, 0, 7000)
         self.refused(6, full.enter, 8, 0, 0, 0, 7000)
         self.assertIn("no unused row", str(self.refused(6, full.enter, 8, 0, 0, 0, 7000)))
-        self.assertIn("none is computed", self.refused(10, full.load, 0, 1).sentence)
+        self.assertIn("none of them has levels", self.refused(10, full.load, 0, 1).sentence)
 
     def test_calls_one_by_one(self):
         book = Book(3, 2)
@@ -80,10 +80,20 @@ class Books(Case):
             with self.assertRaises(ValueError):
                 Book(1, 1).supply(1, [wrong])
 
+    def test_sentences(self):
+        sentences = [okubinrafo.sentence(number) for number in range(1, 18)]
+        self.assertEqual(len({sentence for sentence in sentences if sentence}), 17)
+        self.assertEqual([okubinrafo.sentence(number) for number in (0, 18, 2**32 - 1)], ["", "", ""])
+        refused = self.refused(3, Book(1, 1).withdraw, 0)
+        self.assertEqual(refused.sentence, "the identity is not from 1 to 99,999")
+        self.assertEqual(str(refused), "refused (3): the identity is not from 1 to 99,999")
+        self.assertEqual(str(Refused(4, 17)), "refused (4, line 17): the identity already stands")
+
     def test_replay(self):
         book = Book(2, 1)
         entered, too_light = ("enter", 5, 0, 0, 0, 7000), ("enter", 5, 0, 0, 0, 1)
-        calls = [entered, ("supply", 5, [300]), ("take_back", 6), ("withdraw", 5), too_light, ("enter", 8, 2, 0, 0, 7000)]
+        supplied, withdrawn = ("supply", 5, [300]), ("withdraw", 5)
+        calls = [entered, supplied, ("take_back", 6), withdrawn, too_light, ("enter", 8, 2, 0, 0, 7000)]
         self.assertEqual(book.replay(calls), [0, 0, 5, 0, 2, 0])
         self.assertEqual(list(book.rows()), [(8, 14, None)])
         self.assertEqual(book.replay([]), [])
@@ -147,8 +157,10 @@ class Networks(Case):
         self.assertEqual(hill.contours(4500), [((2, 7, 3, 10), True)])
         text = "MULTILINESTRING ((50.000 100.000, 100.000 50.000, 150.000 100.000, 100.000 150.000, 50.000 100.000))"
         self.assertEqual(hill.print_contours(4500), text)
-        self.assertEqual(hill.lines(4500), [[(50.0, 100.0), (100.0, 50.0), (150.0, 100.0), (100.0, 150.0), (50.0, 100.0)]])
-        self.assertEqual((hill.contours(4000), hill.print_contours(4000), hill.lines(4000)), ([], "MULTILINESTRING EMPTY", []))
+        line = [(50.0, 100.0), (100.0, 50.0), (150.0, 100.0), (100.0, 150.0), (50.0, 100.0)]
+        self.assertEqual(hill.lines(4500), [line])
+        self.assertEqual(hill.print_contours(4000), "MULTILINESTRING EMPTY")
+        self.assertEqual((hill.contours(4000), hill.lines(4000)), ([], []))
 
     def test_crossings(self):
         hill = Network(HILL, 3, 3, 100, 1000, 2000)
@@ -167,10 +179,12 @@ class Networks(Case):
         self.assertTrue(board.print_contours(7500).startswith("MULTILINESTRING (("))
 
     def test_texts(self):
-        text = b"ncols 2\r\nnrows 3\r\nxllcenter 5\r\nyllcenter 6\r\ncellsize 100\r\n1.00 2.00\r\n3.00 4.00\r\n5.00 150.00\r\n"
+        header = b"ncols 2\r\nnrows 3\r\nxllcenter 5\r\nyllcenter 6\r\ncellsize 100\r\n"
+        text = header + b"1.00 2.00\r\n3.00 4.00\r\n5.00 150.00\r\n"
         network = okubinrafo.read_network(text)
         self.assertEqual(list(network.levels), [500, 15000, 300, 400, 100, 200])
-        self.assertEqual((network.columns, network.rows, network.spacing, network.west, network.south), (2, 3, 100, 5, 6))
+        self.assertEqual((network.columns, network.rows, network.spacing), (2, 3, 100))
+        self.assertEqual((network.west, network.south), (5, 6))
         self.assertEqual(network.write(), text)
         self.refused(17, okubinrafo.read_network, b"")
         self.refused(17, okubinrafo.read_network, text.replace(b"\r", b""))
