@@ -139,6 +139,13 @@ class Arguments(unittest.TestCase):
             for call in (hill.contours, hill.print_contours, hill.lines):
                 with self.subTest(levels=type(wrong).__name__, call=call.__name__), self.assertRaises(TypeError):
                     call(4500)
+
+        class Longer(ctypes.c_uint32 * 9):
+            def __len__(self):
+                return 10**9
+
+        hill.levels = Longer(*HILL)
+        self.assertEqual(hill.crossing(4500, 2), ("horizontal", 0.5))
         book = Book(3, 2)
         book.points = 8
         with self.assertRaises(Refused) as caught:

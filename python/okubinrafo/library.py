@@ -59,7 +59,8 @@ def call(name, *arguments):
         if letter == "n":
             lent.append(U32(whole(argument)))
         elif isinstance(argument, ctypes.Array) and argument._type_ is _SLICES[letter]:
-            lent += (argument, ctypes.c_size_t(len(argument)))
+            # By the memory that is there, whatever its own length says.
+            lent += (argument, ctypes.c_size_t(ctypes.sizeof(argument) // ctypes.sizeof(_SLICES[letter])))
         else:
             raise TypeError(f"memory for {name} is expected, not {type(argument).__name__}")
     function = _function(name)
