@@ -3,36 +3,29 @@
 use Prim.Native.Nat.{ℕ, zero, suc, _+_, _*_, _≤_}
 use mathlib.Core.Path.{_≡_, refl, sym, ap, _∙_}
 use mathlib.Core.List.{List, [], _∷_, _++_, map}
-use mathlib.Core.Bool.{Bool, true, false, _&&_, _||_, and-false, true≢false}
+use mathlib.Core.Bool.{Bool, true, false, _&&_, and-false, true≢false}
 use native.Mathlib.Nat.{suc-mul}
 use native.Mathlib.Omega.{arith}
-use borrow.Author.Tests.{eqb-true, ltb-true, ltb-false, not-true}
+use borrow.Author.Tests.{eqb-true, ltb-true, ltb-false}
 use lib.Dec.{eqb, leb, ltb}
-use lib.ListN.{length, getD, take, drop, length-drop, take-append-drop}
+use lib.ListN.{length, getD, take, drop, length-drop}
 use lib.Seq.{drop-append-le, take-append-le, take-all, drop-at}
-use Rattle.refusal.proofs.Laws.{and-left, and-right, refuse-none}
-use Rattle.text.specs.Number.{wholeOf, levelOf, isGot, valueOf, showLevel}
+use Rattle.refusal.proofs.Laws.{and-left, and-right}
+use Rattle.text.specs.Number.{isGot, valueOf, showLevel}
 use Rattle.text.specs.Field.{joinedBy}
 use Rattle.text.specs.Line.{onto, linesOf}
 use Rattle.text.specs.Same.{sameText}
-use Rattle.text.specs.declared.number.Number.{Number}
-use Rattle.text.specs.declared.number.Number.the-variants.{Got, Off}
-use Rattle.text.proofs.Digits.{either}
+use Rattle.text.proofs.Digits.{either, got-value}
 use Rattle.text.proofs.Lines.{lines-step}
-use Rattle.text.proofs.Exact.{whole-exact, level-exact}
-use Rattle.refusal.specs.Refuse.{refuse}
-use Rattle.refusal.specs.Range.{allWithin}
-use Rattle.network.specs.Limits.{maxNetworkLevel}
-use Rattle.network.specs.Refusals.{sided, placed, filled, checked}
 use Rattle.grid.specs.Row.{all, valuesOf, given, isValue, isRow, hasValues, rowGiven, levelIn, rowLevels, levelsOf}
 use Rattle.grid.specs.File.{ncols, nrows, xllcenter, yllcenter, cellsize, unnamed, begins, numberAfter, names, sixth, headOn, namedOn, frameOf, noDataOf, rowsOf, firstOff, faultLine, rowsFit}
-use Rattle.grid.specs.Read.{headerSize, textFrame, textLevels, linesRefusal, readRefusal}
+use Rattle.grid.specs.Read.{textFrame, textLevels, readRefusal}
 use Rattle.grid.specs.Write.{keyLine, headLines, rowLine, rowLines, textOf, networkLines, showNetwork}
 use Rattle.grid.proofs.ValueLaws.{all-cons}
 use Rattle.grid.proofs.StoreLaws.{length-levels, levels-length}
 use Rattle.grid.proofs.FileLaws.{off-append, off-keep}
-use Rattle.grid.proofs.ReadLaws.{fit-both}
-use Rattle.grid.proofs.Values.{same-equal}
+use Rattle.grid.proofs.ReadLaws.{fit-both, passed}
+use Rattle.grid.proofs.Values.{key-line, value-is}
 
 -- ---- lines and their text
 
@@ -58,20 +51,9 @@ text-again (c ∷ d ∷ t) =
 
 -- ---- header lines
 
-got-of : (x : Number) → isGot x ≡ true → x ≡ Got (valueOf x)
-got-of (Got n) e = refl
-got-of Off e = absurd (true≢false (sym e))
-
 -- a header line is its key and its number
 number-exact : (key line : List ℕ) → isGot (numberAfter key line) ≡ true → line ≡ keyLine key (valueOf (numberAfter key line))
-unfolding numberAfter begins
-number-exact key line e =
-    either (sameText (take (length key) line) key)
-    (λ yes. let g : isGot (wholeOf (drop (length key) line)) ≡ true = rw yes at e in
-    let w = whole-exact (drop (length key) line) (valueOf (wholeOf (drop (length key) line))) (got-of (wholeOf (drop (length key) line)) g) in
-    let k = same-equal (take (length key) line) key yes in
-    rw yes (sym (take-append-drop (length key) line) ∙ ap (λ a. a ++ drop (length key) line) k ∙ ap (λ b. key ++ b) w))
-    (λ other. let z : false ≡ true = rw other at e in absurd (true≢false (sym z)))
+number-exact key line e = key-line key line (valueOf (numberAfter key line)) (got-value (numberAfter key line) e) .1
 
 -- the fifth of the header lines is there
 head-there : (line : List ℕ) → isGot (numberAfter cellsize line) ≡ true → 1 ≤ length line
@@ -125,23 +107,12 @@ values-joined (c ∷ s) =
     space [] e = absurd (true≢false (sym (ap (λ x. leb 1 (length x)) e)))
     space (x ∷ l) e = refl
 
--- a value that is given is its level's text
-value-exact : (t : List ℕ) → isValue unnamed t ≡ true → given unnamed t ≡ true → showLevel (levelIn t) ≡ t
-value-exact t v g =
-    let other = not-true (sameText t unnamed) g in
-    let level : isGot (levelOf t) ≡ true = or-false (isGot (levelOf t)) (rw other at v) in
-    sym (level-exact t (levelIn t) (got-of (levelOf t) level))
-  where
-    or-false : (a : Bool) → (a || false) ≡ true → a ≡ true
-    or-false true e = refl
-    or-false false e = e
-
 values-exact : (ts : List (List ℕ)) → all (isValue unnamed) ts ≡ true → all (given unnamed) ts ≡ true → map showLevel (map levelIn ts) ≡ ts
 values-exact [] v g = refl
 values-exact (t ∷ ts) v g =
     let a = sym (all-cons (isValue unnamed) t ts) ∙ v in
     let b = sym (all-cons (given unnamed) t ts) ∙ g in
-    let head = value-exact t (and-left (isValue unnamed t) (all (isValue unnamed) ts) a) (and-left (given unnamed t) (all (given unnamed) ts) b) in
+    let head = sym (value-is unnamed t (and-left (isValue unnamed t) (all (isValue unnamed) ts) a) (and-left (given unnamed t) (all (given unnamed) ts) b)) in
     let rest = values-exact ts (and-right (isValue unnamed t) (all (isValue unnamed) ts) a) (and-right (given unnamed t) (all (given unnamed) ts) b) in
     rw (head, rest)
 
@@ -221,24 +192,13 @@ module _ (s : List ℕ) (headers room : ℕ) (read : readRefusal s headers room 
   named-plain : namedOn lines ≡ []
   named-plain = rw plain
 
-  passed : (faultLine lines ≡ 0) × (rowsFit (frameOf lines) rows ≡ true) × (all (rowGiven unnamed) rows ≡ true)
-  unfolding linesRefusal
-  passed =
-      let levels = levelsOf (rowsOf lines) in
-      let f = frameOf lines in
-      let last = refuse 14 (leb headerSize headers && leb (length levels) room) 0 in
-      let g = refuse 13 (all (rowGiven (noDataOf lines)) (rowsOf lines)) last in
-      let a = refuse-none 17 (eqb (faultLine lines) 0) (refuse 12 (rowsFit f (rowsOf lines)) (checked maxNetworkLevel levels f g)) (omega arith) read in
-      let b = refuse-none 12 (rowsFit f (rowsOf lines)) (checked maxNetworkLevel levels f g) (omega arith) (a .1) in
-      let c = refuse-none 12 (sided f && placed f && filled levels f) (refuse 13 (allWithin maxNetworkLevel levels) g) (omega arith) (b .1) in
-      let d = refuse-none 13 (allWithin maxNetworkLevel levels) g (omega arith) (c .1) in
-      let e = refuse-none 13 (all (rowGiven (noDataOf lines)) (rowsOf lines)) last (omega arith) (d .1) in
-      (eqb-true (faultLine lines) 0 (a .0), rw rows-plain at (b .0), rw (rows-plain, data-plain) at (e .0))
+  through : (faultLine lines ≡ 0) × (rowsFit (frameOf lines) rows ≡ true) × (all (rowGiven unnamed) rows ≡ true)
+  through = let p = passed lines headers room read in (p .fault, rw rows-plain at (p .fits), rw (rows-plain, data-plain) at (p .given))
 
   -- the tests of the lines, all passed
   tests : firstOff 1 (headOn lines ++ map (isRow unnamed) rows) ≡ 0
   unfolding faultLine
-  tests = rw (named-plain, data-plain, rows-plain) at (passed .0)
+  tests = rw (named-plain, data-plain, rows-plain) at (through .0)
 
   head-passed : firstOff 1 (headOn lines) ≡ 0
   head-passed = off-front 1 (headOn lines) (map (isRow unnamed) rows) tests
@@ -251,9 +211,9 @@ module _ (s : List ℕ) (headers room : ℕ) (read : readRefusal s headers room 
   unfolding frameOf
   lines-exact =
       let on = five-on _ _ _ _ _ head-passed in
-      let fit = fit-both (frameOf lines) rows (passed .1) in
+      let fit = fit-both (frameOf lines) rows (through .1) in
       let body : rowLines (frameOf lines .columns) (levelsOf rows) (frameOf lines .rows) ≡ rows =
-      ap (rowLines (frameOf lines .columns) (levelsOf rows)) (sym (fit .0)) ∙ rows-exact (frameOf lines .columns) rows (fit .1) rows-passed (passed .2) in
+      ap (rowLines (frameOf lines .columns) (levelsOf rows)) (sym (fit .0)) ∙ rows-exact (frameOf lines .columns) rows (fit .1) rows-passed (through .2) in
       let a = number-exact ncols (getD lines 0 []) (on .0) in
       let b = number-exact nrows (getD lines 1 []) (on .1) in
       let c = number-exact xllcenter (getD lines 2 []) (on .2) in

@@ -15,6 +15,7 @@ use Rattle.text.specs.Line.{linesOf}
 use Rattle.text.specs.declared.number.Number.the-variants.{Got}
 use Rattle.text.proofs.Digits.{either}
 use Rattle.refusal.proofs.Laws.{and-left, and-right}
+use Rattle.room.specs.Room.{front}
 use Rattle.network.specs.Edges.{Checked}
 use Rattle.network.specs.Limits.{maxNetworkLevel}
 use Rattle.network.specs.Refusals.{networkRefusal}
@@ -22,9 +23,9 @@ use Rattle.network.specs.declared.Frame.{Frame}
 use Rattle.network.proofs.Refusals.{not-refused, checked-on, checked-off}
 use Rattle.grid.specs.Row.{all, valuesOf, isRow, hasValues, rowGiven, rowLevels, levelsOf}
 use Rattle.grid.specs.File.{ncols, nrows, xllcenter, yllcenter, cellsize, numberAt, unnamed, names, sixth, headOn, namedOn, frameOf, noDataOf, rowsOf, firstOff, faultLine, rowsFit}
-use Rattle.grid.specs.Read.{over, numbersOf, headerSize, textFrame, textLevels, linesRefusal, readRefusal, headerAfter, levelsAfter}
+use Rattle.grid.specs.Read.{numbersOf, headerSize, textFrame, textLevels, linesRefusal, readRefusal, headerAfter, levelsAfter}
 use Rattle.grid.specs.Write.{rowLine, rowAt, rowLines, networkLines, showNetwork, writeRefusal, textAfter, sizeAfter}
-use Rattle.grid.specs.Steps.{Quiet, Near}
+use Rattle.grid.specs.InnerSteps.{Quiet, Near}
 use Rattle.grid.proofs.FileLaws.{off-append}
 use Rattle.grid.proofs.WriteLaws.{near, quiet-part, row-first}
 use Rattle.grid.proofs.Values.{Free, lines-apart, values-apart, row-free, texts-row, texts-given, texts-levels, number-back, key-free, names-row}
@@ -149,7 +150,7 @@ module _ (levels : List ℕ) (f : Frame) (none : networkRefusal levels f ≡ 0) 
   free (suc (suc (suc (suc zero)))) h = key-free cellsize (f .spacing) refl
   free (suc (suc (suc (suc (suc i))))) h = rows-free (f .columns) levels (f .rows) i (omega arith)
 
-  lines-back : linesOf (showNetwork levels f) ≡ lines
+  pub lines-back : linesOf (showNetwork levels f) ≡ lines
   unfolding showNetwork
   lines-back = lines-apart (networkLines levels f) free
 
@@ -170,7 +171,7 @@ module _ (levels : List ℕ) (f : Frame) (none : networkRefusal levels f ≡ 0) 
   spacing-back = number-back cellsize (f .spacing) (omega (arith, small .spacing-most))
 
   -- no line names the no-data value, and the rows follow
-  sixth-row : names (sixth lines) ≡ false
+  pub sixth-row : names (sixth lines) ≡ false
   sixth-row = first-names (f .columns) levels (f .rows) (omega (arith, checks .sized .sides .tall)) wide held
 
   rows-lines : rowsOf lines ≡ rows
@@ -220,22 +221,30 @@ module _ (levels : List ℕ) (f : Frame) (none : networkRefusal levels f ≡ 0) 
       (checked-on maxNetworkLevel levels f _ none
       ∙ rw (rows-given (f .columns) levels wide (checks .quiet) (f .rows) held, le-leb headerSize headers h, le-leb (length levels) levelRoom l))
 
--- what a call of `write_network` answers and leaves, given to a call of `read_network`, is the same frame and the same levels
-pub network-back : (levels : List ℕ) (f : Frame) (text sizes headers into : List ℕ) → writeRefusal levels f (length text) (length sizes) ≡ 0
-    → headerSize ≤ length headers → length levels ≤ length into
-    → let file = take (getD (sizeAfter levels f text sizes) 0 0) (textAfter levels f text sizes) in
-    (readRefusal file (length headers) (length into) ≡ 0)
-    × (headerAfter file headers into ≡ over (numbersOf f) headers)
-    × (levelsAfter file headers into ≡ over levels into)
-network-back levels f text sizes headers into w h l =
+-- the file that a call of `write_network` leaves, where it does not refuse
+pub written-file : (levels : List ℕ) (f : Frame) (text sizes : List ℕ)
+    → writeRefusal levels f (length text) (length sizes) ≡ 0
+    → (networkRefusal levels f ≡ 0)
+    × (take (getD (sizeAfter levels f text sizes) 0 0) (textAfter levels f text sizes) ≡ showNetwork levels f)
+written-file levels f text sizes w =
     let show = showNetwork levels f in
     let none : networkRefusal levels f ≡ 0 =
     either (eqb (networkRefusal levels f) 0)
     (λ yes. eqb-true _ 0 yes)
     (λ off. sym (checked-off maxNetworkLevel levels f _ (eqb-false (networkRefusal levels f) 0 off)) ∙ w) in
     let on = eq-eqb (writeRefusal levels f (length text) (length sizes)) 0 w in
-    let same : take (getD (sizeAfter levels f text sizes) 0 0) (textAfter levels f text sizes) ≡ show =
-    rw on (take-at show (drop (length show) text) (length show) refl) in
-    let zero-now = refusal-back levels f none (length headers) (length into) h l in
-    let read = eq-eqb (readRefusal show (length headers) (length into)) 0 zero-now in
-    rw same (zero-now, rw (read, frame-back levels f none), rw (read, levels-back levels f none))
+    (none, rw on (take-at show (drop (length show) text) (length show) refl))
+
+-- given to a call of `read_network` it is the same frame and the same levels
+pub network-back : (levels : List ℕ) (f : Frame) (text sizes headers into : List ℕ)
+    → writeRefusal levels f (length text) (length sizes) ≡ 0
+    → headerSize ≤ length headers → length levels ≤ length into
+    → let file = take (getD (sizeAfter levels f text sizes) 0 0) (textAfter levels f text sizes) in
+    (readRefusal file (length headers) (length into) ≡ 0)
+    × (headerAfter file headers into ≡ front (numbersOf f) headers)
+    × (levelsAfter file headers into ≡ front levels into)
+network-back levels f text sizes headers into w h l =
+    let file = written-file levels f text sizes w in
+    let zero-now = refusal-back levels f (file .0) (length headers) (length into) h l in
+    let read = eq-eqb (readRefusal (showNetwork levels f) (length headers) (length into)) 0 zero-now in
+    rw (file .1) (zero-now, rw (read, frame-back levels f (file .0)), rw (read, levels-back levels f (file .0)))

@@ -12,7 +12,7 @@ use Rattle.text.specs.Line.{linesOf}
 use Rattle.text.proofs.Digits.{either}
 use Rattle.grid.specs.Row.{all, isRow}
 use Rattle.grid.specs.File.{names, namesWell, spelledIn, unnamed, sixth, headOn, frameOf, noDataOf, namedOn, rowsOf, firstOff, faultLine, rowsFit}
-use Rattle.grid.specs.Steps.{linesAt, lineFrom, Passed, rowSound, rowsRead, bodyOn, bodyRows, bodyNoData, bodyRead, fileRead}
+use Rattle.grid.specs.InnerSteps.{linesAt, lineFrom, Passed, rowSound, rowsRead, bodyOn, bodyRows, bodyNoData, bodyRead, fileRead}
 use Rattle.grid.specs.declared.judge.File.{File}
 use Rattle.grid.specs.declared.judge.File.the-variants.{On, Off}
 use Rattle.grid.proofs.HeadLaws.{line-of}

@@ -13,7 +13,7 @@ use Rattle.text.specs.declared.number.Number.the-variants.{Got, Off}
 use Rattle.text.proofs.Digits.{either}
 use Rattle.text.proofs.Sames.{same-length}
 use Rattle.grid.specs.File.{begins, numberAfter, numberAt, namesWell, spelledIn}
-use Rattle.grid.specs.Steps.{linesAt, lineFrom, LineAt, keyRead}
+use Rattle.grid.specs.InnerSteps.{linesAt, lineFrom, LineAt, keyRead}
 use Rattle.grid.specs.declared.head.Line.{Line}
 use Rattle.grid.specs.declared.head.Keyed.{Keyed}
 use Rattle.grid.specs.declared.head.Keyed.the-variants as keyed

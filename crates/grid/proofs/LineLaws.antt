@@ -10,7 +10,7 @@ use lib.Seq.{drop-drop}
 use Rattle.text.specs.Line.{firstLine, linesOf}
 use Rattle.text.proofs.Digits.{either}
 use Rattle.text.proofs.Lines.{line-take, line-length, lines-step, lines-none, lines-first}
-use Rattle.grid.specs.Steps.{linesAt, lineFrom, Passed, LineAt}
+use Rattle.grid.specs.InnerSteps.{linesAt, lineFrom, Passed, LineAt}
 
 -- a line that ends before its text does has its CRLF there
 line-room : (s : List ℕ) → length (firstLine s) < length s → length (firstLine s) + 2 ≤ length s

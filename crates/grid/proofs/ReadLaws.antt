@@ -11,14 +11,15 @@ use lib.ListN.{length}
 use Rattle.refusal.specs.Refuse.{refuse}
 use Rattle.network.specs.Limits.{maxNetworkLevel, maxSide, leastSide}
 use Rattle.refusal.specs.Range.{allWithin}
-use Rattle.network.specs.Refusals.{between, sided, placed, filled}
+use Rattle.network.specs.Refusals.{between, sided, placed, filled, checked}
 use Rattle.network.specs.declared.Frame.{Frame}
+use Rattle.room.specs.Room.{front}
 use Rattle.text.specs.Line.{linesOf}
-use Rattle.refusal.proofs.Laws.{and-left, and-right}
+use Rattle.refusal.proofs.Laws.{and-left, and-right, refuse-none}
 use Rattle.grid.specs.Row.{all, valuesOf, given, hasValues, rowGiven, levelIn, rowLevels, levelsOf}
-use Rattle.grid.specs.File.{noDataOf, rowsOf, faultLine, rowsFit}
-use Rattle.grid.specs.Read.{over, numbersOf, headerSize, textFrame, textLevels, linesRefusal, readRefusal, headerAfter, levelsAfter}
-use Rattle.grid.specs.Steps.{isSound, rowSound, Judged, Rows, shapeRefusal}
+use Rattle.grid.specs.File.{frameOf, noDataOf, rowsOf, faultLine, rowsFit}
+use Rattle.grid.specs.Read.{numbersOf, headerSize, textFrame, textLevels, linesRefusal, readRefusal, headerAfter, levelsAfter}
+use Rattle.grid.specs.InnerSteps.{isSound, rowSound, Judged, Rows, shapeRefusal}
 use Rattle.grid.proofs.StoreLaws.{levels-length}
 
 -- ---- sound values: given, and no level too high
@@ -35,7 +36,7 @@ and-comm true false = refl
 and-comm false true = refl
 and-comm false false = refl
 
-up-append : (most : ℕ) (a b : List ℕ) → allWithin most (a ++ b) ≡ (allWithin most a && allWithin most b)
+pub up-append : (most : ℕ) (a b : List ℕ) → allWithin most (a ++ b) ≡ (allWithin most a && allWithin most b)
 unfolding allWithin
 up-append most [] b = refl
 up-append most (x ∷ a) b = rw (up-append most a b) (both (leb x most) (allWithin most a) (allWithin most b))
@@ -86,8 +87,28 @@ unfolding rowsFit
 fit-both f rows e =
     (eqb-true (length rows) (f .rows) (and-left (eqb (length rows) (f .rows)) (all (hasValues (f .columns)) rows) e), and-right (eqb (length rows) (f .rows)) (all (hasValues (f .columns)) rows) e)
 
-fit-length : (f : Frame) (rows : List (List ℕ)) → rowsFit f rows ≡ true → length (levelsOf rows) ≡ f .rows * f .columns
+pub fit-length : (f : Frame) (rows : List (List ℕ)) → rowsFit f rows ≡ true → length (levelsOf rows) ≡ f .rows * f .columns
 fit-length f rows e = let b = fit-both f rows e in levels-length (f .columns) rows (b .1) ∙ ap (λ n. n * f .columns) (b .0)
+
+-- what lines that are not refused have passed
+pub record Passed (lines : List (List ℕ)) : Type 0 where
+  pub fault : faultLine lines ≡ 0
+  pub fits : rowsFit (frameOf lines) (rowsOf lines) ≡ true
+  pub given : all (rowGiven (noDataOf lines)) (rowsOf lines) ≡ true
+
+pub passed : (lines : List (List ℕ)) (headers room : ℕ) → linesRefusal lines headers room ≡ 0 → Passed lines
+unfolding linesRefusal
+passed lines headers room read =
+    let levels = levelsOf (rowsOf lines) in
+    let f = frameOf lines in
+    let last = refuse 14 (leb headerSize headers && leb (length levels) room) 0 in
+    let g = refuse 13 (all (rowGiven (noDataOf lines)) (rowsOf lines)) last in
+    let a = refuse-none 17 (eqb (faultLine lines) 0) (refuse 12 (rowsFit f (rowsOf lines)) (checked levels f g)) (omega arith) read in
+    let b = refuse-none 12 (rowsFit f (rowsOf lines)) (checked levels f g) (omega arith) (a .1) in
+    let c = refuse-none 12 (sided f && placed f && filled levels f) (refuse 13 (allWithin maxNetworkLevel levels) g) (omega arith) (b .1) in
+    let d = refuse-none 13 (allWithin maxNetworkLevel levels) g (omega arith) (c .1) in
+    let e = refuse-none 13 (all (rowGiven (noDataOf lines)) (rowsOf lines)) last (omega arith) (d .1) in
+    record { fault = eqb-true (faultLine lines) 0 (a .0); fits = b .0; given = e .0 }
 
 -- the room for an answer
 abbrev roomy : List ℕ → ℕ → ℕ → Bool
@@ -167,7 +188,8 @@ module _ (s headers levels : List ℕ) where
       let no-zero = ne-eqb (readRefusal s (length headers) (length levels)) 0 (λ z. h (sym e ∙ z)) in
       (sym e, rw no-zero, rw no-zero)
 
-  pub read-outcome : readRefusal s (length headers) (length levels) ≡ 0 → Outcome 0 (over (numbersOf (textFrame s)) headers) (over (textLevels s) levels)
+  pub read-outcome : readRefusal s (length headers) (length levels) ≡ 0
+      → Outcome 0 (front (numbersOf (textFrame s)) headers) (front (textLevels s) levels)
   read-outcome e =
       let zero-now = eq-eqb (readRefusal s (length headers) (length levels)) 0 e in
       (sym e, rw zero-now, rw zero-now)

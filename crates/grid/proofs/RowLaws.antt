@@ -10,7 +10,7 @@ use lib.ListN.{length, drop}
 use Rattle.network.specs.declared.Frame.{Frame}
 use Rattle.grid.specs.Row.{all, valuesOf, isRow, hasValues}
 use Rattle.grid.specs.File.{firstOff, rowsFit}
-use Rattle.grid.specs.Steps.{linesAt, lineFrom, LineAt, rowSound, rowOf}
+use Rattle.grid.specs.InnerSteps.{linesAt, lineFrom, LineAt, rowSound, rowOf}
 use Rattle.grid.specs.declared.head.Line.{Line}
 use Rattle.grid.specs.declared.judge.Row.the-variants.{Values, Off}
 use Rattle.grid.proofs.LineLaws.{line-here, line-none}

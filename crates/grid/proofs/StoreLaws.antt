@@ -9,11 +9,10 @@ use borrow.Author.Tests.{eqb-true}
 use lib.ListN.{length, getD, take, drop, length-append, length-drop, length-map}
 use lib.Seq.{drop-drop, getD-drop, drop-at, length-take-le}
 use Rattle.text.specs.Field.{upTo}
-use Rattle.room.specs.Room.{put}
+use Rattle.room.specs.Room.{front, put}
 use Rattle.refusal.proofs.Laws.{and-left, and-right}
 use Rattle.grid.specs.Row.{all, valuesOf, hasValues, levelIn, rowLevels, levelsOf}
-use Rattle.grid.specs.Read.{over}
-use Rattle.grid.specs.Steps.{linesAt, lineFrom, LineAt, Rows}
+use Rattle.grid.specs.InnerSteps.{linesAt, lineFrom, LineAt, Rows}
 use Rattle.grid.specs.declared.head.Line.{Line}
 use Rattle.grid.proofs.LineLaws.{line-here, line-none}
 use Rattle.grid.proofs.ValueLaws.{between, last-at, next-at, some-at, all-cons}
@@ -71,9 +70,9 @@ levels-length columns (row ∷ rows) h =
     length-append (levelsOf rows) (rowLevels row) ∙ rw (r, length-levels row, n, suc-mul (length rows) columns)
 
 -- an answer's last part put in its place first
-over-put : (a b old : List ℕ) → length a + length b ≤ length old → over (a ++ b) old ≡ over a (put old (length a) b)
+front-last : (a b old : List ℕ) → length a + length b ≤ length old → front (a ++ b) old ≡ front a (put old (length a) b)
 unfolding put
-over-put a b old h =
+front-last a b old h =
     let l : length (take (length a) old) ≡ length a = length-take-le (length a) old (omega arith) in
     let d : drop (length a) (take (length a) old ++ b ++ drop (length a + length b) old) ≡ b ++ drop (length a + length b) old =
     ap (drop (length a)) (append-assoc (take (length a) old) b (drop (length a + length b) old)) ∙ drop-at (take (length a) old) (b ++ drop (length a + length b) old) (length a) l in
@@ -111,20 +110,20 @@ module _ (s : List ℕ) (at columns left : ℕ) (w : Rows s at columns left) (h 
       let p : left - 1 ≡ n = omega arith in
       rw (p, e) (sym (suc-mul n columns))
 
-  pub over-here : (l : Line) → LineAt s at l → (old : List ℕ) → left * columns ≤ length old
-      → over (levelsOf (linesAt s at)) old ≡ over (levelsOf (linesAt s (l .next))) (put old ((left - 1) * columns) (rowLevels (lineFrom s at)))
+  pub front-here : (l : Line) → LineAt s at l → (old : List ℕ) → left * columns ≤ length old
+      → front (levelsOf (linesAt s at)) old ≡ front (levelsOf (linesAt s (l .next))) (put old ((left - 1) * columns) (rowLevels (lineFrom s at)))
   unfolding levelsOf
-  over-here l line old room =
+  front-here l line old room =
       let rest = drop 1 (linesAt s at) in
       let n : length (levelsOf rest) ≡ (left - 1) * columns =
       levels-length columns rest rest-each ∙ (let p : length rest ≡ left - 1 = omega (arith, left-here) in rw p) in
       let k : length (rowLevels (lineFrom s at)) ≡ columns = length-levels (lineFrom s at) ∙ values-here in
       let p = place-here in
-      ap (λ r. over (levelsOf r) old) (line-here s at h)
-      ∙ over-put (levelsOf rest) (rowLevels (lineFrom s at)) old (omega arith)
-      ∙ ap (λ k. over (levelsOf rest) (put old k (rowLevels (lineFrom s at)))) n
-      ∙ ap (λ r. over (levelsOf r) (put old ((left - 1) * columns) (rowLevels (lineFrom s at)))) (sym (line .passed .rest))
+      ap (λ r. front (levelsOf r) old) (line-here s at h)
+      ∙ front-last (levelsOf rest) (rowLevels (lineFrom s at)) old (omega arith)
+      ∙ ap (λ k. front (levelsOf rest) (put old k (rowLevels (lineFrom s at)))) n
+      ∙ ap (λ r. front (levelsOf r) (put old ((left - 1) * columns) (rowLevels (lineFrom s at)))) (sym (line .passed .rest))
 
-pub over-end : (s : List ℕ) (at : ℕ) (old : List ℕ) → length s ≤ at → over (levelsOf (linesAt s at)) old ≡ old
+pub front-end : (s : List ℕ) (at : ℕ) (old : List ℕ) → length s ≤ at → front (levelsOf (linesAt s at)) old ≡ old
 unfolding levelsOf
-over-end s at old h = ap (λ r. over (levelsOf r) old) (line-none s at h)
+front-end s at old h = ap (λ r. front (levelsOf r) old) (line-none s at h)

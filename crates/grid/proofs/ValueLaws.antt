@@ -18,7 +18,7 @@ use Rattle.network.specs.Limits.{maxNetworkLevel}
 use Rattle.text.proofs.Digits.{either}
 use Rattle.text.proofs.Fields.{up-take, up-length, after-drop}
 use Rattle.grid.specs.Row.{all, valuesOf, isValue, isRow}
-use Rattle.grid.specs.Steps.{isSound, rowSound, valueRefusal, rowOf}
+use Rattle.grid.specs.InnerSteps.{isSound, rowSound, valueRefusal, rowOf}
 use Rattle.grid.specs.declared.judge.Row.the-variants.{Values, Off}
 
 values-last : (s : List ℕ) → length s ≤ length (upTo 32 s) → valuesOf s ≡ upTo 32 s ∷ []

@@ -2,20 +2,21 @@
 use Prim.Native.Nat.{ℕ, zero, suc, _+_, _/_, _%_, _≤_, _<_}
 use mathlib.Core.Path.{_≡_, refl, sym, ap, _∙_}
 use mathlib.Core.List.{List, [], _∷_, _++_, map}
-use mathlib.Core.Bool.{true, false, true≢false}
+use mathlib.Core.Bool.{Bool, true, false, _||_, true≢false}
 use native.Mathlib.Omega.{arith}
-use borrow.Author.Tests.{eq-eqb, ne-eqb, eqb-true, ltb-true}
+use borrow.Author.Tests.{eq-eqb, ne-eqb, eqb-true, ltb-true, not-true}
 use lib.Dec.{eqb, ltb}
-use lib.ListN.{length, getD, length-append, List·getD-append}
+use lib.ListN.{length, getD, take, drop, length-append, take-append-drop, List·getD-append}
 use lib.Seq.{take-append-seam, drop-append-seam}
 use Rattle.refusal.proofs.Laws.{and-left, and-right}
-use Rattle.text.specs.Number.{levelOf, shown, showWhole, showTwo, showLevel}
+use Rattle.text.specs.Number.{wholeOf, decimalOf, levelOf, isGot, shown, showWhole, showDigits, showLevel}
 use Rattle.text.specs.Field.{countOf, joinedBy}
 use Rattle.text.specs.Line.{onto, linesOf}
 use Rattle.text.specs.Same.{sameText}
 use Rattle.text.specs.declared.number.Number.the-variants.{Got, Off}
-use Rattle.text.proofs.Digits.{either}
+use Rattle.text.proofs.Digits.{either, whole-small, got-value}
 use Rattle.text.proofs.Shown.{whole-back, level-back, shown-least}
+use Rattle.text.proofs.Exact.{whole-exact, level-exact}
 use Rattle.text.proofs.Free.{shown-free, level-free}
 use Rattle.text.proofs.Fields.{count-append}
 use Rattle.network.specs.Limits.{maxNetworkLevel}
@@ -97,7 +98,7 @@ same-equal (x ∷ a) (y ∷ b) e =
 -- ---- levels that were written
 
 unnamed-off : levelOf unnamed ≡ Off
-unfolding levelOf
+unfolding decimalOf
 unnamed-off = refl
 
 pub level-given : (v : ℕ) → v ≤ maxNetworkLevel → given unnamed (showLevel v) ≡ true
@@ -106,6 +107,16 @@ level-given v h =
     (λ yes. let z : Off ≡ Got v = sym unnamed-off ∙ ap levelOf (sym (same-equal (showLevel v) unnamed yes)) ∙ level-back v (omega arith) in
     let k : _≡_ {A = ℕ} 0 1 = cc in absurd (omega arith))
     (λ other. rw other)
+
+-- a value that is given is its level's text
+pub value-is : (nodata t : List ℕ) → isValue nodata t ≡ true → given nodata t ≡ true → t ≡ showLevel (levelIn t)
+value-is nodata t v g =
+    let other = not-true (sameText t nodata) g in
+    level-exact t (levelIn t) (got-value (levelOf t) (or-false (isGot (levelOf t)) (rw other at v)))
+  where
+    or-false : (a : Bool) → (a || false) ≡ true → a ≡ true
+    or-false true e = refl
+    or-false false e = e
 
 -- what holds of each level, of a whole row
 abbrev pub Levels : List ℕ → Type 0
@@ -135,6 +146,19 @@ pub number-back : (key : List ℕ) (n : ℕ) → n < 10000000 → numberAfter ke
 unfolding numberAfter
 number-back key n h = rw (begins-self key (showWhole n), drop-append-seam key (showWhole n)) (whole-back n h)
 
+-- a header line that gives a number is its key and that number, of seven digits at most
+pub key-line : (key l : List ℕ) (n : ℕ) → numberAfter key l ≡ Got n → (n < 10000000) × (l ≡ keyLine key n)
+unfolding numberAfter begins
+key-line key l n e =
+    either (sameText (take (length key) l) key)
+    (λ yes. let number : wholeOf (drop (length key) l) ≡ Got n = rw yes at e in
+    let w = whole-exact (drop (length key) l) n number in
+    let k = same-equal (take (length key) l) key yes in (
+      whole-small (drop (length key) l) n number,
+      sym (take-append-drop (length key) l) ∙ ap (λ (a : List ℕ). a ++ drop (length key) l) k ∙ ap (λ (b : List ℕ). key ++ b) w,
+    ))
+    (λ other. let z : Off ≡ Got n = rw other at e in let k : _≡_ {A = ℕ} 0 1 = cc in absurd (omega arith))
+
 pub key-free : (key : List ℕ) (n : ℕ) → countOf 13 key ≡ 0 → countOf 13 (keyLine key n) ≡ 0
 key-free key n e = count-append 13 key (showWhole n) ∙ omega (arith, e, shown-free 13 (omega arith) 7 n)
 
@@ -157,7 +181,7 @@ pub names-row : (line : List ℕ) (v : ℕ) (t : List ℕ) → line ≡ showLeve
 names-row line v t e =
     let whole = showWhole (v / 100) in
     let some = shown-least 6 (v / 100) in
-    let a : getD (showLevel v) 0 0 ≡ getD whole 0 0 = List·getD-append whole (46 ∷ showTwo (v % 100)) 0 0 some in
-    let l : 1 ≤ length (showLevel v) = omega (arith, length-append whole (46 ∷ showTwo (v % 100))) in
+    let a : getD (showLevel v) 0 0 ≡ getD whole 0 0 = List·getD-append whole (46 ∷ showDigits 2 (v % 100)) 0 0 some in
+    let l : 1 ≤ length (showLevel v) = omega (arith, length-append whole (46 ∷ showDigits 2 (v % 100))) in
     let b = List·getD-append (showLevel v) t 0 0 l in
     names-other line (omega (arith, ap (λ s. getD s 0 0) e, a, b, first-digit 6 (v / 100)))

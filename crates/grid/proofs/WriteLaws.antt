@@ -2,27 +2,25 @@
 use Prim.Native.Nat.{ℕ, zero, suc, _+_, _-_, _*_, _/_, _%_, _≤_, _<_}
 use mathlib.Core.Path.{_≡_, refl, sym, ap, _∙_}
 use mathlib.Core.List.{List, [], _∷_, _++_, map, append-assoc, append-nil}
-use native.Mathlib.Nat.{suc-mul, zero-mul, mul-le-mul, mul-le-mul-right, zero-add}
+use native.Mathlib.Nat.{suc-mul, zero-mul, mul-le-mul, mul-le-mul-right}
 use native.Mathlib.Numerals.{add-one}
 use native.Mathlib.Omega.{arith}
 use borrow.Author.Tests.{ltb-true, ltb-false, le-leb, lt-leb, eq-eqb, ne-eqb}
 use lib.Dec.{ltb}
-use lib.ListN.{length, getD, take, drop, set, length-append, length-drop, drop-of-length-le, List·getD-eq-default}
+use lib.ListN.{length, getD, take, drop, length-append, length-drop, drop-of-length-le, List·getD-eq-default}
 use lib.Seq.{take-add, take-all, length-take-le, drop-cons, getD-take, getD-drop}
-use Rattle.text.specs.Number.{showWhole, showTwo, showLevel}
+use Rattle.text.specs.Number.{showWhole, showLevel}
 use Rattle.text.specs.Field.{joinedBy}
-use Rattle.room.specs.Room.{put, Wrote}
+use Rattle.room.specs.Room.{front}
 use Rattle.text.proofs.Digits.{either}
-use Rattle.room.proofs.Laws.{wrote-then, wrote-none, length-wrote}
-use Rattle.text.proofs.Shown.{whole-one, whole-longer, shown-width, level-most}
+use Rattle.text.proofs.Shown.{whole-one, whole-longer, shown-width, decimal-long, level-most}
 use Rattle.network.specs.Edges.{Checked, Sized}
 use Rattle.network.specs.Limits.{maxNetworkLevel, maxOrigin}
 use Rattle.network.specs.Refusals.{networkRefusal}
 use Rattle.network.proofs.Refusals.{checked-on, checked-off}
 use Rattle.network.specs.declared.Frame.{Frame}
 use Rattle.grid.specs.Write.{keyLine, headLines, rowLine, rowAt, rowLines, textOf, showNetwork, writeRefusal, textAfter, sizeAfter}
-use Rattle.grid.specs.Read.{over}
-use Rattle.grid.specs.Steps.{sizesOf, Quiet, Near, ended, sideLines, placeLines}
+use Rattle.grid.specs.InnerSteps.{sizesOf, Quiet, Near, ended, sideLines, placeLines}
 
 -- ---- lines as a text
 
@@ -72,7 +70,7 @@ network-text levels f =
 
 -- the size of a level, by its size in units
 level-size : (v : ℕ) → length (showLevel v) ≡ length (showWhole (v / 100)) + 3
-level-size v = length-append (showWhole (v / 100)) (46 ∷ showTwo (v % 100))
+level-size v = omega (arith, decimal-long 2 v)
 
 one-digit : (n : ℕ) → n < 10 → length (showWhole n) ≡ 1
 one-digit n h = ap length (whole-one n h)
@@ -157,40 +155,6 @@ pub head-length : (f : Frame) → length (textOf (headLines f))
     ≡ 51 + (length (showWhole (f .columns)) + length (showWhole (f .rows))) + (length (showWhole (f .west)) + length (showWhole (f .south))) + length (showWhole (f .spacing))
 unfolding textOf
 head-length f = simp length-append (omega arith)
-
--- ---- a text written part by part: what is done, and what is left of it
-
-pub record Writing (old : List ℕ) (from : ℕ) (text new : List ℕ) (at : ℕ) (rest : List ℕ) : Type 0 where
-  pub done : List ℕ
-  pub wrote : Wrote old from done new at
-  pub whole : done ++ rest ≡ text
-
-pub writing-start : (old : List ℕ) (from : ℕ) (text : List ℕ) → Writing old from text old from text
-writing-start old from text = record { done = []; wrote = wrote-none old from; whole = refl }
-
-module _ {old : List ℕ} {from : ℕ} {text new : List ℕ} {at : ℕ} where
-  -- the room for what is left
-  pub writing-room : {rest : List ℕ} → Writing old from text new at rest → from + length text ≤ length old → (at + length rest ≤ length new) × (length new ≡ length old)
-  writing-room {rest} w room =
-      let l = ap length (sym (w .whole)) ∙ length-append (w .done) rest in
-      let place = w .wrote .place in
-      let kept = length-wrote (omega arith) (w .wrote) in
-      (omega arith, kept)
-
-  pub writing-more : (piece rest : List ℕ) {last : List ℕ} {next : ℕ} → Writing old from text new at (piece ++ rest) → from + length text ≤ length old
-      → Wrote new at piece last next → Writing old from text last next rest
-  writing-more piece rest w room p =
-      let l = ap length (sym (w .whole)) ∙ length-append (w .done) (piece ++ rest) in
-      let k = length-append piece rest in
-      let m = length-append (w .done) piece in
-      record {
-        done = w .done ++ piece;
-        wrote = wrote-then (omega arith) (w .wrote) p;
-        whole = append-assoc (w .done) piece rest ∙ w .whole;
-      }
-
-  pub writing-end : Writing old from text new at [] → Wrote old from text new at
-  writing-end w = let e : w .done ≡ text = sym (append-nil (w .done)) ∙ w .whole in record { place = w .wrote .place ∙ ap (λ t. from + length t) e; bytes = w .wrote .bytes ∙ ap (put old from) e }
 
 -- ---- the levels of a row
 
@@ -281,14 +245,6 @@ parts-length levels f =
 
 -- ---- what a call leaves
 
-pub wrote-over : {old text new : List ℕ} {r : ℕ} → Wrote old 0 text new r → new ≡ over text old
-unfolding put
-wrote-over {old} {text} w = w .bytes ∙ rw (zero-add (length text))
-
-pub set-over : (old : List ℕ) (n : ℕ) → 1 ≤ length old → set old 0 n ≡ over (n ∷ []) old
-set-over [] n h = absurd (omega arith)
-set-over (x ∷ old) n h = refl
-
 module _ (levels : List ℕ) (f : Frame) (text sizes : List ℕ) where
   abbrev pub Outcome : ℕ → List ℕ → List ℕ → Type 0
   Outcome n t s = (n ≡ writeRefusal levels f (length text) (length sizes)) × (t ≡ textAfter levels f text sizes) × (s ≡ sizeAfter levels f text sizes)
@@ -311,7 +267,7 @@ module _ (levels : List ℕ) (f : Frame) (text sizes : List ℕ) where
         refused 14 (checked-on maxNetworkLevel levels f _ none ∙ rw (le-leb (length (showNetwork levels f)) (length text) h, lt-leb 1 (length sizes) l)) (λ z. omega arith)
 
     pub written : length (showNetwork levels f) ≤ length text → 1 ≤ length sizes
-        → Outcome 0 (over (showNetwork levels f) text) (over (length (showNetwork levels f) ∷ []) sizes)
+        → Outcome 0 (front (showNetwork levels f) text) (front (length (showNetwork levels f) ∷ []) sizes)
     written h l =
         let e : writeRefusal levels f (length text) (length sizes) ≡ 0 =
         checked-on maxNetworkLevel levels f _ none ∙ rw (le-leb (length (showNetwork levels f)) (length text) h, le-leb 1 (length sizes) l) in

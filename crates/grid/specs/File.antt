@@ -1,5 +1,5 @@
 -- A network file by its lines: five keys with whole numbers, where it is named the no-data value, then the rows.
--- The rules, "Files and the report program"; a missing header line counts as an empty one. Assumes nothing.
+-- RULES, "Files and the report program"; a missing header line counts as an empty one. Assumes nothing.
 use Prim.Native.Nat.{ℕ, _+_}
 use mathlib.Core.List.{List, [], _∷_, _++_, map}
 use mathlib.Core.Bool.{Bool, cond, _&&_, _||_}
@@ -7,34 +7,34 @@ use lib.ListN.{length, getD, take, drop}
 use lib.Dec.{eqb}
 use Rattle.text.specs.Number.{wholeOf, levelOf, isGot, valueOf}
 use Rattle.text.specs.Same.{sameText}
+use Rattle.text.specs.Spelled.{bytes, byte}
 use Rattle.text.specs.declared.number.Number.{Number}
 use Rattle.text.specs.declared.number.Number.the-variants.{Off}
 use Rattle.network.specs.declared.Frame.{Frame}
 use Rattle.grid.specs.Row.{all, isRow, hasValues}
 
--- the keys, each with its space: `ncols `, `nrows `, `xllcenter `, `yllcenter `, `cellsize `
+-- the keys, each with its space
 abbrev pub ncols : List ℕ
-ncols = 110 ∷ 99 ∷ 111 ∷ 108 ∷ 115 ∷ 32 ∷ []
+ncols = bytes "ncols "
 
 abbrev pub nrows : List ℕ
-nrows = 110 ∷ 114 ∷ 111 ∷ 119 ∷ 115 ∷ 32 ∷ []
+nrows = bytes "nrows "
 
 abbrev pub xllcenter : List ℕ
-xllcenter = 120 ∷ 108 ∷ 108 ∷ 99 ∷ 101 ∷ 110 ∷ 116 ∷ 101 ∷ 114 ∷ 32 ∷ []
+xllcenter = bytes "xllcenter "
 
 abbrev pub yllcenter : List ℕ
-yllcenter = 121 ∷ 108 ∷ 108 ∷ 99 ∷ 101 ∷ 110 ∷ 116 ∷ 101 ∷ 114 ∷ 32 ∷ []
+yllcenter = bytes "yllcenter "
 
 abbrev pub cellsize : List ℕ
-cellsize = 99 ∷ 101 ∷ 108 ∷ 108 ∷ 115 ∷ 105 ∷ 122 ∷ 101 ∷ 32 ∷ []
+cellsize = bytes "cellsize "
 
--- the word `NODATA_value`
 abbrev pub noDataWord : List ℕ
-noDataWord = 78 ∷ 79 ∷ 68 ∷ 65 ∷ 84 ∷ 65 ∷ 95 ∷ 118 ∷ 97 ∷ 108 ∷ 117 ∷ 101 ∷ []
+noDataWord = bytes "NODATA_value"
 
--- what is no data where the file does not name it: `-9999`
+-- what is no data where the file does not name it
 abbrev pub unnamed : List ℕ
-unnamed = 45 ∷ 57 ∷ 57 ∷ 57 ∷ 57 ∷ []
+unnamed = bytes "-9999"
 
 -- the line begins with the word
 unfoldable pub begins : List ℕ → List ℕ → Bool
@@ -73,12 +73,12 @@ names line = begins noDataWord line
 abbrev pub sixth : List (List ℕ) → List ℕ
 sixth lines = getD lines 5 []
 
--- the value after the word and a space: an optional minus, 45, and then a whole number or a level
+-- the value after the word and a space: an optional minus, and then a whole number or a level
 abbrev pub spelledIn : List ℕ → List ℕ
 spelledIn line = drop (length noDataWord + 1) line
 
 abbrev pub unsigned : List ℕ → List ℕ
-unsigned t = cond (eqb (getD t 0 0) 45) (drop 1 t) t
+unsigned t = cond (eqb (getD t 0 0) (byte "-")) (drop 1 t) t
 
 abbrev pub isNumber : List ℕ → Bool
 isNumber t = isGot (wholeOf t) || isGot (levelOf t)
@@ -87,7 +87,7 @@ abbrev pub isSpelling : List ℕ → Bool
 isSpelling t = isNumber (unsigned t)
 
 unfoldable pub namesWell : List ℕ → Bool
-namesWell line = eqb (getD line (length noDataWord) 0) 32 && isSpelling (spelledIn line)
+namesWell line = eqb (getD line (length noDataWord) 0) (byte " ") && isSpelling (spelledIn line)
 
 -- no data as the file spells it, whether its naming is on the layout, and the rows
 unfoldable pub noDataOf : List (List ℕ) → List ℕ

@@ -2,4 +2,4 @@ pub mod Row
 pub mod File
 pub mod Read
 pub mod Write
-pub mod Steps
+pub mod InnerSteps

@@ -1,13 +1,14 @@
 -- A network text that is read: what it is refused with, and what it leaves in the room that is lent.
--- The rules, "Refusal numbers": 17, 12, 13, 14. Assumes nothing.
+-- RULES, "Refusal numbers": 17, 12, 13, 14. Assumes nothing.
 use Prim.Native.Nat.{ℕ}
-use mathlib.Core.List.{List, [], _∷_, _++_}
-use mathlib.Core.Bool.{cond, _&&_}
-use lib.ListN.{length, drop}
+use mathlib.Core.List.{List, [], _∷_}
+use mathlib.Core.Bool.{_&&_}
+use lib.ListN.{length}
 use lib.Dec.{eqb, leb}
 use Rattle.text.specs.Line.{linesOf}
 use Rattle.refusal.specs.Refuse.{refuse}
 use Rattle.network.specs.Limits.{maxNetworkLevel}
+use Rattle.room.specs.Room.{leaves}
 use Rattle.network.specs.Refusals.{checked}
 use Rattle.network.specs.declared.Frame.{Frame}
 use Rattle.grid.specs.Row.{all, rowGiven, levelsOf}
@@ -39,16 +40,11 @@ linesRefusal lines headers room =
 abbrev pub readRefusal : List ℕ → ℕ → ℕ → ℕ
 readRefusal text headers room = linesRefusal (linesOf text) headers room
 
--- what the lent room holds after: the answer and past it what stood there, or where the text is refused all that stood there
-abbrev pub over : List ℕ → List ℕ → List ℕ
-over answer old = answer ++ drop (length answer) old
+-- what the lent room holds after
+abbrev pub headerAfter : (text headers levels : List ℕ) → List ℕ
+headerAfter text headers levels =
+    leaves (readRefusal text (length headers) (length levels)) (numbersOf (textFrame text)) headers
 
-abbrev pub ifRead : List ℕ → List ℕ → List ℕ → List ℕ → List ℕ → List ℕ
-ifRead text headers levels answer old =
-    cond (eqb (readRefusal text (length headers) (length levels)) 0) (over answer old) old
-
-abbrev pub headerAfter : List ℕ → List ℕ → List ℕ → List ℕ
-headerAfter text headers levels = ifRead text headers levels (numbersOf (textFrame text)) headers
-
-abbrev pub levelsAfter : List ℕ → List ℕ → List ℕ → List ℕ
-levelsAfter text headers levels = ifRead text headers levels (textLevels text) levels
+abbrev pub levelsAfter : (text headers levels : List ℕ) → List ℕ
+levelsAfter text headers levels =
+    leaves (readRefusal text (length headers) (length levels)) (textLevels text) levels

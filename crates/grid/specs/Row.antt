@@ -1,5 +1,5 @@
 -- A row of a network file: values parted by one space, each a level or the no-data value as the file spells it.
--- The rules, "Files and the report program". A space is 32. Assumes nothing.
+-- RULES, "Files and the report program". Assumes nothing.
 use Prim.Native.Nat.{ℕ}
 use mathlib.Core.List.{List, [], _∷_, _++_, map}
 use mathlib.Core.Bool.{Bool, true, cond, _&&_, _||_, not}
@@ -8,6 +8,7 @@ use lib.Dec.{eqb}
 use Rattle.text.specs.Number.{levelOf, isGot, valueOf}
 use Rattle.text.specs.Line.{onto}
 use Rattle.text.specs.Same.{sameText}
+use Rattle.text.specs.Spelled.{byte}
 
 -- each element passes the test
 unfoldable pub all : {A : Type 0} → (A → Bool) → List A → Bool
@@ -17,7 +18,7 @@ all p (x ∷ xs) = p x && all p xs
 -- the texts that the spaces of a line part
 unfoldable pub valuesOf : List ℕ → List (List ℕ)
 valuesOf [] = [] ∷ []
-valuesOf (c ∷ s) = cond (eqb c 32) ([] ∷ valuesOf s) (onto c (valuesOf s))
+valuesOf (c ∷ s) = cond (eqb c (byte " ")) ([] ∷ valuesOf s) (onto c (valuesOf s))
 
 -- a value is no data where it is spelled so; otherwise it is a level
 abbrev pub given : List ℕ → List ℕ → Bool

@@ -1,18 +1,19 @@
--- A network that is written: its lines, each with its CRLF, without a NODATA_value line, the rows from north to south; what
--- it is refused with (12, 13, 14), and what it leaves in the room that is lent. CRLF is 13 and 10. Assumes nothing.
+-- A network that is written: its lines, each with its CRLF, without a NODATA_value line, the rows from north to south;
+-- what it is refused with (12, 13, 14), and what it leaves in the room that is lent. Assumes nothing.
 use Prim.Native.Nat.{ℕ, zero, suc, _*_}
 use mathlib.Core.List.{List, [], _∷_, _++_, map}
-use mathlib.Core.Bool.{cond, _&&_}
+use mathlib.Core.Bool.{_&&_}
 use lib.ListN.{length, take, drop}
-use lib.Dec.{eqb, leb}
+use lib.Dec.{leb}
 use Rattle.text.specs.Number.{showWhole, showLevel}
 use Rattle.text.specs.Field.{joinedBy}
+use Rattle.text.specs.Spelled.{byte, crlf}
 use Rattle.refusal.specs.Refuse.{refuse}
 use Rattle.network.specs.Limits.{maxNetworkLevel}
+use Rattle.room.specs.Room.{leaves}
 use Rattle.network.specs.Refusals.{checked}
 use Rattle.network.specs.declared.Frame.{Frame}
 use Rattle.grid.specs.File.{ncols, nrows, xllcenter, yllcenter, cellsize}
-use Rattle.grid.specs.Read.{over}
 
 -- a key, its space and a whole number
 abbrev pub keyLine : List ℕ → ℕ → List ℕ
@@ -29,7 +30,7 @@ headLines f =
 
 -- the levels of a row, parted by one space
 unfoldable pub rowLine : List ℕ → List ℕ
-rowLine levels = joinedBy 32 (map showLevel levels)
+rowLine levels = joinedBy (byte " ") (map showLevel levels)
 
 -- the levels of row r, counted from the south
 abbrev pub rowAt : ℕ → List ℕ → ℕ → List ℕ
@@ -43,7 +44,7 @@ rowLines columns levels (suc rows) = rowLine (rowAt columns levels rows) ∷ row
 -- lines as a text, each with its CRLF
 unfoldable pub textOf : List (List ℕ) → List ℕ
 textOf [] = []
-textOf (line ∷ lines) = line ++ (13 ∷ 10 ∷ textOf lines)
+textOf (line ∷ lines) = line ++ (crlf ++ textOf lines)
 
 abbrev pub networkLines : List ℕ → Frame → List (List ℕ)
 networkLines levels f = headLines f ++ rowLines (f .columns) levels (f .rows)
@@ -52,16 +53,15 @@ unfoldable pub showNetwork : List ℕ → Frame → List ℕ
 showNetwork levels f = textOf (networkLines levels f)
 
 -- what it is refused with, or 0, where room is lent for so many bytes and sizes
-abbrev pub writeRefusal : List ℕ → Frame → ℕ → ℕ → ℕ
+abbrev pub writeRefusal : (levels : List ℕ) (f : Frame) (room sizes : ℕ) → ℕ
 writeRefusal levels f room sizes =
     checked maxNetworkLevel levels f (refuse 14 (leb (length (showNetwork levels f)) room && leb 1 sizes) 0)
 
-abbrev pub ifWritten : List ℕ → Frame → List ℕ → List ℕ → List ℕ → List ℕ → List ℕ
-ifWritten levels f text sizes answer old =
-    cond (eqb (writeRefusal levels f (length text) (length sizes)) 0) (over answer old) old
+-- what the lent room holds after: the text, and its size
+abbrev pub textAfter : (levels : List ℕ) (f : Frame) (text sizes : List ℕ) → List ℕ
+textAfter levels f text sizes =
+    leaves (writeRefusal levels f (length text) (length sizes)) (showNetwork levels f) text
 
-abbrev pub textAfter : List ℕ → Frame → List ℕ → List ℕ → List ℕ
-textAfter levels f text sizes = ifWritten levels f text sizes (showNetwork levels f) text
-
-abbrev pub sizeAfter : List ℕ → Frame → List ℕ → List ℕ → List ℕ
-sizeAfter levels f text sizes = ifWritten levels f text sizes (length (showNetwork levels f) ∷ []) sizes
+abbrev pub sizeAfter : (levels : List ℕ) (f : Frame) (text sizes : List ℕ) → List ℕ
+sizeAfter levels f text sizes =
+    leaves (writeRefusal levels f (length text) (length sizes)) (length (showNetwork levels f) ∷ []) sizes

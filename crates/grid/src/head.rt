@@ -9,7 +9,7 @@ ghost use mathlib.Core.Path.{_≡_};
 ghost use Prim.Native.Nat.{_≤_};
 ghost use lib.ListN.{length};
 ghost use Rattle.grid.specs.File.{begins, numberAfter, isNumber, isSpelling, namesWell};
-ghost use Rattle.grid.specs.Steps.{LineAt, keyRead, headRead, noDataRead};
+ghost use Rattle.grid.specs.InnerSteps.{LineAt, keyRead, headRead, noDataRead};
 
 // Where a line ends, and where the next one starts.
 pub struct Line {
@@ -125,27 +125,33 @@ fn is_spelling(s: &[u8]) -> bool
     ensures { λ r. ⌜ r ≡ isSpelling (now (s .entry)) ⌝ }
 {
     if 0 < s.len() {
-        if s[0] == 45 {
+        if s[0] == b'-' {
             return is_number(&s[1..]);
         }
     }
     is_number(s)
 }
 
-// Whether a line that begins with the no-data word is on the layout.
+// The bytes of the word NODATA_value, past which a space stands, and where the value stands past both.
+const WORD: usize = 12;
+
+const SPELLED: usize = 13;
+
+// Whether a line that begins with that word is on the layout.
 fn names_well(line: &[u8]) -> bool
     ensures { λ r. ⌜ r ≡ namesWell (now (line .entry)) ⌝ }
 {
-    if line.len() < 13 {
+    if line.len() < SPELLED {
         return false;
     }
-    if line[12] != 32 {
+    if line[WORD] != b' ' {
         return false;
     }
-    is_spelling(&line[13..])
+    is_spelling(&line[SPELLED..])
 }
 
-// What the line after the header says of no data: where it is spelled and the place past the line, nothing, or that it is off the layout.
+// What the line after the header says of no data: where it is spelled and the place past the line, nothing, or that it
+// is off the layout.
 pub enum NoData {
     Named(usize, usize, usize),
     Unnamed,
@@ -165,5 +171,5 @@ pub(crate) fn no_data(s: &[u8], at: usize) -> NoData
     if !names_well(&s[at..end]) {
         return NoData::Off;
     }
-    NoData::Named(at + 13, end, line.next)
+    NoData::Named(at + SPELLED, end, line.next)
 }

@@ -1,4 +1,5 @@
-// The whole of a network text judged before anything is stored: the first line off the layout, or whether its rows fit and its levels are sound.
+// The whole of a network text judged before anything is stored: the first line off the layout, or whether its rows fit
+// and its levels are sound.
 use crate::head::Head;
 use crate::head::NoData;
 use crate::head::line_at;
@@ -14,7 +15,7 @@ ghost use mathlib.Core.Path.{_≡_};
 ghost use mathlib.Core.Bool.{_&&_};
 ghost use Prim.Native.Nat.{_≤_};
 ghost use lib.ListN.{length};
-ghost use Rattle.grid.specs.Steps.{valueRefusal, rowOf, rowsRead, bodyRead, fileRead};
+ghost use Rattle.grid.specs.InnerSteps.{valueRefusal, rowOf, rowsRead, bodyRead, fileRead};
 
 // Whether both hold.
 fn both(a: bool, b: bool) -> bool
@@ -58,7 +59,7 @@ fn judge_row(s: &[u8], nodata: &[u8]) -> Row
     let mut count = 0;
     let mut sound = true;
     loop {
-        let end = field_end(s, at, 32);
+        let end = field_end(s, at, b' ');
         let refusal = value_refusal(&s[at..end], nodata);
         if refusal == 17 {
             return Row::Off;
@@ -72,8 +73,8 @@ fn judge_row(s: &[u8], nodata: &[u8]) -> Row
     }
 }
 
-// What a text is judged to be: its frame, the place of its rows, whether they fit the frame and whether all values are sound;
-// or the first line off the layout.
+// What a text is judged to be: its frame, the place of its rows, whether they fit the frame and whether all values are
+// sound; or the first line off the layout.
 pub enum File {
     On(Frame, usize, bool, bool),
     Off(usize),

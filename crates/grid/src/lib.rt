@@ -1,4 +1,4 @@
-// Network files in Esri ASCII grid form, read and written. The rules, "Files and the report program".
+// Network files in Esri ASCII grid form, read and written: RULES, "Files and the report program".
 mod head;
 mod judge;
 mod put;

@@ -1,26 +1,28 @@
-// A network's text put into a buffer that has room for it: each part writes from a place on and answers the place past it.
+// A network's text put into a buffer that has room for it: each part writes from a place on and answers the place past
+// it.
 use network::Frame;
 use text::core::put_byte;
 use text::core::put_level;
 use text::core::put_text;
 use text::core::put_whole;
-ghost use mathlib.Core.List.{[], _∷_};
+ghost use mathlib.Core.List.{_∷_};
 ghost use Prim.Native.Nat.{_+_, _≤_};
 ghost use lib.ListN.{length};
 ghost use Rattle.text.specs.Number.{showLevel};
+ghost use Rattle.text.specs.Spelled.{byte, crlf};
 ghost use Rattle.room.specs.Room.{Wrote};
 ghost use Rattle.network.specs.Edges.{Checked, Sized};
 ghost use Rattle.network.specs.Limits.{maxNetworkLevel, maxOrigin};
 ghost use Rattle.grid.specs.Write.{keyLine, rowLine, rowLines, textOf, showNetwork};
-ghost use Rattle.grid.specs.Steps.{Quiet, Near, ended, sideLines, placeLines};
+ghost use Rattle.grid.specs.InnerSteps.{Quiet, Near, ended, sideLines, placeLines};
 
 // The end of a line.
 fn put_end(out: &mut [u8], at: usize) -> usize
     requires { ⌜ at + 2 ≤ length (now out) ⌝ }
-    ensures { λ r. ⌜ Wrote (now (out .entry)) at (13 ∷ 10 ∷ []) (now (out .exit)) r ⌝ }
+    ensures { λ r. ⌜ Wrote (now (out .entry)) at crlf (now (out .exit)) r ⌝ }
 {
-    let next = put_byte(out, at, 13);
-    put_byte(out, next, 10)
+    let next = put_byte(out, at, b'\r');
+    put_byte(out, next, b'\n')
 }
 
 // A header line: its key, its number and its end.
@@ -54,16 +56,17 @@ fn put_place(out: &mut [u8], at: usize, frame: Frame) -> usize
 
 // A space and a level.
 fn put_spaced(out: &mut [u8], at: usize, v: u32) -> usize
-    requires { ⌜ (v ≤ maxNetworkLevel) × (at + length (32 ∷ showLevel v) ≤ length (now out)) ⌝ }
-    ensures { λ r. ⌜ Wrote (now (out .entry)) at (32 ∷ showLevel v) (now (out .exit)) r ⌝ }
+    requires { ⌜ (v ≤ maxNetworkLevel) × (at + length (byte " " ∷ showLevel v) ≤ length (now out)) ⌝ }
+    ensures { λ r. ⌜ Wrote (now (out .entry)) at (byte " " ∷ showLevel v) (now (out .exit)) r ⌝ }
 {
-    let next = put_byte(out, at, 32);
+    let next = put_byte(out, at, b' ');
     put_level(out, next, v)
 }
 
 // The levels of a row, parted by one space.
 fn put_values(out: &mut [u8], from: usize, row: &[u32]) -> usize
-    requires { ⌜ (1 ≤ length (now row)) × Quiet (now row) × (from + length (rowLine (now row)) ≤ length (now out)) ⌝ }
+    requires { ⌜ (1 ≤ length (now row)) × Quiet (now row)
+        × (from + length (rowLine (now row)) ≤ length (now out)) ⌝ }
     ensures { λ r. ⌜ Wrote (now (out .entry)) from (rowLine (now (row .entry))) (now (out .exit)) r ⌝ }
 {
     let mut at = put_level(out, from, row[0]);
@@ -77,7 +80,8 @@ fn put_values(out: &mut [u8], from: usize, row: &[u32]) -> usize
 
 // A row with its end.
 fn put_row(out: &mut [u8], at: usize, row: &[u32]) -> usize
-    requires { ⌜ (1 ≤ length (now row)) × Quiet (now row) × (at + length (ended (rowLine (now row))) ≤ length (now out)) ⌝ }
+    requires { ⌜ (1 ≤ length (now row)) × Quiet (now row)
+        × (at + length (ended (rowLine (now row))) ≤ length (now out)) ⌝ }
     ensures { λ r. ⌜ Wrote (now (out .entry)) at (ended (rowLine (now (row .entry)))) (now (out .exit)) r ⌝ }
 {
     let end = put_values(out, at, row);
@@ -86,8 +90,10 @@ fn put_row(out: &mut [u8], at: usize, row: &[u32]) -> usize
 
 // All rows, the northernmost first.
 fn put_rows(out: &mut [u8], from: usize, levels: &[u32], columns: usize, rows: usize) -> usize
-    requires { ⌜ Sized (now levels) columns rows × Quiet (now levels) × (from + length (textOf (rowLines columns (now levels) rows)) ≤ length (now out)) ⌝ }
-    ensures { λ r. ⌜ Wrote (now (out .entry)) from (textOf (rowLines columns (now (levels .entry)) rows)) (now (out .exit)) r ⌝ }
+    requires { ⌜ Sized (now levels) columns rows × Quiet (now levels)
+        × (from + length (textOf (rowLines columns (now levels) rows)) ≤ length (now out)) ⌝ }
+    ensures { λ r. ⌜ Wrote (now (out .entry)) from (textOf (rowLines columns (now (levels .entry)) rows))
+        (now (out .exit)) r ⌝ }
 {
     let mut at = from;
     let mut left = rows;

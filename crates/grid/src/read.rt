@@ -1,6 +1,7 @@
 // A network text read into lent room.
 use crate::judge::File;
 use crate::judge::judge;
+use crate::store::HEADER_SIZE;
 use crate::store::store_frame;
 use crate::store::store_rows;
 use network::Frame;
@@ -11,9 +12,10 @@ ghost use lib.ListN.{length};
 ghost use Rattle.text.specs.Line.{linesOf};
 ghost use Rattle.grid.specs.File.{faultLine};
 ghost use Rattle.grid.specs.Read.{readRefusal, headerAfter, levelsAfter};
-ghost use Rattle.grid.specs.Steps.{shapeRefusal};
+ghost use Rattle.grid.specs.InnerSteps.{shapeRefusal};
 
-// The refusal of a text on its layout: 12 where its rows don't fit or the frame is out of range, 13 for a value that isn't sound, or 0.
+// The refusal of a text on its layout: 12 where its rows don't fit or the frame is out of range, 13 for a value that
+// isn't sound, or 0.
 fn shape_refusal(frame: Frame, fits: bool, sound: bool) -> u32
     ensures { λ r. ⌜ r ≡ shapeRefusal frame fits sound ⌝ }
 {
@@ -41,7 +43,8 @@ pub fn fault_line(text: &[u8]) -> usize
 
 // Reads a network text: 17, 12, 13 or 14, or 0 and its header numbers and levels in the room lent.
 pub fn read_network(text: &[u8], header: &mut [u32], levels: &mut [u32]) -> u32
-    ensures { λ r. ⌜ (r ≡ readRefusal (now (text .entry)) (length (now (header .entry))) (length (now (levels .entry))))
+    ensures { λ r. ⌜ (r ≡ readRefusal (now (text .entry)) (length (now (header .entry)))
+        (length (now (levels .entry))))
         × (now (header .exit) ≡ headerAfter (now (text .entry)) (now (header .entry)) (now (levels .entry)))
         × (now (levels .exit) ≡ levelsAfter (now (text .entry)) (now (header .entry)) (now (levels .entry))) ⌝ }
 {
@@ -54,7 +57,7 @@ pub fn read_network(text: &[u8], header: &mut [u32], levels: &mut [u32]) -> u32
     }
     let columns = frame.columns as usize;
     let rows = frame.rows as usize;
-    if header.len() < 5 {
+    if header.len() < HEADER_SIZE {
         return 14;
     }
     if levels.len() < rows * columns {

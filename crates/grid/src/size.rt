@@ -7,7 +7,7 @@ ghost use Rattle.text.specs.Number.{showWhole, showLevel};
 ghost use Rattle.network.specs.Edges.{Checked};
 ghost use Rattle.network.specs.Limits.{maxNetworkLevel, maxOrigin, maxSide};
 ghost use Rattle.grid.specs.Write.{headLines, textOf, showNetwork};
-ghost use Rattle.grid.specs.Steps.{sizesOf, Quiet, Near};
+ghost use Rattle.grid.specs.InnerSteps.{sizesOf, Quiet, Near};
 
 // The bytes of a level: its units, a point and two digits.
 fn level_size(v: u32) -> usize
@@ -51,17 +51,21 @@ fn whole_size(n: u32) -> usize
     size
 }
 
-// The bytes of the header lines: those of keys and ends are 51.
+// The bytes of the header's keys and line ends.
+const HEAD_BYTES: usize = 51;
+
+// The bytes of the header lines.
 fn head_size(frame: Frame) -> usize
     requires { ⌜ Near frame ⌝ }
     ensures { λ r. ⌜ r ≡ length (textOf (headLines frame)) ⌝ }
 {
     let sides = whole_size(frame.columns) + whole_size(frame.rows);
     let place = whole_size(frame.west) + whole_size(frame.south);
-    51 + sides + place + whole_size(frame.spacing)
+    HEAD_BYTES + sides + place + whole_size(frame.spacing)
 }
 
-// The bytes of a network's text: past each level stands a space or the first byte of the row's end, whose second one is a row's own.
+// The bytes of a network's text: past each level stands a space or the first byte of the row's end, whose second one is
+// a row's own.
 pub(crate) fn text_size(levels: &[u32], frame: Frame) -> usize
     requires { ⌜ Checked (now levels) frame ⌝ }
     ensures { λ r. ⌜ r ≡ length (showNetwork (now (levels .entry)) frame) ⌝ }

@@ -7,10 +7,10 @@ use text::number::level;
 ghost use mathlib.Core.Path.{_≡_};
 ghost use Prim.Native.Nat.{_+_, _-_, _*_, _≤_};
 ghost use lib.ListN.{length};
-ghost use Rattle.room.specs.Room.{put};
+ghost use Rattle.room.specs.Room.{front, put};
 ghost use Rattle.grid.specs.Row.{valuesOf, levelIn, rowLevels, levelsOf};
-ghost use Rattle.grid.specs.Read.{numbersOf, over};
-ghost use Rattle.grid.specs.Steps.{linesAt, Rows};
+ghost use Rattle.grid.specs.Read.{numbersOf, headerSize};
+ghost use Rattle.grid.specs.InnerSteps.{linesAt, Rows};
 
 // The level of a value, and 0 where it is none.
 fn level_in(s: &[u8]) -> u32
@@ -30,7 +30,7 @@ fn store_row(s: &[u8], out: &mut [u32], to: usize)
     let mut at = 0;
     let mut i = 0;
     loop {
-        let end = field_end(s, at, 32);
+        let end = field_end(s, at, b' ');
         out[to + i] = level_in(&s[at..end]);
         i += 1;
         if s.len() <= end {
@@ -51,7 +51,7 @@ fn rows_south(row: usize, rows: usize) -> usize
 // Stores the levels of all rows from `from` on, each of `columns` values, the last row first.
 pub(crate) fn store_rows(s: &[u8], from: usize, columns: usize, rows: usize, out: &mut [u32])
     requires { ⌜ Rows (now s) from columns rows × (rows * columns ≤ length (now out)) ⌝ }
-    ensures { λ _. ⌜ now (out .exit) ≡ over (levelsOf (linesAt (now (s .entry)) from)) (now (out .entry)) ⌝ }
+    ensures { λ _. ⌜ now (out .exit) ≡ front (levelsOf (linesAt (now (s .entry)) from)) (now (out .entry)) ⌝ }
 {
     let mut at = from;
     let mut row = 0;
@@ -65,10 +65,13 @@ pub(crate) fn store_rows(s: &[u8], from: usize, columns: usize, rows: usize, out
     }
 }
 
-// Stores the five header numbers.
+// The header as numbers: columns, rows, spacing, west, south.
+pub const HEADER_SIZE: usize = 5;
+
+// Stores the header's numbers.
 pub(crate) fn store_frame(frame: Frame, out: &mut [u32])
-    requires { ⌜ 5 ≤ length (now out) ⌝ }
-    ensures { λ _. ⌜ now (out .exit) ≡ over (numbersOf frame) (now (out .entry)) ⌝ }
+    requires { ⌜ headerSize ≤ length (now out) ⌝ }
+    ensures { λ _. ⌜ now (out .exit) ≡ front (numbersOf frame) (now (out .entry)) ⌝ }
 {
     out[0] = frame.columns;
     out[1] = frame.rows;

@@ -10,7 +10,8 @@ ghost use Rattle.grid.specs.Write.{writeRefusal, textAfter, sizeAfter};
 
 // Writes a network: 12, 13 or 14, or 0 and its text and the text's size in the room lent.
 pub fn write_network(levels: &[u32], frame: Frame, text: &mut [u8], size: &mut [u32]) -> u32
-    ensures { λ r. ⌜ (r ≡ writeRefusal (now (levels .entry)) frame (length (now (text .entry))) (length (now (size .entry))))
+    ensures { λ r. ⌜ (r ≡ writeRefusal (now (levels .entry)) frame (length (now (text .entry)))
+        (length (now (size .entry))))
         × (now (text .exit) ≡ textAfter (now (levels .entry)) frame (now (text .entry)) (now (size .entry)))
         × (now (size .exit) ≡ sizeAfter (now (levels .entry)) frame (now (text .entry)) (now (size .entry))) ⌝ }
 {

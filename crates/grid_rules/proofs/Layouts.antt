@@ -12,21 +12,21 @@ use lib.Seq.{getD-drop, getD-append-add, take-suc}
 use Rattle.refusal.proofs.Laws.{and-left, and-right}
 use Rattle.text.specs.Line.{linesOf}
 use Rattle.text.specs.Field.{countOf, fieldOf}
-use Rattle.text.specs.Number.{wholeOf, levelOf, isGot, valueOf, shown, showWhole, showTwo, showLevel}
+use Rattle.text.specs.Number.{wholeOf, levelOf, isGot, valueOf, shown, showWhole, showDigits, showLevel}
 use Rattle.text.specs.Same.{sameText}
 use Rattle.text.specs.Spelled.{bytes}
 use Rattle.text.specs.declared.number.Number.the-variants.{Got}
-use Rattle.text.proofs.Digits.{either, whole-small}
+use Rattle.text.proofs.Digits.{either, whole-small, got-value}
 use Rattle.text.proofs.Shown.{whole-back, level-back, shown-least}
 use Rattle.text.proofs.Exact.{whole-exact, level-exact, level-small}
 use Rattle.grid.specs.Row.{all, valuesOf, isValue, isRow}
 use Rattle.grid.specs.File.{unnamed, numberAfter, isNumber, isSpelling, namesWell, headOn, namedOn, noDataOf, rowsOf, firstOff, faultLine}
 use Rattle.grid.proofs.ValueLaws.{all-cons, all-none}
-use Rattle.grid.proofs.Values.{same-equal, same-self, number-back}
+use Rattle.grid.proofs.Values.{same-equal, same-self, number-back, key-line}
 use Rattle.grid_rules.specs.Laid.{line, Named, Behind}
 use Rattle.grid_rules.specs.Refused.{keys, Keyed, Level, Naming, RowOn, LineOn, Fault}
 use Rattle.grid_rules.proofs.Places.{test-at, all-at, map-at, value-field, value-count}
-use Rattle.grid_rules.proofs.Said.{got-of, key-line, word-names, other-names}
+use Rattle.grid_rules.proofs.Said.{word-names, other-names}
 
 got-is : {n : ℕ} (x : _) → x ≡ Got n → isGot x ≡ true
 got-is x e = rw e refl
@@ -35,7 +35,7 @@ got-is x e = rw e refl
 
 key-on : (key l : List ℕ) → isGot (numberAfter key l) ≡ true → Keyed key l
 key-on key l e =
-    let k = key-line key l (valueOf (numberAfter key l)) (got-of (numberAfter key l) e) in
+    let k = key-line key l (valueOf (numberAfter key l)) (got-value (numberAfter key l) e) in
     record { number = valueOf (numberAfter key l); most = k .0; is = k .1 }
 
 key-passes : (key l : List ℕ) → Keyed key l → isGot (numberAfter key l) ≡ true
@@ -44,7 +44,7 @@ key-passes key l k = got-is (numberAfter key l) (ap (numberAfter key) (k .is) �
 -- ---- values and rows
 
 level-on : (t : List ℕ) → isGot (levelOf t) ≡ true → Level t
-level-on t e = let g = got-of (levelOf t) e in record { number = valueOf (levelOf t); most = level-small t _ g; is = level-exact t _ g }
+level-on t e = let g = got-value (levelOf t) e in record { number = valueOf (levelOf t); most = level-small t _ g; is = level-exact t _ g }
 
 level-passes : (t : List ℕ) → Level t → isGot (levelOf t) ≡ true
 level-passes t l = got-is (levelOf t) (ap levelOf (l .is) ∙ level-back (l .number) (l .most))
@@ -99,7 +99,7 @@ abbrev body : Bool → ℕ → List ℕ
 body point n = cond point (showLevel n) (showWhole n)
 
 body-first : (point : Bool) (n : ℕ) → 48 ≤ getD (body point n) 0 0
-body-first true n = rw (List·getD-append (showWhole (n / 100)) (46 ∷ showTwo (n % 100)) 0 0 (shown-least 6 (n / 100))) (first-least 6 (n / 100))
+body-first true n = rw (List·getD-append (showWhole (n / 100)) (46 ∷ showDigits 2 (n % 100)) 0 0 (shown-least 6 (n / 100))) (first-least 6 (n / 100))
 body-first false n = first-least 6 n
 
 body-number : (point : Bool) (n : ℕ) → n < cond point 100000 10000000 → isNumber (body point n) ≡ true
@@ -124,7 +124,7 @@ pub record Digits (t : List ℕ) : Type 0 where
 number-on : (t : List ℕ) → isNumber t ≡ true → Digits t
 number-on t e =
     either (isGot (wholeOf t))
-    (λ yes. let g = got-of (wholeOf t) yes in
+    (λ yes. let g = got-value (wholeOf t) yes in
     record { point = false; number = valueOf (wholeOf t); most = whole-small t _ g; is = whole-exact t _ g })
     (λ other. let l = level-on t (rw other at e) in
     record { point = true; number = l .number; most = l .most; is = l .is })

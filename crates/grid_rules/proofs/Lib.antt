@@ -2,4 +2,6 @@ pub mod Places
 pub mod Said
 pub mod Wrote
 pub mod Layouts
+pub mod Ordered
+pub mod Sound
 pub mod Order

@@ -1,185 +1,34 @@
 -- A text is refused with 17, 12, 13 or 14, in this order, exactly where the rules say. Assumes nothing.
 use Prim.Native.Nat.{ℕ, zero, suc, _+_, _-_, _*_, _≤_, _<_}
 use mathlib.Core.Path.{_≡_, refl, sym, ap, _∙_}
-use mathlib.Core.List.{List, [], _∷_, _++_, map}
+use mathlib.Core.List.{List, []}
 use mathlib.Core.Bool.{Bool, true, false, cond, _&&_, true≢false}
 use native.Mathlib.Omega.{arith}
-use borrow.Author.Tests.{eqb-true, eqb-false, eq-eqb, leb-true, le-leb, not-true}
+use borrow.Author.Tests.{eqb-true, eqb-false, eq-eqb, leb-true, le-leb}
 use lib.Dec.{eqb, leb}
-use lib.ListN.{length, getD, drop, length-drop, length-map}
+use lib.ListN.{length, getD, drop, length-drop}
 use Rattle.refusal.specs.Range.{allWithin}
-use Rattle.refusal.proofs.Laws.{and-left, and-right}
+use Rattle.refusal.proofs.Laws.{and-left}
 use Rattle.refusal.proofs.Ranges.{within-at}
 use Rattle.text.specs.Line.{linesOf}
 use Rattle.text.specs.Field.{countOf, fieldOf}
-use Rattle.text.specs.Number.{levelOf, valueOf, showLevel}
-use Rattle.text.specs.Same.{sameText}
 use Rattle.text.specs.Spelled.{bytes}
 use Rattle.text.proofs.Digits.{either}
-use Rattle.text.proofs.Shown.{level-back}
-use Rattle.network.specs.Limits.{leastSide, maxSide, leastSpacing, maxSpacing, maxOrigin, maxNetworkLevel}
-use Rattle.network.specs.Refusals.{between, sided, placed, filled}
+use Rattle.network.specs.Limits.{maxNetworkLevel}
+use Rattle.network.specs.Refusals.{sided, placed, filled}
 use Rattle.network.specs.declared.Frame.{Frame}
-use Rattle.network.proofs.Refusals.{both, in-between}
-use Rattle.grid.specs.Row.{all, valuesOf, given, hasValues, rowGiven, levelIn, rowLevels, levelsOf}
+use Rattle.network.proofs.Refusals.{both}
+use Rattle.grid.specs.Row.{all, valuesOf, given, hasValues, rowGiven, levelIn, levelsOf}
 use Rattle.grid.specs.File.{noDataOf, rowsOf, faultLine, rowsFit}
 use Rattle.grid.specs.Read.{headerSize, textFrame, linesRefusal, readRefusal}
-use Rattle.grid.proofs.Values.{same-equal, same-self}
+use Rattle.grid.proofs.ReadLaws.{fit-length}
 use Rattle.grid_rules.specs.Laid.{line, Behind, Sized}
 use Rattle.grid_rules.specs.Refused.{LineOn, Fault, InRange, Given, AllGiven, Refused, NoDataRefused}
-use Rattle.grid_rules.proofs.Places.{all-at, map-at, value-field, value-count, level-at}
-use Rattle.grid_rules.proofs.Said.{headed, five-there, six-there, fit, wide, row-line, sized, levels-number}
+use Rattle.grid_rules.proofs.Places.{all-at, value-field, value-count, level-at}
+use Rattle.grid_rules.proofs.Said.{headed, five-there, six-there, fit, wide, row-line, sized}
 use Rattle.grid_rules.proofs.Layouts.{all-from, behind, fault-from}
-
--- ---- four tests in order
-
-pub record Ordered (a b c d : Bool) (n : ℕ) : Type 0 where
-  pub off : n ≡ 17 → a ≡ false
-  pub on : (n ≡ 17 → ⊥) → a ≡ true
-  pub misfit : n ≡ 12 → (a ≡ true) × (b ≡ false)
-  pub fits : (n ≡ 17 → ⊥) → (n ≡ 12 → ⊥) → b ≡ true
-  pub unsound : n ≡ 13 → (a ≡ true) × (b ≡ true) × (c ≡ false)
-  pub sound : (n ≡ 17 → ⊥) → (n ≡ 12 → ⊥) → (n ≡ 13 → ⊥) → c ≡ true
-  pub narrow : n ≡ 14 → (a ≡ true) × (b ≡ true) × (d ≡ false)
-  pub roomy : n ≡ 0 → (a ≡ true) × (b ≡ true) × (d ≡ true)
-  pub known : (n ≡ 17 → ⊥) → (n ≡ 12 → ⊥) → (n ≡ 13 → ⊥) → (n ≡ 14 → ⊥) → n ≡ 0
-
-ordered : (a b c d : Bool) → Ordered a b c d (cond a (cond b (cond c (cond d 0 14) 13) 12) 17)
-ordered true true true true = record {
-  off = λ e. absurd (omega arith);
-  on = λ h. refl;
-  misfit = λ e. absurd (omega arith);
-  fits = λ g h. refl;
-  unsound = λ e. absurd (omega arith);
-  sound = λ g h i. refl;
-  narrow = λ e. absurd (omega arith);
-  roomy = λ e. (refl, refl, refl);
-  known = λ g h i j. refl;
-}
-ordered true true true false = record {
-  off = λ e. absurd (omega arith);
-  on = λ h. refl;
-  misfit = λ e. absurd (omega arith);
-  fits = λ g h. refl;
-  unsound = λ e. absurd (omega arith);
-  sound = λ g h i. refl;
-  narrow = λ e. (refl, refl, refl);
-  roomy = λ e. absurd (omega arith);
-  known = λ g h i j. absurd (j refl);
-}
-ordered true true false d = record {
-  off = λ e. absurd (omega arith);
-  on = λ h. refl;
-  misfit = λ e. absurd (omega arith);
-  fits = λ g h. refl;
-  unsound = λ e. (refl, refl, refl);
-  sound = λ g h i. absurd (i refl);
-  narrow = λ e. absurd (omega arith);
-  roomy = λ e. absurd (omega arith);
-  known = λ g h i j. absurd (i refl);
-}
-ordered true false c d = record {
-  off = λ e. absurd (omega arith);
-  on = λ h. refl;
-  misfit = λ e. (refl, refl);
-  fits = λ g h. absurd (h refl);
-  unsound = λ e. absurd (omega arith);
-  sound = λ g h i. absurd (h refl);
-  narrow = λ e. absurd (omega arith);
-  roomy = λ e. absurd (omega arith);
-  known = λ g h i j. absurd (h refl);
-}
-ordered false b c d = record {
-  off = λ e. refl;
-  on = λ h. absurd (h refl);
-  misfit = λ e. absurd (omega arith);
-  fits = λ g h. absurd (g refl);
-  unsound = λ e. absurd (omega arith);
-  sound = λ g h i. absurd (g refl);
-  narrow = λ e. absurd (omega arith);
-  roomy = λ e. absurd (omega arith);
-  known = λ g h i j. absurd (g refl);
-}
-
--- two tests with the same number are one
-one-test : (p q : Bool) (rest n : ℕ) → cond p (cond q rest n) n ≡ cond (p && q) rest n
-one-test true q rest n = refl
-one-test false q rest n = refl
-
-both-true : (p q : Bool) → p ≡ true → q ≡ true → (p && q) ≡ true
-both-true p q e f = rw (e, f) refl
-
--- ---- 12
-
-range-on : (f : Frame) → (sided f && placed f) ≡ true → InRange f
-range-on f h =
-    let s = both (sided f) (placed f) h in
-    let p = both (between leastSide (f .columns) maxSide) (between leastSide (f .rows) maxSide) (s .0) in
-    let o = both (between leastSpacing (f .spacing) maxSpacing) (leb (f .west) maxOrigin && leb (f .south) maxOrigin) (s .1) in
-    let w = both (leb (f .west) maxOrigin) (leb (f .south) maxOrigin) (o .1) in
-    record {
-      columns = in-between leastSide (f .columns) maxSide (p .0);
-      rows = in-between leastSide (f .rows) maxSide (p .1);
-      spacing = in-between leastSpacing (f .spacing) maxSpacing (o .0);
-      west = leb-true (f .west) maxOrigin (w .0);
-      south = leb-true (f .south) maxOrigin (w .1);
-    }
-
-range-passes : (f : Frame) → InRange f → (sided f && placed f) ≡ true
-range-passes f r =
-    rw (
-      le-leb 2 (f .columns) (r .columns .0),
-      le-leb (f .columns) 256 (r .columns .1),
-      le-leb 2 (f .rows) (r .rows .0),
-      le-leb (f .rows) 256 (r .rows .1),
-      le-leb 1 (f .spacing) (r .spacing .0),
-      le-leb (f .spacing) 500 (r .spacing .1),
-      le-leb (f .west) 900000 (r .west),
-      le-leb (f .south) 900000 (r .south),
-    ) refl
-
--- ---- 13
-
-within-from : (top : ℕ) (xs : List ℕ) → ((i : ℕ) → i < length xs → getD xs i 0 ≤ top) → allWithin top xs ≡ true
-unfolding allWithin
-within-from top [] h = refl
-within-from top (x ∷ xs) h = rw (le-leb x top (h 0 (omega arith))) (within-from top xs (λ i l. h (suc i) (omega arith)))
-
-within-append : (top : ℕ) (a b : List ℕ) → allWithin top a ≡ true → allWithin top b ≡ true → allWithin top (a ++ b) ≡ true
-unfolding allWithin
-within-append top [] b p q = q
-within-append top (x ∷ a) b p q =
-    both-true (leb x top) (allWithin top (a ++ b)) (and-left (leb x top) (allWithin top a) p)
-    (within-append top a b (and-right (leb x top) (allWithin top a) p) q)
-
-levels-within : (top : ℕ) (rows : List (List ℕ)) → ((k : ℕ) → k < length rows → allWithin top (rowLevels (getD rows k [])) ≡ true)
-    → allWithin top (levelsOf rows) ≡ true
-unfolding levelsOf allWithin
-levels-within top [] h = refl
-levels-within top (row ∷ rows) h =
-    within-append top (levelsOf rows) (rowLevels row) (levels-within top rows (λ k l. h (suc k) (omega arith))) (h 0 (omega arith))
-
-row-within : (top : ℕ) (row : List ℕ) → ((c : ℕ) → c ≤ countOf 32 row → levelIn (fieldOf 32 c row) ≤ top) → allWithin top (rowLevels row) ≡ true
-unfolding rowLevels
-row-within top row h =
-    within-from top (map levelIn (valuesOf row))
-    (λ i l. let inside : i < length (valuesOf row) = omega (arith, length-map (valuesOf row) levelIn) in
-    let place : i ≤ countOf 32 row = omega (arith, value-count row) in
-    rw (map-at levelIn (valuesOf row) [] 0 i inside, value-field row i) (h i place))
-
--- a level's text has that level
-level-of : (t : List ℕ) (n : ℕ) → n < 100000 → t ≡ showLevel n → levelIn t ≡ n
-level-of t n h e = ap valueOf (ap levelOf e ∙ level-back n h)
-
-given-is : (nodata t : List ℕ) → (t ≡ nodata → ⊥) → given nodata t ≡ true
-given-is nodata t other =
-    either (sameText t nodata) (λ yes. absurd (other (same-equal t nodata yes))) (λ off. rw off refl)
-
-given-other : (nodata t : List ℕ) → given nodata t ≡ true → t ≡ nodata → ⊥
-given-other nodata t g e =
-    true≢false (sym (ap (λ (s : List ℕ). sameText s nodata) e ∙ same-self nodata) ∙ not-true (sameText t nodata) g)
-
--- ---- the whole text
+use Rattle.grid_rules.proofs.Ordered.{Ordered, ordered, one-test, both-true}
+use Rattle.grid_rules.proofs.Sound.{range-on, range-passes, levels-within, row-within, level-of, given-is, given-other}
 
 module _ (text : List ℕ) where
   abbrev lines : List (List ℕ)
@@ -243,7 +92,7 @@ module _ (text : List ℕ) where
     fits-pass s r =
         let fit-now = rows-fit s in
         both-true (rowsFit f rows) (sided f && placed f && filled (levelsOf rows) f) fit-now
-        (both-true (sided f && placed f) (filled (levelsOf rows) f) (range-passes f r) (eq-eqb (length (levelsOf rows)) (f .rows * f .columns) (levels-number lines fit-now)))
+        (both-true (sided f && placed f) (filled (levelsOf rows) f) (range-passes f r) (eq-eqb (length (levelsOf rows)) (f .rows * f .columns) (fit-length f rows fit-now)))
 
     -- every value is given
     sound-on : ((k : ℕ) → LineOn text first nodata k) → rowsFit f rows ≡ true → ready ≡ true → AllGiven text first nodata
@@ -298,7 +147,7 @@ module _ (text : List ℕ) where
       let none : eqb (faultLine lines) 0 ≡ true → faultLine lines ≡ 0 = λ e. eqb-true (faultLine lines) 0 e in
       let fit-now : fitting ≡ true → rowsFit f rows ≡ true =
       λ e. and-left (rowsFit f rows) (sided f && placed f && filled (levelsOf rows) f) e in
-      let number : fitting ≡ true → length (levelsOf rows) ≡ f .rows * f .columns = λ e. levels-number lines (fit-now e) in
+      let number : fitting ≡ true → length (levelsOf rows) ≡ f .rows * f .columns = λ e. fit-length f rows (fit-now e) in
       record {
         off = λ e on. off-line (faultLine lines) (eqb-false (faultLine lines) 0 (o .off e)) (λ k s. fault .here k s (on k));
         on = λ h. fault .none (none (o .on h));

@@ -2,85 +2,29 @@
 use Prim.Native.Nat.{ℕ, suc, _+_, _-_, _*_, _≤_, _<_}
 use mathlib.Core.Path.{_≡_, refl, sym, ap, _∙_}
 use mathlib.Core.List.{List, [], _∷_, _++_, map}
-use mathlib.Core.Bool.{Bool, true, false, _&&_, _||_, true≢false}
+use mathlib.Core.Bool.{Bool, true, false, _&&_}
 use native.Mathlib.Omega.{arith}
-use borrow.Author.Tests.{eqb-true, eq-eqb, leb-true, leb-false, not-true}
+use borrow.Author.Tests.{eqb-true, eq-eqb, leb-true, leb-false}
 use lib.Dec.{eqb, leb}
 use lib.ListN.{length, getD, take, drop, length-drop, take-append-drop, List·getD-eq-default}
 use lib.Seq.{getD-drop, getD-append-add, take-nil, take-at}
-use Rattle.refusal.proofs.Laws.{refuse-none}
-use Rattle.refusal.specs.Refuse.{refuse}
-use Rattle.refusal.specs.Range.{allWithin}
 use Rattle.text.specs.Line.{linesOf}
 use Rattle.text.specs.Field.{countOf, fieldOf}
-use Rattle.text.specs.Number.{wholeOf, levelOf, isGot, valueOf, showWhole, showLevel}
+use Rattle.text.specs.Number.{isGot, valueOf, showWhole, showLevel}
 use Rattle.text.specs.Same.{sameText}
 use Rattle.text.specs.Spelled.{bytes}
-use Rattle.text.specs.declared.number.Number.{Number}
-use Rattle.text.specs.declared.number.Number.the-variants.{Got, Off}
-use Rattle.text.proofs.Digits.{either, whole-small}
-use Rattle.text.proofs.Exact.{whole-exact, level-exact}
-use Rattle.network.specs.Limits.{maxNetworkLevel}
-use Rattle.network.specs.Refusals.{sided, placed, filled, checked}
+use Rattle.text.proofs.Digits.{either, got-value}
 use Rattle.grid.specs.Row.{all, valuesOf, given, isValue, isRow, hasValues, rowGiven, levelIn, levelsOf}
 use Rattle.grid.specs.File.{ncols, nrows, xllcenter, yllcenter, cellsize, begins, numberAfter, numberAt, names, sixth, headOn, namedOn, frameOf, noDataOf, rowsOf, faultLine, rowsFit}
-use Rattle.grid.specs.Read.{headerSize, textFrame, textLevels, linesRefusal, readRefusal, headerAfter, levelsAfter}
-use Rattle.grid.proofs.StoreLaws.{levels-length}
-use Rattle.grid.proofs.ReadLaws.{fit-both}
-use Rattle.grid.proofs.Values.{same-equal, same-self}
+use Rattle.grid.specs.Read.{textFrame, textLevels, readRefusal, headerAfter, levelsAfter}
+use Rattle.grid.proofs.ReadLaws.{fit-both, fit-length, Passed, passed}
+use Rattle.grid.proofs.Values.{key-line, value-is, same-equal, same-self}
 use Rattle.grid_rules.specs.Laid.{line, Named, Headed, Sized, Laid, Says, frameIn, levelsIn}
 use Rattle.grid_rules.proofs.Places.{test-at, all-at, map-at, value-field, value-count, level-at}
 
-pub got-of : (x : Number) → isGot x ≡ true → x ≡ Got (valueOf x)
-got-of (Got n) e = refl
-got-of Off e = absurd (true≢false (sym e))
-
--- a header line that gives a number is its key and that number, of seven digits at most
-pub key-line : (key l : List ℕ) (n : ℕ) → numberAfter key l ≡ Got n → (n < 10000000) × (l ≡ key ++ showWhole n)
-unfolding numberAfter begins
-key-line key l n e =
-    either (sameText (take (length key) l) key)
-    (λ yes. let number : wholeOf (drop (length key) l) ≡ Got n = rw yes at e in
-    let w = whole-exact (drop (length key) l) n number in
-    let k = same-equal (take (length key) l) key yes in (
-      whole-small (drop (length key) l) n number,
-      sym (take-append-drop (length key) l) ∙ ap (λ (a : List ℕ). a ++ drop (length key) l) k ∙ ap (λ (b : List ℕ). key ++ b) w,
-    ))
-    (λ other. let z : Off ≡ Got n = rw other at e in let k : _≡_ {A = ℕ} 0 1 = cc in absurd (omega arith))
-
--- a value that is given is its level's text
-value-is : (nodata t : List ℕ) → isValue nodata t ≡ true → given nodata t ≡ true → t ≡ showLevel (levelIn t)
-value-is nodata t v g =
-    let other = not-true (sameText t nodata) g in
-    level-exact t (levelIn t) (got-of (levelOf t) (or-false (isGot (levelOf t)) (rw other at v)))
-  where
-    or-false : (a : Bool) → (a || false) ≡ true → a ≡ true
-    or-false true e = refl
-    or-false false e = e
-
--- what lines that are not refused have passed
-pub record Passed (lines : List (List ℕ)) : Type 0 where
-  pub fault : faultLine lines ≡ 0
-  pub fits : rowsFit (frameOf lines) (rowsOf lines) ≡ true
-  pub given : all (rowGiven (noDataOf lines)) (rowsOf lines) ≡ true
-
-pub passed : (lines : List (List ℕ)) (headers room : ℕ) → linesRefusal lines headers room ≡ 0 → Passed lines
-unfolding linesRefusal
-passed lines headers room read =
-    let levels = levelsOf (rowsOf lines) in
-    let f = frameOf lines in
-    let last = refuse 14 (leb headerSize headers && leb (length levels) room) 0 in
-    let g = refuse 13 (all (rowGiven (noDataOf lines)) (rowsOf lines)) last in
-    let a = refuse-none 17 (eqb (faultLine lines) 0) (refuse 12 (rowsFit f (rowsOf lines)) (checked maxNetworkLevel levels f g)) (omega arith) read in
-    let b = refuse-none 12 (rowsFit f (rowsOf lines)) (checked maxNetworkLevel levels f g) (omega arith) (a .1) in
-    let c = refuse-none 12 (sided f && placed f && filled levels f) (refuse 13 (allWithin maxNetworkLevel levels) g) (omega arith) (b .1) in
-    let d = refuse-none 13 (allWithin maxNetworkLevel levels) g (omega arith) (c .1) in
-    let e = refuse-none 13 (all (rowGiven (noDataOf lines)) (rowsOf lines)) last (omega arith) (d .1) in
-    record { fault = eqb-true (faultLine lines) 0 (a .0); fits = b .0; given = e .0 }
-
 -- a header line that gives a number, by its place
 pub number-at : (lines : List (List ℕ)) (key : List ℕ) (i : ℕ) → isGot (numberAt key i lines) ≡ true → getD lines i [] ≡ key ++ showWhole (valueOf (numberAt key i lines))
-number-at lines key i e = key-line key (getD lines i []) (valueOf (numberAt key i lines)) (got-of (numberAt key i lines) e) .1
+number-at lines key i e = key-line key (getD lines i []) (valueOf (numberAt key i lines)) (got-value (numberAt key i lines) e) .1
 
 -- rows that start in line `first`
 pub row-line : (lines : List (List ℕ)) (first : ℕ) → rowsOf lines ≡ drop first lines → (k : ℕ) → getD (rowsOf lines) k [] ≡ getD lines (first + k) []
@@ -194,19 +138,13 @@ pub from-five : (text : List ℕ) → (Named text → ⊥) → rowsOf (linesOf t
 unfolding rowsOf
 from-five text other = rw (other-names text other)
 
-pub levels-number : (lines : List (List ℕ)) → rowsFit (frameOf lines) (rowsOf lines) ≡ true
-    → length (levelsOf (rowsOf lines)) ≡ frameOf lines .rows * frameOf lines .columns
-levels-number lines fits =
-    let fit = fit-both (frameOf lines) (rowsOf lines) fits in
-    levels-length (frameOf lines .columns) (rowsOf lines) (fit .1) ∙ ap (λ (n : ℕ). n * frameOf lines .columns) (fit .0)
-
 module _ (text : List ℕ) (p : Passed (linesOf text)) where
   laid-from : (first : ℕ) → rowsOf (linesOf text) ≡ drop first (linesOf text) → first ≤ length (linesOf text)
       → Laid text (textLevels text) (textFrame text) first
   laid-from first start there = record {
     head = headed text (p .fault);
     size = sized (linesOf text) first (p .fits) start there text refl;
-    number = levels-number (linesOf text) (p .fits);
+    number = fit-length (textFrame text) (rowsOf (linesOf text)) (p .fits);
     level = level (linesOf text) first p start there (rows-are text (p .fault));
   }
 
@@ -226,6 +164,6 @@ pub says-left : (text headers levels : List ℕ) → readRefusal text (length he
 says-left text headers levels read =
     let on = eq-eqb (readRefusal text (length headers) (length levels)) 0 read in
     let p = passed (linesOf text) (length headers) (length levels) read in
-    let size = levels-number (linesOf text) (p .fits) in
+    let size = fit-length (textFrame text) (rowsOf (linesOf text)) (p .fits) in
     rw on (rw (take-at (textLevels text) (drop (length (textLevels text)) levels) (textFrame text .rows * textFrame text .columns) size)
     (says-passed text p))

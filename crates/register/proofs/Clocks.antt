@@ -9,14 +9,14 @@ use lib.ListN.{length, getD, take, drop, length-drop}
 use lib.Seq.{length-take-le, split-at, drop-drop, getD-drop, take-all}
 use lib.Dec.{ltb, eqb}
 use Rattle.refusal.proofs.Laws.{and-left, and-right}
-use Rattle.text.specs.Number.{digitsOf, showTwo}
+use Rattle.text.specs.Number.{digitsOf, showDigits}
 use Rattle.text.specs.Field.{countOf}
 use Rattle.text.specs.declared.number.Number.{Number}
 use Rattle.text.specs.declared.number.Number.the-variants.{Got, Off}
 use Rattle.text.proofs.Digits.{passed}
-use Rattle.text.proofs.Shown.{two-back}
-use Rattle.text.proofs.Exact.{two-exact}
-use Rattle.text.proofs.Free.{byte-free, two-free, nil-free}
+use Rattle.text.proofs.Shown.{digits-back}
+use Rattle.text.proofs.Exact.{digits-text}
+use Rattle.text.proofs.Free.{byte-free, digits-free, nil-free}
 use Rattle.register.specs.Clock.{under, twoAt, clock, timeOf, showTime}
 
 -- a number under its bound was read, and is under it
@@ -37,9 +37,9 @@ unfolding timeOf twoAt
 time-back n h =
     let w : n / 3600 * 3600 + n / 60 % 60 * 60 + n % 60 ≡ n = omega arith in
     rw (
-      two-back (n / 3600) (omega arith),
-      two-back (n / 60 % 60) (omega arith),
-      two-back (n % 60) (omega arith),
+      digits-back 2 (n / 3600) (omega arith),
+      digits-back 2 (n / 60 % 60) (omega arith),
+      digits-back 2 (n % 60) (omega arith),
       lt-ltb (n / 3600) 24 (omega arith),
       lt-ltb (n / 60 % 60) 60 (omega arith),
       lt-ltb (n % 60) 60 (omega arith),
@@ -49,21 +49,21 @@ time-back n h =
 -- and has no byte below the point
 pub time-free : (d n : ℕ) → d < 46 → countOf d (showTime n) ≡ 0
 time-free d n low =
-    let seconds : List ℕ = 58 ∷ showTwo (n % 60) in
-    let minutes : List ℕ = 58 ∷ (showTwo (n / 60 % 60) ++ seconds) in
-    two-free d low (n / 3600) minutes
-    ∙ byte-free d low 58 (showTwo (n / 60 % 60) ++ seconds) (omega arith)
-    ∙ two-free d low (n / 60 % 60) seconds
-    ∙ byte-free d low 58 (showTwo (n % 60)) (omega arith)
-    ∙ two-free d low (n % 60) []
+    let seconds : List ℕ = 58 ∷ showDigits 2 (n % 60) in
+    let minutes : List ℕ = 58 ∷ (showDigits 2 (n / 60 % 60) ++ seconds) in
+    digits-free d low 2 (n / 3600) minutes
+    ∙ byte-free d low 58 (showDigits 2 (n / 60 % 60) ++ seconds) (omega arith)
+    ∙ digits-free d low 2 (n / 60 % 60) seconds
+    ∙ byte-free d low 58 (showDigits 2 (n % 60)) (omega arith)
+    ∙ digits-free d low 2 (n % 60) []
     ∙ nil-free d low
 
 -- two digits that were read at a place are the text of their number
-two-text : (s : List ℕ) (at bound n : ℕ) → at + 2 ≤ length s → twoAt s at bound ≡ Got n → take 2 (drop at s) ≡ showTwo n
+two-text : (s : List ℕ) (at bound n : ℕ) → at + 2 ≤ length s → twoAt s at bound ≡ Got n → take 2 (drop at s) ≡ showDigits 2 n
 unfolding twoAt
 two-text s at bound n h e =
     let l : length (take 2 (drop at s)) ≡ 2 = length-take-le 2 (drop at s) (rw (length-drop at s) (omega arith)) in
-    two-exact (take 2 (drop at s)) n l (under-got bound n (digitsOf 0 (take 2 (drop at s))) e .0) .0
+    digits-text 2 (take 2 (drop at s)) n l (under-got bound n (digitsOf 0 (take 2 (drop at s))) e .0) .0
 
 -- a time that was put together had all its parts
 clock-got : (a b c : Number) (n : ℕ) → clock a b c ≡ Got n
@@ -84,8 +84,8 @@ eight-apart s l =
     split-at s 2 0 (omega arith) ∙ ap (λ t. take 2 s ++ (getD s 2 0 ∷ t)) last
 
 time-text : (s : List ℕ) (h m x : ℕ) → length s ≡ 8 → getD s 2 0 ≡ 58 → getD s 5 0 ≡ 58
-    → take 2 (drop 0 s) ≡ showTwo h → take 2 (drop 3 s) ≡ showTwo m → take 2 (drop 6 s) ≡ showTwo x
-    → s ≡ showTwo h ++ (58 ∷ showTwo m) ++ (58 ∷ showTwo x)
+    → take 2 (drop 0 s) ≡ showDigits 2 h → take 2 (drop 3 s) ≡ showDigits 2 m → take 2 (drop 6 s) ≡ showDigits 2 x
+    → s ≡ showDigits 2 h ++ (58 ∷ showDigits 2 m) ++ (58 ∷ showDigits 2 x)
 time-text s h m x l one two th tm tx = eight-apart s l ∙ rw (th, tm, tx, one, two)
 
 -- a text that reads as a time is that time's text, and it is a second of the day

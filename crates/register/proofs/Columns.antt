@@ -16,7 +16,8 @@ use Rattle.text.proofs.Digits.{either, whole-small}
 use Rattle.text.proofs.Shown.{whole-back, level-back, shown-width, level-most, level-least}
 use Rattle.text.proofs.Exact.{whole-exact, level-exact, level-small}
 use Rattle.text.proofs.Free.{shown-free, level-free}
-use Rattle.register.specs.Cell.{levelOrBlank, rowCell, limitsCell, blankCell, shownCell, cellText, topOf}
+use Rattle.register.specs.Cell.{levelOrBlank, rowCell, limitsCell, shownCell, cellText}
+use Rattle.register.specs.InnerCell.{blankCell, topOf}
 use Rattle.register.proofs.Clocks.{time-back, time-free, time-exact}
 use Rattle.register.proofs.Letters.{letter-exact, type-back, kind-back, type-free, kind-free}
 

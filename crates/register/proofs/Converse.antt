@@ -16,10 +16,11 @@ use Rattle.text.specs.Number.{isGot, valueOf}
 use Rattle.text.specs.Field.{countOf, fieldOf, joinedBy}
 use Rattle.text.specs.Index.{every, many, listing}
 use Rattle.text.specs.Line.{bareLine}
-use Rattle.room.specs.Room.{put}
+use Rattle.text.specs.Spelled.{crlf}
+use Rattle.room.specs.Room.{front}
 use Rattle.text.specs.declared.number.Number.{Number}
 use Rattle.text.specs.declared.number.Number.the-variants.{Got, Off}
-use Rattle.text.proofs.Digits.{either}
+use Rattle.text.proofs.Digits.{either, got-value}
 use Rattle.text.proofs.Fields.{fields-joined}
 use Rattle.text.proofs.Indices.{every-each, many-zero, many-full, listing-at, listing-same, length-listing}
 use Rattle.register.specs.Cell.{cellAt, gotAt, valueAt, blankAt, cellText, cellsOf}
@@ -59,10 +60,6 @@ on-layout n s e =
     (0, record { count = count; got = got; blanks = λ i h. many-full (blankAt s) n (rw five at full) i h; most = omega arith; row = rw (fine, some, all) }))
     (λ few. let z : _≡_ {A = ℕ} 16 0 = rw (fine, some, few) at e in absurd (omega arith))))
     (λ bad. let z : _≡_ {A = ℕ} 16 0 = rw bad at e in absurd (omega arith))
-
-pub got-value : (r : Number) → isGot r ≡ true → r ≡ Got (valueOf r)
-got-value (Got n) e = refl
-got-value Off e = let z : _≡_ {A = ℕ} 0 1 = cc in absurd (omega arith)
 
 -- each value in range, all in range
 within-each : (top : ℕ) (l : List ℕ) → ((i : ℕ) → i < length l → getD l i 0 ≤ top) → allWithin top l ≡ true
@@ -217,7 +214,7 @@ read-writable n s room e =
 pub read-back : {n : ℕ} {line held got old new : List ℕ} {read : Answer} {answer : Written}
     → RowRead n line held read got → answerNumber read ≡ 0
     → RowWritten n (layoutOf n line .fields) (take n (layoutOf n line .levels)) old answer new → length (bareLine line) + 2 ≤ length old
-    → (writtenNumber answer ≡ 0) × (new ≡ put old 0 (bareLine line ++ (13 ∷ 10 ∷ [])))
+    → (writtenNumber answer ≡ 0) × (new ≡ front (bareLine line ++ crlf) old)
 unfolding writeRefusal
 read-back {n} {line} {held} {got} {old} r e w room =
     let none = sym (r .number) ∙ e in

@@ -14,7 +14,7 @@ use Rattle.text.specs.Index.{every}
 use Rattle.text.specs.Line.{firstLine, linesOf}
 use Rattle.text.specs.declared.number.Number.{Number}
 use Rattle.text.specs.declared.number.Number.the-variants.{Got, Off}
-use Rattle.text.proofs.Digits.{either, whole-small}
+use Rattle.text.proofs.Digits.{either, whole-small, got-value}
 use Rattle.text.proofs.Exact.{whole-exact, level-exact, level-small}
 use Rattle.text.proofs.Fields.{fields-joined}
 use Rattle.text.proofs.Indices.{every-each}
@@ -22,9 +22,8 @@ use Rattle.text.proofs.Lines.{lines-first, lines-next, lines-rest, lines-one}
 use Rattle.text.proofs.Shown.{shown-width, level-most}
 use Rattle.register.specs.Cell.{limitsCell, cellAt, gotAt, valueAt, cellsOf}
 use Rattle.register.specs.Header.{headerOf, limitsHeader}
-use Rattle.register.specs.Limits.{secondLimits, headedLimits, limitsOf}
+use Rattle.register.specs.LimitsFile.{secondLimits, headedLimits, limitsOf}
 use Rattle.register.specs.declared.cell.Table.the-variants as table
-use Rattle.register.proofs.Converse.{got-value}
 use Rattle.register.proofs.Longest.{span, line-within}
 use Rattle.register.proofs.Writes.{comma-most}
 use Rattle.register.proofs.Rows.{header-range}
@@ -69,22 +68,22 @@ unfolding span width
 span-most zero = omega arith
 span-most (suc n) = omega (arith, span-most n, comma-most (suc n))
 
-pub limits-short : (n : ℕ) (s : List ℕ) → n ≤ 8 → cellsOf table.Limits (1 + n) s .read ≡ true → length s ≤ 63
+pub limits-short : (n : ℕ) (s : List ℕ) → n ≤ 8 → cellsOf table.LimitsFile (1 + n) s .read ≡ true → length s ≤ 63
 unfolding cellsOf
 limits-short n s few e =
     let a = eqb (countOf 44 s + 1) (1 + n) in
-    let b = every (gotAt table.Limits s) (1 + n) in
+    let b = every (gotAt table.LimitsFile s) (1 + n) in
     either (a && b)
     (λ fine. let count : countOf 44 s ≡ n = omega (arith, eqb-true (countOf 44 s + 1) (1 + n) (and-left a b fine)) in
     let all = line-within width (λ k. fieldOf 44 k s) (suc n) (λ i h.
     let l : i < 1 + n = omega arith in
-    cell-within i (fieldOf 44 i s) (valueAt table.Limits s i) (got-value (cellAt table.Limits s i) (every-each (gotAt table.Limits s) i (1 + n) l (and-right a b fine)))) in
+    cell-within i (fieldOf 44 i s) (valueAt table.LimitsFile s i) (got-value (cellAt table.LimitsFile s i) (every-each (gotAt table.LimitsFile s) i (1 + n) l (and-right a b fine)))) in
     omega (arith, ap length (fields-joined 44 n s count), all, span-most n))
     (λ bad. let z : false ≡ true = rw bad at e in let y : _≡_ {A = ℕ} 0 1 = cc in absurd (omega arith))
 
-long-off : (n : ℕ) (s : List ℕ) → n ≤ 8 → 63 < length s → cellsOf table.Limits (1 + n) s .read ≡ false
+long-off : (n : ℕ) (s : List ℕ) → n ≤ 8 → 63 < length s → cellsOf table.LimitsFile (1 + n) s .read ≡ false
 long-off n s few h =
-    either (cellsOf table.Limits (1 + n) s .read)
+    either (cellsOf table.LimitsFile (1 + n) s .read)
     (λ yes. absurd (omega (arith, limits-short n s few yes)))
     (λ no. no)
 
@@ -97,7 +96,7 @@ second-front n t m few wide fits =
     let size : length (take m t) ≡ m = length-take-le m t fits in
     either (leb (l + 2) m)
     (λ yes. let same = front-line m t (leb-true (l + 2) m yes) in
-    either (cellsOf table.Limits (1 + n) (firstLine t) .read)
+    either (cellsOf table.LimitsFile (1 + n) (firstLine t) .read)
     (λ read. let short = limits-short n (firstLine t) few read in
     rw (same, read, lines-one t, lines-one (take m t), same, size, lt-leb (length t) (l + 2) (omega arith), lt-leb m (l + 2) (omega arith)))
     (λ off. rw (same, off)))

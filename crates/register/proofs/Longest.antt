@@ -12,18 +12,19 @@ use Rattle.text.specs.Field.{countOf, fieldOf, joinedBy}
 use Rattle.text.specs.Index.{listing}
 use Rattle.text.specs.Line.{bareLine}
 use Rattle.text.specs.declared.number.Number.the-variants.{Got}
-use Rattle.text.proofs.Digits.{either}
+use Rattle.text.proofs.Digits.{either, got-value}
 use Rattle.text.proofs.Fields.{fields-joined}
 use Rattle.text.proofs.Indices.{listing-none, every-each}
 use Rattle.text.proofs.Shown.{shown-width, level-most}
-use Rattle.register.specs.Cell.{rowCell, cellAt, gotAt, valueAt, blankCell, shownCell, topOf, cellsOf}
+use Rattle.register.specs.Cell.{rowCell, cellAt, gotAt, valueAt, shownCell, cellsOf}
+use Rattle.register.specs.InnerCell.{blankCell, topOf}
 use Rattle.register.specs.Row.{pointsFit, rowLayout, cellsLayout, layoutOf, offLayout}
-use Rattle.register.specs.Write.{commaAt}
+use Rattle.register.specs.InnerCell.{commaAt}
 use Rattle.register.specs.declared.cell.Table.the-variants.{Register}
 use Rattle.register.proofs.Columns.{cell-exact}
 use Rattle.register.proofs.Writes.{joined-more, comma-most}
 use Rattle.register.proofs.Rows.{layout-points}
-use Rattle.register.proofs.Converse.{got-value, marked}
+use Rattle.register.proofs.Converse.{marked}
 
 -- the most bytes that column k has, and what k columns of such widths have with their commas
 width : ℕ → ℕ

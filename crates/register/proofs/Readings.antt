@@ -11,7 +11,8 @@ use Rattle.text.specs.Field.{countOf, fieldOf}
 use Rattle.text.specs.Index.{every, many, listing}
 use Rattle.text.proofs.Digits.{either}
 use Rattle.text.proofs.Indices.{many-more}
-use Rattle.register.specs.Cell.{cellsOf, gotCells, offCells, gotAt, valueAt, blankAt, blankCell}
+use Rattle.register.specs.Cell.{cellsOf, gotCells, offCells, gotAt, valueAt, blankAt}
+use Rattle.register.specs.InnerCell.{blankCell}
 use Rattle.register.specs.declared.cell.Table.{Table}
 
 pub mark-most : (b : Bool) → cond b 1 0 ≤ 1

@@ -14,7 +14,7 @@ use Rattle.refusal.proofs.Ranges.{within-at}
 use Rattle.text.specs.Number.{isGot, valueOf}
 use Rattle.text.specs.Field.{countOf, fieldOf}
 use Rattle.text.specs.Index.{many, listing}
-use Rattle.room.specs.Room.{put}
+use Rattle.room.specs.Room.{front}
 use Rattle.text.specs.declared.number.Number.the-variants.{Got}
 use Rattle.text.proofs.Digits.{either}
 use Rattle.text.proofs.Fields.{Free, join-field, join-count-all}
@@ -153,18 +153,18 @@ refusal-back n f levels room fine h =
 pub written-back : {n : ℕ} {f : Fields} {levels old new held got : List ℕ} {answer : Written} {read : Answer}
     → RowWritten n f levels old answer new → writtenNumber answer ≡ 0
     → RowRead n (take (length (showRow f levels)) new) held read got → n ≤ length held
-    → (answerNumber read ≡ 0) × (answerValues read ≡ fieldList f) × (got ≡ put held 0 levels)
-unfolding writeRefusal put
+    → (answerNumber read ≡ 0) × (answerValues read ≡ fieldList f) × (got ≡ front levels held)
+unfolding writeRefusal
 written-back {n} {f} {levels} {old} {new} {held} {got} {answer} {read} w e r h =
     let none = sym (w .number) ∙ e in
     let fine = fault-fine n f levels (first-none (writeFault n f levels) _ none .0) in
     let text : take (length (showRow f levels)) new ≡ showRow f levels =
-    ap (take (length (showRow f levels))) (w .bytes ∙ rw (eq-eqb _ 0 none)) ∙ take-at (showRow f levels) (drop (0 + length (showRow f levels)) old) (length (showRow f levels)) refl in
+    ap (take (length (showRow f levels))) (w .bytes ∙ rw (eq-eqb _ 0 none)) ∙ take-at (showRow f levels) (drop (length (showRow f levels)) old) (length (showRow f levels)) refl in
     let l : layoutOf n (take (length (showRow f levels)) new) ≡ onLayout f levels = ap (layoutOf n) text ∙ layout-back n f levels fine in
     let zero : rowRefusal n (layoutOf n (take (length (showRow f levels)) new)) (length held) ≡ 0 =
     ap (λ x. rowRefusal n x (length held)) l ∙ refusal-back n f levels (length held) fine h in
     let on = eq-eqb (rowRefusal n (layoutOf n (take (length (showRow f levels)) new)) (length held)) 0 zero in (
       r .number ∙ zero,
       r .values ∙ rw on (ap (λ x. fieldList (x .fields)) l),
-      r .levels ∙ rw on (ap (λ x. put held 0 (take n (x .levels))) l ∙ ap (put held 0) (take-at levels (replicate (8 - length levels) 0) n (fine .size))),
+      r .levels ∙ rw on (ap (λ x. front (take n (x .levels)) held) l ∙ ap (λ v. front v held) (take-at levels (replicate (8 - length levels) 0) n (fine .size))),
     )

@@ -18,9 +18,11 @@ use Rattle.text.specs.Index.{listing}
 use Rattle.text.proofs.Digits.{either}
 use Rattle.text.proofs.Fields.{join-snoc}
 use Rattle.text.proofs.Indices.{listing-more, listing-cons}
-use Rattle.register.specs.Cell.{shownCell, topOf}
+use Rattle.register.specs.Cell.{shownCell}
+use Rattle.register.specs.InnerCell.{topOf}
 use Rattle.register.specs.Row.{pointsFit, faultOf}
-use Rattle.register.specs.Write.{columns, commaAt, zeroWhereBlank, rowLevelsFit, writeFault, Writable}
+use Rattle.register.specs.Write.{columns, zeroWhereBlank, rowLevelsFit, writeFault}
+use Rattle.register.specs.InnerCell.{commaAt, Writable}
 use Rattle.register.specs.declared.row.Fields.{Fields}
 use Rattle.text.specs.Number.{showWhole}
 
@@ -52,7 +54,7 @@ column-level f levels (suc (suc (suc (suc (suc i))))) h =
     let e : suc (suc (suc (suc (suc i)))) - 5 ≡ i = omega arith in rw e
 
 -- identity and mass are whole numbers
-pub whole-column : (k v : ℕ) → k ≤ 4 → (k ≡ 1 → ⊥) → (k ≡ 3 → ⊥) → (k ≡ 4 → ⊥) → (shownCell k v ≡ showWhole v) × (topOf k ≡ 10000000)
+pub whole-column : (k v : ℕ) → k < 5 → (k ≡ 1 → ⊥) → (k ≡ 3 → ⊥) → (k ≡ 4 → ⊥) → (shownCell k v ≡ showWhole v) × (topOf k ≡ 10000000)
 unfolding shownCell topOf
 whole-column zero v h a b c = (refl, refl)
 whole-column (suc zero) v h a b c = absurd (a refl)

@@ -1,18 +1,19 @@
--- Types and kinds as text: one letter, which stands for its place among the letters of its column.
+-- Types and kinds as text: one letter, which stands for its place among the letters of its column. Assumes nothing.
 use Prim.Native.Nat.{ℕ, suc}
 use mathlib.Core.List.{List, [], _∷_}
 use mathlib.Core.Bool.{cond}
 use lib.ListN.{length, getD}
 use lib.Dec.{eqb}
+use Rattle.text.specs.Spelled.{bytes}
 use Rattle.text.specs.declared.number.Number.{Number}
 use Rattle.text.specs.declared.number.Number.the-variants.{Got, Off}
 
 -- types G, K, H are 0 large, 1 small, 2 helicopter; kinds S, L are 0 start, 1 landing
 abbrev pub typeLetters : List ℕ
-typeLetters = 71 ∷ 75 ∷ 72 ∷ []
+typeLetters = bytes "GKH"
 
 abbrev pub kindLetters : List ℕ
-kindLetters = 83 ∷ 76 ∷ []
+kindLetters = bytes "SL"
 
 abbrev pub later : Number → Number
 later Off = Off

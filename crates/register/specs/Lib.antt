@@ -1,7 +1,9 @@
 pub mod Clock
 pub mod Letter
+pub mod Column
 pub mod Cell
 pub mod Row
 pub mod Write
 pub mod Header
-pub mod Limits
+pub mod LimitsFile
+pub mod InnerCell

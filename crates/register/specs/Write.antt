@@ -1,17 +1,19 @@
--- A register row written: RULES, "Files and the report program".
-use Prim.Native.Nat.{ℕ, _+_, _≤_, _<_}
+-- A register row written: RULES, "Files and the report program". Assumes nothing.
+use Prim.Native.Nat.{ℕ, _+_}
 use mathlib.Core.Path.{_≡_}
 use mathlib.Core.List.{List, [], _∷_, _++_}
 use mathlib.Core.Bool.{Bool, true, cond, _&&_}
 use lib.ListN.{length, getD}
 use lib.Dec.{leb, eqb}
-use Rattle.refusal.specs.Refuse.{refuse, first}
+use Rattle.refusal.specs.Refuse.{refuse}
 use Rattle.refusal.specs.Range.{allWithin}
 use Rattle.movement.specs.Rules.{levelsFit}
 use Rattle.text.specs.Field.{joinedBy}
 use Rattle.text.specs.Index.{listing}
-use Rattle.room.specs.Room.{put}
-use Rattle.register.specs.Cell.{cellText, topOf}
+use Rattle.text.specs.Spelled.{byte, crlf}
+use Rattle.room.specs.Room.{thenRoom, leaves}
+use Rattle.register.specs.Column.{levelColumns}
+use Rattle.register.specs.Cell.{cellText}
 use Rattle.register.specs.Row.{pointsFit, faultOf}
 use Rattle.register.specs.declared.row.Fields.{Fields}
 use Rattle.register.specs.declared.write.Written.{Written}
@@ -27,10 +29,10 @@ textAt f levels k = cellText (f .computed) k (getD (columns f levels) k 0)
 
 -- a row's line, and the row with its CRLF
 unfoldable pub showLine : Fields → List ℕ → List ℕ
-showLine f levels = joinedBy 44 (listing (textAt f levels) (5 + length levels))
+showLine f levels = joinedBy (byte ",") (listing (textAt f levels) (levelColumns + length levels))
 
 abbrev pub showRow : Fields → List ℕ → List ℕ
-showRow f levels = showLine f levels ++ (13 ∷ 10 ∷ [])
+showRow f levels = showLine f levels ++ crlf
 
 -- rule 7 of a row to be written: where it is not computed each level is zero
 abbrev pub zeroWhereBlank : ℕ → List ℕ → Bool
@@ -44,8 +46,8 @@ unfoldable pub writeFault : ℕ → Fields → List ℕ → ℕ
 writeFault n f levels = refuse 9 (pointsFit n && leb (f .computed) 1) (faultOf f (rowLevelsFit n (f .computed) levels))
 
 -- and 14 where its text has no room
-unfoldable pub writeRefusal : ℕ → Fields → List ℕ → ℕ → ℕ
-writeRefusal n f levels room = first (writeFault n f levels) (refuse 14 (leb (length (showRow f levels)) room) 0)
+unfoldable pub writeRefusal : (n : ℕ) (f : Fields) (levels : List ℕ) (room : ℕ) → ℕ
+writeRefusal n f levels room = thenRoom (writeFault n f levels) (leb (length (showRow f levels)) room)
 
 -- the paper's number of an answer, and its value
 abbrev pub writtenNumber : Written → ℕ
@@ -59,13 +61,6 @@ writtenValues (Refused n) = []
 -- a row written: what is answered, and what the lent buffer then holds
 pub record RowWritten (n : ℕ) (f : Fields) (levels old : List ℕ) (answer : Written) (new : List ℕ) : Type 0 where
   pub number : writtenNumber answer ≡ writeRefusal n f levels (length old)
-  pub values : writtenValues answer ≡ cond (eqb (writeRefusal n f levels (length old)) 0) (length (showRow f levels) ∷ []) []
-  pub bytes : new ≡ cond (eqb (writeRefusal n f levels (length old)) 0) (put old 0 (showRow f levels)) old
-
--- what the writers of parts ask and leave: the comma before column k, and columns whose values all have a text
-abbrev pub commaAt : ℕ → List ℕ
-commaAt k = cond (eqb k 0) [] (44 ∷ [])
-
-pub record Writable (f : Fields) (levels : List ℕ) : Type 0 where
-  pub few : length levels ≤ 8
-  pub below : (k : ℕ) → k < 5 + length levels → getD (columns f levels) k 0 < topOf k
+  pub values : writtenValues answer
+      ≡ cond (eqb (writeRefusal n f levels (length old)) 0) (length (showRow f levels) ∷ []) []
+  pub bytes : new ≡ leaves (writeRefusal n f levels (length old)) (showRow f levels) old

@@ -1,5 +1,12 @@
 // The columns of a register's row and of the second line of limits.csv, read field by field.
 use crate::clock::time;
+use crate::column::IDENTITY;
+use crate::column::KIND;
+use crate::column::LEVELS;
+use crate::column::MASS;
+use crate::column::MAX_COLUMNS;
+use crate::column::TIME;
+use crate::column::TYPE;
 use crate::letter::letter;
 use text::core::field_end;
 use text::number::Number;
@@ -9,19 +16,21 @@ ghost use mathlib.Core.Path.{_≡_};
 ghost use mathlib.Core.Bool.{cond};
 ghost use Prim.Native.Nat.{_≤_};
 ghost use lib.Dec.{eqb};
-ghost use Rattle.register.specs.Cell.{levelOrBlank, rowCell, cellOf, blankCell, cellsOf, gotCells, offCells};
+ghost use Rattle.register.specs.Column.{maxColumns};
+ghost use Rattle.register.specs.Cell.{levelOrBlank, rowCell, cellOf, cellsOf, gotCells, offCells};
+ghost use Rattle.register.specs.InnerCell.{blankCell};
 
 // Whose columns: those of a register or of limits.csv.
 pub enum Table {
     Register,
-    Limits,
+    LimitsFile,
 }
 
 // The fields of a line: whether all could be read, how many levels are blank, and the values, zero past the last.
 pub struct Cells {
     pub read: bool,
     pub blanks: u32,
-    pub values: [u32; 13],
+    pub values: [u32; MAX_COLUMNS],
 }
 
 // A level, or nothing.
@@ -38,19 +47,19 @@ fn level_or_blank(t: &[u8]) -> Number
 fn row_cell(k: usize, t: &[u8]) -> Number
     ensures { λ r. ⌜ r ≡ rowCell k (now (t .entry)) ⌝ }
 {
-    if k == 0 {
+    if k == IDENTITY {
         return whole(t);
     }
-    if k == 1 {
+    if k == TYPE {
         return letter(t, b"GKH");
     }
-    if k == 2 {
+    if k == MASS {
         return whole(t);
     }
-    if k == 3 {
+    if k == KIND {
         return letter(t, b"SL");
     }
-    if k == 4 {
+    if k == TIME {
         return time(t);
     }
     level_or_blank(t)
@@ -62,7 +71,7 @@ fn cell(table: Table, k: usize, t: &[u8]) -> Number
 {
     match table {
         Table::Register => row_cell(k, t),
-        Table::Limits => { if k == 0 { whole(t) } else { level(t) } }
+        Table::LimitsFile => { if k == 0 { whole(t) } else { level(t) } }
     }
 }
 
@@ -70,7 +79,7 @@ fn cell(table: Table, k: usize, t: &[u8]) -> Number
 fn blank_level(k: usize, t: &[u8]) -> u32
     ensures { λ r. ⌜ r ≡ cond (blankCell k (now (t .entry))) 1 0 ⌝ }
 {
-    if k < 5 {
+    if k < LEVELS {
         return 0;
     }
     if t.len() == 0 { 1 } else { 0 }
@@ -82,12 +91,12 @@ fn off_cells() -> Cells
     Cells {
         read: false,
         blanks: 0,
-        values: [0u32; 13],
+        values: [0u32; MAX_COLUMNS],
     }
 }
 
 // The fields of a line that had `k` of them and has to have `count`.
-fn counted(k: usize, count: usize, blanks: u32, values: [u32; 13]) -> Cells
+fn counted(k: usize, count: usize, blanks: u32, values: [u32; MAX_COLUMNS]) -> Cells
     ensures { λ r. ⌜ r ≡ cond (eqb k count) (gotCells blanks values) offCells ⌝ }
 {
     if k != count {
@@ -102,15 +111,15 @@ fn counted(k: usize, count: usize, blanks: u32, values: [u32; 13]) -> Cells
 
 // The fields of a line that has to have `count` of them, in one pass.
 pub(crate) fn read_cells(s: &[u8], table: Table, count: usize) -> Cells
-    requires { ⌜ (1 ≤ count) × (count ≤ 13) ⌝ }
+    requires { ⌜ (1 ≤ count) × (count ≤ maxColumns) ⌝ }
     ensures { λ r. ⌜ r ≡ cellsOf table count (now (s .entry)) ⌝ }
 {
-    let mut values = [0u32; 13];
+    let mut values = [0u32; MAX_COLUMNS];
     let mut blanks = 0;
     let mut at = 0;
     let mut k = 0;
     loop {
-        let end = field_end(s, at, 44);
+        let end = field_end(s, at, b',');
         let Number::Got(v) = cell(table, k, &s[at..end]) else {
             return off_cells();
         };

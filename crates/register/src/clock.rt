@@ -1,11 +1,12 @@
 // Times of day as text, hh:mm:ss.
 use text::core::digits;
 use text::core::put_byte;
-use text::core::put_two;
+use text::core::put_digits;
 use text::number::Number;
 ghost use mathlib.Core.Path.{_≡_};
 ghost use Prim.Native.Nat.{_+_, _≤_, _<_};
 ghost use lib.ListN.{length};
+ghost use Rattle.movement.specs.Limits.{secondsADay};
 ghost use Rattle.room.specs.Room.{Wrote};
 ghost use Rattle.register.specs.Clock.{twoAt, timeOf, showTime};
 
@@ -31,10 +32,10 @@ pub(crate) fn time(s: &[u8]) -> Number
     if s.len() != 8 {
         return Number::Off;
     }
-    if s[2] != 58 {
+    if s[2] != b':' {
         return Number::Off;
     }
-    if s[5] != 58 {
+    if s[5] != b':' {
         return Number::Off;
     }
     let Number::Got(hour) = two_at(s, 0, 24) else {
@@ -51,12 +52,12 @@ pub(crate) fn time(s: &[u8]) -> Number
 
 // Writes a second of the day.
 pub(crate) fn put_time(out: &mut [u8], at: usize, n: u32) -> usize
-    requires { ⌜ (n < 86400) × (at + 8 ≤ length (now out)) ⌝ }
+    requires { ⌜ (n < secondsADay) × (at + 8 ≤ length (now out)) ⌝ }
     ensures { λ r. ⌜ Wrote (now (out .entry)) at (showTime n) (now (out .exit)) r ⌝ }
 {
-    let hours = put_two(out, at, n / 3600);
-    let first = put_byte(out, hours, 58);
-    let minutes = put_two(out, first, n / 60 % 60);
-    let second = put_byte(out, minutes, 58);
-    put_two(out, second, n % 60)
+    let hours = put_digits(out, at, n / 3600, 2);
+    let first = put_byte(out, hours, b':');
+    let minutes = put_digits(out, first, n / 60 % 60, 2);
+    let second = put_byte(out, minutes, b':');
+    put_digits(out, second, n % 60, 2)
 }

@@ -2,7 +2,15 @@
 use crate::cell::Cells;
 use crate::cell::Table;
 use crate::cell::read_cells;
+use crate::column::IDENTITY;
+use crate::column::KIND;
+use crate::column::LEVELS;
+use crate::column::MASS;
+use crate::column::MAX_COLUMNS;
+use crate::column::TIME;
+use crate::column::TYPE;
 use movement::limits::MAX_LEVEL;
+use movement::limits::MAX_POINTS;
 use movement::rules::fields_fit;
 use movement::rules::identity_fits;
 use refusal::all_within;
@@ -10,10 +18,14 @@ use text::line::bare_length;
 ghost use mathlib.Core.Path.{_≡_};
 ghost use Prim.Native.Nat.{_≤_};
 ghost use lib.ListN.{length, take};
-ghost use Rattle.room.specs.Room.{put};
-ghost use Rattle.register.specs.Row.{eightFrom, offLayout, rowLayout, cellsLayout, layoutOf, faultOf, rowRefusal, RowRead};
+ghost use Rattle.movement.specs.Limits.{maxPoints};
+ghost use Rattle.room.specs.Room.{front};
+ghost use Rattle.register.specs.Column.{levelColumns};
+ghost use Rattle.register.specs.Row.{eightFrom, offLayout, rowLayout, cellsLayout, layoutOf, faultOf};
+ghost use Rattle.register.specs.Row.{rowRefusal, RowRead};
 
-// The fields of a row: type 0 large, 1 small, 2 helicopter; kind 0 start, 1 landing; time a second of the day; computed 1 or 0.
+// The fields of a row: type 0 large, 1 small, 2 helicopter; kind 0 start, 1 landing; time a second of the day;
+// computed 1 or 0.
 pub struct Fields {
     pub identity: u32,
     pub ty: u32,
@@ -23,11 +35,12 @@ pub struct Fields {
     pub computed: u32,
 }
 
-// What a row's text reads as by its layout alone: refusal 0, its fields and its levels, zero past the points; or 16 and zeros.
+// What a row's text reads as by its layout alone: refusal 0, its fields and its levels, zero past the points; or 16
+// and zeros.
 pub struct Layout {
     pub refusal: u32,
     pub fields: Fields,
-    pub levels: [u32; 8],
+    pub levels: [u32; MAX_POINTS],
 }
 
 // What a row reads as: its fields, or a refusal.
@@ -49,18 +62,18 @@ fn off_layout() -> Layout
             time: 0,
             computed: 0,
         },
-        levels: [0u32; 8],
+        levels: [0u32; MAX_POINTS],
     }
 }
 
 // Eight values from column `k` on.
-pub(crate) fn eight_from(values: [u32; 13], k: usize) -> [u32; 8]
-    requires { ⌜ k ≤ 5 ⌝ }
+pub(crate) fn eight_from(values: [u32; MAX_COLUMNS], k: usize) -> [u32; MAX_POINTS]
+    requires { ⌜ k ≤ levelColumns ⌝ }
     ensures { λ r. ⌜ r ≡ eightFrom k values ⌝ }
 {
-    let mut eight = [0u32; 8];
+    let mut eight = [0u32; MAX_POINTS];
     let mut i = 0;
-    while i < 8 {
+    while i < MAX_POINTS {
         eight[i] = values[k + i];
         i += 1;
     }
@@ -68,18 +81,18 @@ pub(crate) fn eight_from(values: [u32; 13], k: usize) -> [u32; 8]
 }
 
 // A row on its layout, from the values of its columns.
-fn row_layout(values: [u32; 13], computed: u32) -> Layout
+fn row_layout(values: [u32; MAX_COLUMNS], computed: u32) -> Layout
     ensures { λ r. ⌜ r ≡ rowLayout values computed ⌝ }
 {
-    let levels = eight_from(values, 5);
+    let levels = eight_from(values, LEVELS);
     Layout {
         refusal: 0,
         fields: Fields {
-            identity: values[0],
-            ty: values[1],
-            mass: values[2],
-            kind: values[3],
-            time: values[4],
+            identity: values[IDENTITY],
+            ty: values[TYPE],
+            mass: values[MASS],
+            kind: values[KIND],
+            time: values[TIME],
             computed,
         },
         levels,
@@ -115,7 +128,7 @@ pub fn read_layout(s: &[u8], points: u32) -> Layout
         return off_layout();
     }
     let n = bare_length(s);
-    let cells = read_cells(&s[..n], Table::Register, 5 + points as usize);
+    let cells = read_cells(&s[..n], Table::Register, LEVELS + points as usize);
     cells_layout(cells, points)
 }
 
@@ -149,9 +162,9 @@ fn row_refusal(l: Layout, points: u32, room: usize) -> u32
 }
 
 // Puts the first `n` levels into a lent slice.
-fn put_levels(out: &mut [u32], levels: [u32; 8], n: usize)
-    requires { ⌜ (n ≤ 8) × (n ≤ length (now out)) ⌝ }
-    ensures { λ _. ⌜ now (out .exit) ≡ put (now (out .entry)) 0 (take n levels) ⌝ }
+fn put_levels(out: &mut [u32], levels: [u32; MAX_POINTS], n: usize)
+    requires { ⌜ (n ≤ maxPoints) × (n ≤ length (now out)) ⌝ }
+    ensures { λ _. ⌜ now (out .exit) ≡ front (take n levels) (now (out .entry)) ⌝ }
 {
     let mut i = 0;
     while i < n {

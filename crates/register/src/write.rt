@@ -1,5 +1,11 @@
 // Register rows, written.
 use crate::clock::put_time;
+use crate::column::IDENTITY;
+use crate::column::KIND;
+use crate::column::LEVELS;
+use crate::column::MASS;
+use crate::column::TIME;
+use crate::column::TYPE;
 use crate::letter::put_letter;
 use crate::row::Fields;
 use crate::row::fault;
@@ -13,9 +19,11 @@ ghost use mathlib.Core.Path.{_≡_};
 ghost use mathlib.Core.List.{_++_};
 ghost use Prim.Native.Nat.{_+_, _≤_, _<_};
 ghost use lib.ListN.{length, getD, take};
-ghost use Rattle.room.specs.Room.{put, Wrote};
-ghost use Rattle.register.specs.Cell.{cellText, topOf};
-ghost use Rattle.register.specs.Write.{columns, commaAt, Writable, showLine, showRow, rowLevelsFit, writeFault, RowWritten};
+ghost use Rattle.room.specs.Room.{front, Wrote};
+ghost use Rattle.register.specs.Column.{levelColumns};
+ghost use Rattle.register.specs.Cell.{cellText};
+ghost use Rattle.register.specs.Write.{columns, showLine, showRow, rowLevelsFit, writeFault, RowWritten};
+ghost use Rattle.register.specs.InnerCell.{topOf, commaAt, Writable};
 
 // What writing answers: how many bytes were written, or a refusal.
 pub enum Written {
@@ -28,19 +36,19 @@ fn put_cell(out: &mut [u8], at: usize, mark: u32, k: usize, v: u32) -> usize
     requires { ⌜ (v < topOf k) × (at + 8 ≤ length (now out)) ⌝ }
     ensures { λ r. ⌜ Wrote (now (out .entry)) at (cellText mark k v) (now (out .exit)) r ⌝ }
 {
-    if 4 < k {
+    if LEVELS <= k {
         if mark == 0 {
             return at;
         }
         return put_level(out, at, v);
     }
-    if k == 1 {
+    if k == TYPE {
         return put_letter(out, at, b"GKH", v);
     }
-    if k == 3 {
+    if k == KIND {
         return put_letter(out, at, b"SL", v);
     }
-    if k == 4 {
+    if k == TIME {
         return put_time(out, at, v);
     }
     put_whole(out, at, v)
@@ -51,34 +59,34 @@ fn put_field(out: &mut [u8], at: usize, mark: u32, k: usize, v: u32) -> usize
     requires { ⌜ (v < topOf k) × (at + 9 ≤ length (now out)) ⌝ }
     ensures { λ r. ⌜ Wrote (now (out .entry)) at (commaAt k ++ cellText mark k v) (now (out .exit)) r ⌝ }
 {
-    if k == 0 {
+    if k == IDENTITY {
         return put_cell(out, at, mark, k, v);
     }
-    let next = put_byte(out, at, 44);
+    let next = put_byte(out, at, b',');
     put_cell(out, next, mark, k, v)
 }
 
 // The value of column `k`.
 fn value_at(f: Fields, levels: &[u32], k: usize) -> u32
-    requires { ⌜ k < 5 + length (now levels) ⌝ }
+    requires { ⌜ k < levelColumns + length (now levels) ⌝ }
     ensures { λ r. ⌜ r ≡ getD (columns f (now (levels .entry))) k 0 ⌝ }
 {
-    if k == 0 {
+    if k == IDENTITY {
         return f.identity;
     }
-    if k == 1 {
+    if k == TYPE {
         return f.ty;
     }
-    if k == 2 {
+    if k == MASS {
         return f.mass;
     }
-    if k == 3 {
+    if k == KIND {
         return f.kind;
     }
-    if k == 4 {
+    if k == TIME {
         return f.time;
     }
-    levels[k - 5]
+    levels[k - LEVELS]
 }
 
 // Writes a row's line; a column has at most eight bytes and a comma.
@@ -89,7 +97,7 @@ fn put_line(out: &mut [u8], f: Fields, levels: &[u32]) -> usize
     let mark = f.computed;
     let mut at = 0;
     let mut k = 0;
-    while k < 5 + levels.len() {
+    while k < LEVELS + levels.len() {
         let v = value_at(f, levels, k);
         at = put_field(out, at, mark, k, v);
         k += 1;
@@ -103,8 +111,8 @@ fn put_row(out: &mut [u8], f: Fields, levels: &[u32]) -> usize
     ensures { λ r. ⌜ Wrote (now (out .entry)) 0 (showRow f (now (levels .entry))) (now (out .exit)) r × (r ≤ 119) ⌝ }
 {
     let at = put_line(out, f, levels);
-    let end = put_byte(out, at, 13);
-    put_byte(out, end, 10)
+    let end = put_byte(out, at, b'\r');
+    put_byte(out, end, b'\n')
 }
 
 // Whether there is a level for each point, each in range, and each zero where the row is not computed.
@@ -139,7 +147,7 @@ fn write_fault(f: Fields, levels: &[u32], points: u32) -> u32
 // Copies the first `n` bytes of a text.
 fn put_front(out: &mut [u8], text: &[u8], n: usize)
     requires { ⌜ (n ≤ length (now text)) × (n ≤ length (now out)) ⌝ }
-    ensures { λ _. ⌜ now (out .exit) ≡ put (now (out .entry)) 0 (take n (now (text .entry))) ⌝ }
+    ensures { λ _. ⌜ now (out .exit) ≡ front (take n (now (text .entry))) (now (out .entry)) ⌝ }
 {
     put_text(out, 0, &text[..n]);
 }

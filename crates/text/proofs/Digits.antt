@@ -11,7 +11,7 @@ use lib.ListN.{length, getD, take, drop, length-drop}
 use lib.Seq.{drop-cons, take-all}
 use lib.Dec.{leb, ltb, eqb}
 use Rattle.refusal.proofs.Laws.{and-left, and-right}
-use Rattle.text.specs.Number.{isDigit, digitsOf, wholeOf}
+use Rattle.text.specs.Number.{valueOf, isGot, isDigit, digitsOf, wholeOf}
 use Rattle.text.specs.declared.number.Number.{Number}
 use Rattle.text.specs.declared.number.Number.the-variants.{Got, Off}
 
@@ -80,6 +80,20 @@ whole-small s n e =
     let p = passed _ (digitsOf 0 s) n e in
     digits-small s n (leb-true _ _ (and-right (leb 1 (length s)) _ (and-left _ (not (ltb 1 (length s) && eqb (getD s 0 0) 48)) (p .0)))) (p .1)
 
+-- a whole number of at most three digits is below a thousand
+pub whole-below : (s : List ℕ) (n : ℕ) → length s ≤ 3 → wholeOf s ≡ Got n → n < 1000
+unfolding wholeOf
+whole-below s n h e =
+    let p = passed (leb 1 (length s) && leb (length s) 7 && not (ltb 1 (length s) && eqb (getD s 0 0) 48)) (digitsOf 0 s) n e in
+    let q : 10 ^ (0 + length s) ≤ 10 ^ 3 = pow-le-pow-right (omega arith) {j = 3} (omega arith) in
+    let below = digits-below s 0 0 n (omega arith) (p .1) in
+    omega arith
+
 -- the rest of a list, as a part that runs to the end
 pub part-rest : (s : List ℕ) (k : ℕ) → take (length s - k) (drop k s) ≡ drop k s
 part-rest s k = take-all (length s - k) (drop k s) (simp length-drop (omega arith))
+
+-- a field that was read has its value
+pub got-value : (x : Number) → isGot x ≡ true → x ≡ Got (valueOf x)
+got-value (Got n) e = refl
+got-value Off e = let z : _≡_ {A = ℕ} 0 1 = cc in absurd (omega arith)

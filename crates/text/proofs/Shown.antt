@@ -1,15 +1,15 @@
--- What is written reads back: of a whole number and of a level. Assumes nothing.
+-- What is written reads back: of a whole number, and of one with decimals. Assumes nothing.
 use Prim.Native.Nat.{ℕ, zero, suc, _+_, _-_, _*_, _/_, _%_, _<_, _≤_, _^_}
 use mathlib.Core.Path.{_≡_, refl, sym, ap, _∙_}
 use mathlib.Core.List.{List, [], _∷_, _++_}
 use mathlib.Core.Bool.{false, _&&_, and-false}
-use native.Mathlib.Nat.{pow-suc, pow-zero, pow-le-pow-right, zero-lt-suc}
+use native.Mathlib.Nat.{pow-suc, pow-succ', pow-zero, pow-le-pow-right, zero-lt-suc, add-mul, mul-assoc, div-one, mod-lt, div-add-mod', div-lt-iff-lt-mul}
 use native.Mathlib.Omega.{arith}
 use borrow.Author.Tests.{le-leb, lt-ltb, le-ltb, ltb-true, ltb-false, ne-eqb, eqb-true, eqb-false}
 use lib.ListN.{length, getD, length-append, List·getD-append}
 use lib.Seq.{take-append-seam, drop-append-add, getD-append-seam}
 use lib.Dec.{ltb, eqb}
-use Rattle.text.specs.Number.{isDigit, digitsOf, wholeOf, levelOf, joined, shown, showNumber, showWhole, showTwo, showLevel}
+use Rattle.text.specs.Number.{isDigit, digitsOf, wholeOf, decimalOf, levelOf, joined, shown, showNumber, showWhole, showDigits, showDecimal, showLevel}
 use Rattle.text.specs.declared.number.Number.the-variants.{Got, Off}
 use Rattle.text.proofs.Digits.{either, digit-yes}
 
@@ -137,33 +137,118 @@ whole-back n h =
     (λ no. let p = ltb-false n 1 no in rw (ne-eqb (getD s 0 0) 48 (shown-head 7 n (omega arith) h)) (and-false (ltb 1 (length s)))) in
     rw (le-leb 1 (length s) (shown-least 6 n), le-leb (length s) 7 (shown-width 7 6 n h), spare) (shown-digits 7 n h)
 
--- two digits of a number under a hundred
-pub two-back : (n : ℕ) → n < 100 → digitsOf 0 (showTwo n) ≡ Got n
+-- ---- numbers with decimals
+
+-- a unit has some parts
+pub parts-some : (d : ℕ) → 0 < 10 ^ d
+parts-some d = let p : 10 ^ 0 ≤ 10 ^ d = pow-le-pow-right {n = 10} (omega arith) {i = 0} {j = d} (omega arith) in omega arith
+
+-- a digit, and those after it
+pub digits-front : (d n : ℕ) → showDigits (suc d) n ≡ (48 + n / 10 ^ d) ∷ showDigits d (n % 10 ^ d)
+digits-front zero n = ap (λ m. (48 + m) ∷ []) (sym (div-one n))
+digits-front (suc d) n = refl
+
+pub digits-long : (d n : ℕ) → length (showDigits d n) ≡ d
+digits-long zero n = refl
+digits-long (suc d) n = ap length (digits-front d n) ∙ ap suc (digits-long d (n % 10 ^ d))
+
+-- the first of k digits, where a unit has p parts: the digit, the parts of the next one, and the digits after it
+pub record Lead (k n p : ℕ) : Type 0 where
+  pub parts : p / 10 ≡ 10 ^ (k - 1)
+  pub some : 0 < p / 10
+  pub small : n / (p / 10) < 10
+  pub rest : n % (p / 10) < 10 ^ (k - 1)
+  pub text : showDigits k n ≡ ((48 + n / (p / 10)) ∷ []) ++ showDigits (k - 1) (n % (p / 10))
+
+pub lead : (k n p : ℕ) → 0 < k → p ≡ 10 ^ k → n < 10 ^ k → Lead k n p
+lead zero n p h e l = absurd (omega arith)
+lead (suc d) n p h e l =
+    let same : suc d - 1 ≡ d = omega arith in
+    let ten = pow-succ' 10 d in
+    let parts : p / 10 ≡ 10 ^ d = omega arith in
+    let less : n < 10 * 10 ^ d = omega arith in
+    record {
+      parts = rw same parts;
+      some = omega (arith, parts-some d);
+      small = rw parts (div-lt-iff-lt-mul {k = 10 ^ d} {x = n} {y = 10} (parts-some d) .1 less);
+      rest = rw (same, parts) (mod-lt n (parts-some d));
+      text = rw (same, parts) (digits-front d n);
+    }
+
+-- a digit goes from the parts of one unit to those of the next
+pub carried : (v q r d : ℕ) → (v * 10 + q) * 10 ^ d + r ≡ v * 10 ^ suc d + (q * 10 ^ d + r)
+carried v q r d =
+    let a : (v * 10 + q) * 10 ^ d ≡ v * 10 * 10 ^ d + q * 10 ^ d = add-mul (v * 10) q (10 ^ d) in
+    let b : v * 10 ^ suc d ≡ v * 10 * 10 ^ d = ap (λ x. v * x) (pow-succ' 10 d) ∙ sym (mul-assoc v 10 (10 ^ d)) in
+    omega arith
+
+-- d digits read on after `v`, and alone
+digits-after : (d v n : ℕ) → n < 10 ^ d → digitsOf v (showDigits d n) ≡ Got (v * 10 ^ d + n)
 unfolding digitsOf
-two-back n h =
-    let w : (0 * 10 + (48 + n / 10 - 48)) * 10 + (48 + n % 10 - 48) ≡ n = omega arith in
-    rw (digit-yes (48 + n / 10) (omega arith) (omega arith), digit-yes (48 + n % 10) (omega arith) (omega arith), w)
+digits-after zero v n h = let e : v ≡ v * 1 + n = omega arith in ap Got e
+digits-after (suc d) v n h =
+    let u = 10 ^ d in
+    let q = n / u in
+    let least : n < 10 * u = omega (arith, pow-succ' 10 d) in
+    let small : q < 10 = div-lt-iff-lt-mul {k = u} {x = n} {y = 10} (parts-some d) .1 least in
+    let w : v * 10 + (48 + q - 48) ≡ v * 10 + q = omega arith in
+    let sum : (v * 10 + q) * u + n % u ≡ v * 10 ^ suc d + n = carried v q (n % u) d ∙ ap (λ m. v * 10 ^ suc d + m) (div-add-mod' n u) in
+    ap (digitsOf v) (digits-front d n)
+    ∙ rw (digit-yes (48 + q) (omega arith) (omega arith), w) (digits-after d (v * 10 + q) (n % u) (mod-lt n (parts-some d)) ∙ ap Got sum)
 
--- a level's text goes apart at its point
-pointed-back : (u t : List ℕ) → 1 ≤ length u → length u ≤ 3 → length t ≡ 2 → levelOf (u ++ 46 ∷ t) ≡ joined (wholeOf u) (digitsOf 0 t)
-unfolding levelOf
-pointed-back u t least most two =
+pub digits-back : (d n : ℕ) → n < 10 ^ d → digitsOf 0 (showDigits d n) ≡ Got n
+digits-back d n h = digits-after d 0 n h ∙ (let e : 0 * 10 ^ d + n ≡ n = omega arith in ap Got e)
+
+-- a text goes apart at its point
+pointed-back : (d : ℕ) (u t : List ℕ) → 1 ≤ length u → length u ≤ 3 → length t ≡ d
+    → decimalOf d (u ++ 46 ∷ t) ≡ joined d (wholeOf u) (digitsOf 0 t)
+unfolding decimalOf
+pointed-back d u t least most long =
     let l : length (u ++ 46 ∷ t) ≡ length u + suc (length t) = length-append u (46 ∷ t) in
-    let p : length (u ++ 46 ∷ t) - 3 ≡ length u = omega arith in
-    rw (le-leb 4 (length (u ++ 46 ∷ t)) (omega arith), le-leb (length (u ++ 46 ∷ t)) 6 (omega arith), p, getD-append-seam u 46 t 0, take-append-seam u (46 ∷ t), drop-append-add u (46 ∷ t) 1)
+    let p : length (u ++ 46 ∷ t) - (d + 1) ≡ length u = omega arith in
+    rw (
+      le-leb (d + 2) (length (u ++ 46 ∷ t)) (omega arith),
+      le-leb (length (u ++ 46 ∷ t)) (d + 4) (omega arith),
+      p,
+      getD-append-seam u 46 t 0,
+      take-append-seam u (46 ∷ t),
+      drop-append-add u (46 ∷ t) 1,
+    )
 
--- a level of at most 999.99 reads back
+-- a number whose units have at most three digits reads back
+module _ (d n : ℕ) (h : n < 1000 * 10 ^ d) where
+  units-few : n / 10 ^ d < 1000
+  units-few = div-lt-iff-lt-mul {k = 10 ^ d} {x = n} {y = 1000} (parts-some d) .1 h
+
+  pub decimal-back : decimalOf d (showDecimal d n) ≡ Got n
+  decimal-back =
+      let u = n / 10 ^ d in
+      let p = n % 10 ^ d in
+      pointed-back d (showWhole u) (showDigits d p) (shown-least 6 u) (shown-width 7 2 u units-few) (digits-long d p)
+      ∙ rw (whole-back u (omega (arith, units-few)), digits-back d p (mod-lt n (parts-some d)), div-add-mod' n (10 ^ d))
+
+  pub decimal-most : length (showDecimal d n) ≤ d + 4
+  decimal-most = omega (
+    arith,
+    length-append (showWhole (n / 10 ^ d)) (46 ∷ showDigits d (n % 10 ^ d)),
+    shown-width 7 2 (n / 10 ^ d) units-few,
+    digits-long d (n % 10 ^ d),
+  )
+
+-- how long it is
+pub decimal-long : (d n : ℕ) → length (showDecimal d n) ≡ length (showWhole (n / 10 ^ d)) + 1 + d
+decimal-long d n = omega (
+  arith,
+  length-append (showWhole (n / 10 ^ d)) (46 ∷ showDigits d (n % 10 ^ d)),
+  digits-long d (n % 10 ^ d),
+)
+
+-- a level of at most 999.99 reads back, and has four to six bytes
 pub level-back : (n : ℕ) → n < 100000 → levelOf (showLevel n) ≡ Got n
-level-back n h =
-    let w : n / 100 * 100 + n % 100 ≡ n = omega arith in
-    pointed-back (showWhole (n / 100)) (showTwo (n % 100)) (shown-least 6 (n / 100)) (shown-width 7 2 (n / 100) (omega arith)) refl
-    ∙ rw (whole-back (n / 100) (omega arith), two-back (n % 100) (omega arith), w)
+level-back n h = decimal-back 2 n h
 
--- a level of at most 999.99 has at most six bytes
 pub level-most : (n : ℕ) → n < 100000 → length (showLevel n) ≤ 6
-level-most n h =
-    omega (arith, length-append (showWhole (n / 100)) (46 ∷ showTwo (n % 100)), shown-width 7 2 (n / 100) (omega arith))
+level-most n h = decimal-most 2 n h
 
--- and at least four
 pub level-least : (n : ℕ) → 4 ≤ length (showLevel n)
-level-least n = omega (arith, length-append (showWhole (n / 100)) (46 ∷ showTwo (n % 100)), shown-least 6 (n / 100))
+level-least n = omega (arith, decimal-long 2 n, shown-least 6 (n / 100))

@@ -1,11 +1,13 @@
-// Parts that ask something of their caller: a run of digits, where a field or a line ends, and writers into a buffer that has
-// room. A writer writes from a place on and answers the place past its text.
+// Parts that ask something of their caller: a run of digits, a number with decimals, where a field or a line ends, and
+// writers into a buffer that has room. A writer writes from a place on and answers the place past its text.
 use crate::number::Number;
+use crate::number::whole;
 ghost use mathlib.Core.Path.{_≡_};
-ghost use Prim.Native.Nat.{_+_, _≤_, _<_};
+ghost use Prim.Native.Nat.{_+_, _*_, _/_, _^_, _≤_, _<_};
 ghost use mathlib.Core.List.{[], _∷_};
 ghost use lib.ListN.{length, drop};
-ghost use Rattle.text.specs.Number.{digitsOf, showNumber, showWhole, showTwo, showLevel};
+ghost use Rattle.text.specs.Number.{digitsOf, maxDecimals, decimalOf, showNumber, showWhole};
+ghost use Rattle.text.specs.Number.{showDigits, showDecimal, showLevel};
 ghost use Rattle.text.specs.Field.{upTo};
 ghost use Rattle.text.specs.Line.{endAt, firstLine};
 ghost use Rattle.room.specs.Room.{Wrote};
@@ -19,16 +21,55 @@ pub fn digits(s: &[u8]) -> Number
     let mut i = 0;
     while i < s.len() {
         let c = s[i];
-        if c < 48 {
+        if c < b'0' {
             return Number::Off;
         }
-        if 57 < c {
+        if b'9' < c {
             return Number::Off;
         }
-        value = value * 10 + (c - 48) as u32;
+        value = value * 10 + (c - b'0') as u32;
         i += 1;
     }
     Number::Got(value)
+}
+
+// 10 to the d.
+fn power(d: usize) -> u32
+    requires { ⌜ d ≤ maxDecimals ⌝ }
+    ensures { λ r. ⌜ r ≡ 10 ^ d ⌝ }
+{
+    let mut parts: u32 = 1;
+    let mut i = 0;
+    while i < d {
+        parts = parts * 10;
+        i += 1;
+    }
+    parts
+}
+
+// A number with d decimals: one to three digits, a point and d digits, no needless leading zero; in parts of its unit.
+pub fn decimal(s: &[u8], d: usize) -> Number
+    requires { ⌜ d ≤ maxDecimals ⌝ }
+    ensures { λ r. ⌜ r ≡ decimalOf d (now (s .entry)) ⌝ }
+{
+    let n = s.len();
+    if n < d + 2 {
+        return Number::Off;
+    }
+    if d + 4 < n {
+        return Number::Off;
+    }
+    let point = n - (d + 1);
+    if s[point] != b'.' {
+        return Number::Off;
+    }
+    let Number::Got(units) = whole(&s[..point]) else {
+        return Number::Off;
+    };
+    let Number::Got(parts) = digits(&s[point + 1..]) else {
+        return Number::Off;
+    };
+    Number::Got(units * power(d) + parts)
 }
 
 // The place of the next parting byte `d` at or after `at`, or the text's length.
@@ -66,13 +107,13 @@ fn ends_line(s: &[u8], at: usize) -> bool
     requires { ⌜ at < length (now s) ⌝ }
     ensures { λ r. ⌜ r ≡ endAt (now (s .entry)) at ⌝ }
 {
-    if s[at] != 13 {
+    if s[at] != b'\r' {
         return false;
     }
     if s.len() - at < 2 {
         return false;
     }
-    s[at + 1] == 10
+    s[at + 1] == b'\n'
 }
 
 // One byte.
@@ -102,7 +143,7 @@ pub fn put_number(out: &mut [u8], at: usize, n: u64) -> usize
     requires { ⌜ at + length (showNumber n) ≤ length (now out) ⌝ }
     ensures { λ r. ⌜ Wrote (now (out .entry)) at (showNumber n) (now (out .exit)) r ⌝ }
 {
-    let digit = 48 + (n % 10) as u8;
+    let digit = b'0' + (n % 10) as u8;
     if n < 10 {
         return put_byte(out, at, digit);
     }
@@ -118,21 +159,39 @@ pub fn put_whole(out: &mut [u8], at: usize, n: u32) -> usize
     put_number(out, at, n as u64)
 }
 
-// Two digits.
-pub fn put_two(out: &mut [u8], at: usize, n: u32) -> usize
-    requires { ⌜ (n < 100) × (at + 2 ≤ length (now out)) ⌝ }
-    ensures { λ r. ⌜ Wrote (now (out .entry)) at (showTwo n) (now (out .exit)) r ⌝ }
+// d digits.
+pub fn put_digits(out: &mut [u8], at: usize, n: u32, d: usize) -> usize
+    requires { ⌜ (d ≤ maxDecimals) × (n < 10 ^ d) × (at + d ≤ length (now out)) ⌝ }
+    ensures { λ r. ⌜ Wrote (now (out .entry)) at (showDigits d n) (now (out .exit)) r ⌝ }
 {
-    let next = put_byte(out, at, 48 + (n / 10) as u8);
-    put_byte(out, next, 48 + (n % 10) as u8)
+    let mut parts = power(d);
+    let mut left = n;
+    let mut next = at;
+    let mut k = d;
+    while 0 < k {
+        parts = parts / 10;
+        next = put_byte(out, next, b'0' + (left / parts) as u8);
+        left = left % parts;
+        k -= 1;
+    }
+    next
 }
 
-// A level in hundredths: its units, a point and two digits.
+// A number with d decimals: its units, a point and d digits.
+pub fn put_decimal(out: &mut [u8], at: usize, n: u32, d: usize) -> usize
+    requires { ⌜ (d ≤ maxDecimals) × (n < 10000000 * 10 ^ d) × (at + length (showDecimal d n) ≤ length (now out)) ⌝ }
+    ensures { λ r. ⌜ Wrote (now (out .entry)) at (showDecimal d n) (now (out .exit)) r ⌝ }
+{
+    let parts = power(d);
+    let point = put_whole(out, at, n / parts);
+    let next = put_byte(out, point, b'.');
+    put_digits(out, next, n % parts, d)
+}
+
+// A level, which has two decimals.
 pub fn put_level(out: &mut [u8], at: usize, n: u32) -> usize
     requires { ⌜ (n < 100000) × (at + length (showLevel n) ≤ length (now out)) ⌝ }
     ensures { λ r. ⌜ Wrote (now (out .entry)) at (showLevel n) (now (out .exit)) r ⌝ }
 {
-    let point = put_whole(out, at, n / 100);
-    let next = put_byte(out, point, 46);
-    put_two(out, next, n % 100)
+    put_decimal(out, at, n, 2)
 }

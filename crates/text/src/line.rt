@@ -11,10 +11,10 @@ pub fn bare_length(s: &[u8]) -> usize
     if n < 2 {
         return n;
     }
-    if s[n - 2] != 13 {
+    if s[n - 2] != b'\r' {
         return n;
     }
-    if s[n - 1] != 10 {
+    if s[n - 1] != b'\n' {
         return n;
     }
     n - 2

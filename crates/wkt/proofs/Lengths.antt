@@ -6,14 +6,15 @@ use Prim.Native.Nat.{ℕ, zero, suc, _+_, _/_, _%_, _≤_}
 use native.Mathlib.Omega.{arith}
 use lib.Dec.{ltb, eqb}
 use lib.ListN.{length, getD, length-append}
-use Rattle.text.specs.Number.{shown, showWhole, showTwo}
+use Rattle.text.specs.Number.{shown}
+use Rattle.text.proofs.Shown.{decimal-long}
 use Rattle.network.specs.declared.Frame.{Frame}
 use Rattle.network.specs.Edges.{edgeAt}
 use Rattle.network.proofs.Numbers.{by-cond}
 use Rattle.wkt.specs.declared.Cursor.{Cursor}
 use Rattle.wkt.specs.declared.Spot.{Spot}
 use Rattle.wkt.specs.Places.{spotOf}
-use Rattle.wkt.specs.Text.{showThree, showMetres, showSpot, placeText, comma, multilinestring, empty}
+use Rattle.wkt.specs.Text.{showMetres, showSpot, placeText, comma, multilinestring, empty}
 use Rattle.wkt.specs.InnerParts.{lineAt, pointsAt, endText, beforeText, pieceOf}
 
 shown-short : (k n : ℕ) → length (shown k n) ≤ k
@@ -28,7 +29,7 @@ shown-short (suc k) n =
     one-short = omega arith
 
 metres-short : (n : ℕ) → length (showMetres n) ≤ 11
-metres-short n = omega (arith, length-append (showWhole (n / 1000)) (46 ∷ showThree (n % 1000)), shown-short 7 (n / 1000))
+metres-short n = omega (arith, decimal-long 3 n, shown-short 7 (n / 1000))
 
 spot-short : (s : Spot) → length (showSpot s) ≤ 23
 spot-short s = omega (arith, length-append (showMetres (s .x)) (32 ∷ showMetres (s .y)), metres-short (s .x), metres-short (s .y))

@@ -1,22 +1,18 @@
 -- The text of contours: RULES, "Files and the report program". Assumes nothing.
 use mathlib.Core.List.{List, [], _∷_, _++_, map}
-use Prim.Native.Nat.{ℕ, _+_, _/_, _%_}
+use Prim.Native.Nat.{ℕ}
 use lib.ListN.{take}
 use Rattle.text.specs.Spelled.{bytes}
-use Rattle.text.specs.Number.{showWhole, showTwo}
+use Rattle.text.specs.Number.{showDecimal}
 use Rattle.network.specs.declared.Frame.{Frame}
 use Rattle.network.specs.Edges.{edgeAt}
 use Rattle.contour_rules.specs.Contours.{Contour, bit}
 use Rattle.wkt.specs.declared.Spot.{Spot}
 use Rattle.wkt.specs.Places.{spotOf}
 
--- three digits
-abbrev pub showThree : ℕ → List ℕ
-showThree n = (48 + n / 100) ∷ showTwo (n % 100)
-
 -- millimetres as metres with three decimals
 abbrev pub showMetres : ℕ → List ℕ
-showMetres n = showWhole (n / 1000) ++ (46 ∷ showThree (n % 1000))
+showMetres n = showDecimal 3 n
 
 -- x and y, parted by a space
 abbrev pub showSpot : Spot → List ℕ

@@ -7,7 +7,7 @@ ghost use lib.ListN.{length};
 ghost use Rattle.room.specs.Room.{Wrote};
 ghost use Rattle.network.specs.Edges.{edges, Checked};
 ghost use Rattle.network.specs.Crossed.{crossedAt};
-ghost use Rattle.wkt.specs.Text.{showThree, showMetres, showSpot, placeText};
+ghost use Rattle.wkt.specs.Text.{showSpot, placeText};
 ghost use Rattle.wkt.specs.InnerParts.{Reached, PrintableNow, endText, beforeText, pieceBefore, nextOf};
 use crate::Cursor;
 use crate::Part;
@@ -15,24 +15,8 @@ use crate::Spot;
 use crate::place::spot_of;
 use network::Frame;
 
-// Three digits.
-fn put_three(out: &mut [u8], at: usize, n: u32) -> usize
-    requires { ⌜ (n < 1000) × (at + 3 ≤ length (now out)) ⌝ }
-    ensures { λ r. ⌜ Wrote (now (out .entry)) at (showThree n) (now (out .exit)) r ⌝ }
-{
-    let next = text::core::put_byte(out, at, 48 + (n / 100) as u8);
-    text::core::put_two(out, next, n % 100)
-}
-
-// Millimetres as metres with three decimals.
-fn put_metres(out: &mut [u8], at: usize, n: u32) -> usize
-    requires { ⌜ at + length (showMetres n) ≤ length (now out) ⌝ }
-    ensures { λ r. ⌜ Wrote (now (out .entry)) at (showMetres n) (now (out .exit)) r ⌝ }
-{
-    let point = text::core::put_whole(out, at, n / 1000);
-    let next = text::core::put_byte(out, point, 46);
-    put_three(out, next, n % 1000)
-}
+// Millimetres have three decimals of a metre.
+const DECIMALS: usize = 3;
 
 // A place: x, a space and y.
 pub(crate) fn put_spot(out: &mut [u8], at: usize, spot: Spot) -> usize
@@ -41,9 +25,9 @@ pub(crate) fn put_spot(out: &mut [u8], at: usize, spot: Spot) -> usize
 {
     let x = spot.x;
     let y = spot.y;
-    let space = put_metres(out, at, x);
+    let space = text::core::put_decimal(out, at, x, DECIMALS);
     let next = text::core::put_byte(out, space, b' ');
-    put_metres(out, next, y)
+    text::core::put_decimal(out, next, y, DECIMALS)
 }
 
 // The place of the crossing on the edge of a number.

@@ -54,9 +54,11 @@ add-t8 c = search needs
 
 returns-3 : tie.Need-returns-3
 returns-3 c =
-    let a = c .before .before .before .before .before .before .before .before .before .args in
-    let l = c .before .before .before .before .before .before .before .line-at .ensures in
-    let end = c .before .before .before .before .before .before .before .line-at .result .end in
+    let at-line-at = c .before .before .before .before .before .before .before in
+    let start = at-line-at .before .before in
+    let a = start .args in
+    let l = at-line-at .line-at .ensures in
+    let end = at-line-at .line-at .result .end in
     let named = ap names (sym (l .line)) ∙ sym (c .before .before .before .before .is-begun .ensures) ∙ not-false _ (c .before .before .before .if1 .left) in
     let well = ap namesWell (sym (l .line)) ∙ sym (c .before .names-well .ensures) ∙ not-false _ (c .if2 .left) in
     let p = spelled-at (a .s .now) (a .at) _ l well in

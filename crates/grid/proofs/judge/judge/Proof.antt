@@ -1,6 +1,6 @@
 -- `grid::judge::judge` meets its contract. Assumes nothing.
 use mathlib.Core.Path.{subst}
-use Rattle.grid.specs.Steps.{headRead}
+use Rattle.grid.specs.InnerSteps.{headRead}
 use Rattle.grid.specs.declared.head.Head.the-variants.{Got}
 use Rattle.grid.proofs.FileLaws.{file-on, file-off}
 use borrow.Author.Needs.{needs}

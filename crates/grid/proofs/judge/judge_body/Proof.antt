@@ -1,7 +1,7 @@
 -- `grid::judge::judge_body` meets its contract. Assumes nothing.
 use mathlib.Core.Path.{subst}
 use native.Mathlib.Omega.{arith}
-use Rattle.grid.specs.Steps.{noDataRead}
+use Rattle.grid.specs.InnerSteps.{noDataRead}
 use Rattle.grid.specs.declared.head.NoData.the-variants.{Named}
 use Rattle.grid.proofs.FileLaws.{body-named, body-unnamed, body-off}
 use borrow.Author.Needs.{needs}

@@ -3,7 +3,7 @@ use Prim.Native.Nat.{_-_}
 use mathlib.Core.Path.{_≡_, refl, sym, ap, _∙_}
 use native.Mathlib.Omega.{arith}
 use lib.ListN.{length}
-use Rattle.grid.specs.Steps.{lineFrom, rowOf}
+use Rattle.grid.specs.InnerSteps.{lineFrom, rowOf}
 use Rattle.grid.proofs.RowLaws.{RowsAt, rows-start, rows-off, rows-next, rows-on, rows-fit, rows-sound}
 use Rattle.grid.proofs.judge.judge_rows.Statement.{statement}
 use Rattle.grid.proofs.judge.judge_rows.Tie as tie
@@ -49,14 +49,18 @@ judged c = c .judge-row .ensures ∙ ap (rowOf _) (c .before .before .line-at .e
 
 add-t23 : tie.Need-add-t23 Inv-loop μ-loop
 add-t23 c =
-    let i = c .before .before .before .before .before .before .loop .inv in
-    let a = c .before .before .before .before .before .before .before .before .before .before in
+    let at-loop = c .before .before .before .before .before .before in
+    let a = at-loop .before .before .before .before in
+    let i = at-loop .loop .inv in
     omega (arith, i .few, i .within, a .pre .2, a .good .0 .1)
 
 returns : tie.Need-returns Inv-loop μ-loop
 returns c =
-    let i = c .before .before .before .before .before .before .loop .inv in
-    (rows-off i (c .before .before .before .before .before .loop-test .taken) (sym (judged (c .before .before)) ∙ c .enum-told .given .1), omega (arith, c .before .before .before .before .before .before .before .before .before .before .pre .1))
+    let at-loop-test = c .before .before .before .before .before in
+    let at-loop = at-loop-test .before in
+    let start = at-loop .before .before .before .before in
+    let i = at-loop .loop .inv in
+    (rows-off i (at-loop-test .loop-test .taken) (sym (judged (c .before .before)) ∙ c .enum-told .given .1), omega (arith, start .pre .1))
 
 both-requires : tie.Need-both-requires Inv-loop μ-loop
 both-requires c κs = search needs
@@ -66,7 +70,9 @@ both-requires-2 c κs = search needs
 
 add-count : tie.Need-add-count Inv-loop μ-loop
 add-count c =
-    let i = c .before .before .before .before .before .before .before .before .before .loop .inv in
+    let earlier = c .before .before .before .before in
+    let at-loop = earlier .before .before .before .before .before in
+    let i = at-loop .loop .inv in
     omega (arith, i .few, i .within)
 
 loop-less : tie.Need-loop-less Inv-loop μ-loop
@@ -76,11 +82,15 @@ loop-less c =
 
 loop-again : tie.Need-loop-again Inv-loop μ-loop
 loop-again c =
-    let i = c .before .before .before .before .before .before .before .before .before .loop .inv in
-    let l = c .before .before .before .before .before .before .before .line-at in
-    let h = c .before .before .before .before .before .before .before .before .loop-test .taken in
+    let at-judge-row = c .before .before .before .before .before in
+    let at-line-at = at-judge-row .before .before in
+    let at-loop-test = at-line-at .before in
+    let at-loop = at-loop-test .before in
+    let i = at-loop .loop .inv in
+    let l = at-line-at .line-at in
+    let h = at-loop-test .loop-test .taken in
     let v = c .before .before .before .values .given in
-    rw (c .before .both .ensures, c .both2 .ensures) (rows-next i h (l .result) (l .ensures) (v .0 .0) (v .0 .1 .0) (sym (judged (c .before .before .before .before .before)) ∙ v .1))
+    rw (c .before .both .ensures, c .both2 .ensures) (rows-next i h (l .result) (l .ensures) (v .0 .0) (v .0 .1 .0) (sym (judged at-judge-row) ∙ v .1))
 
 cast-rows : tie.Need-cast-rows Inv-loop μ-loop
 cast-rows c = search needs

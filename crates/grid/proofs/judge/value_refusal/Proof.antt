@@ -21,8 +21,11 @@ enum-known-v c = search needs
 
 returns-2 : tie.Need-returns-2
 returns-2 c =
-    let a = c .before .before .before .before .before .before .before .before .before .args in
-    let other : sameText (a .s .now) (a .nodata .now) ≡ false = sym (c .before .before .before .before .before .before .same-text .ensures) ∙ c .before .before .before .before .before .if1 .left in
+    let at-if1 = c .before .before .before .before .before in
+    let at-same-text = at-if1 .before in
+    let start = at-same-text .before .before .before in
+    let a = start .args in
+    let other : sameText (a .s .now) (a .nodata .now) ≡ false = sym (at-same-text .same-text .ensures) ∙ at-if1 .if1 .left in
     sym (level-here _ _ _ other (sym (c .before .before .before .before .level .ensures) ∙ c .before .before .v .given .1) (c .if2 .taken))
 
 enum-told : tie.Need-enum-told
@@ -30,8 +33,11 @@ enum-told c = search needs
 
 returns-3 : tie.Need-returns-3
 returns-3 c =
-    let a = c .before .before .before .before .before .before .before .before .before .args in
-    let other : sameText (a .s .now) (a .nodata .now) ≡ false = sym (c .before .before .before .before .before .before .same-text .ensures) ∙ c .before .before .before .before .before .if1 .left in
+    let at-if1 = c .before .before .before .before .before in
+    let at-same-text = at-if1 .before in
+    let start = at-same-text .before .before .before in
+    let a = start .args in
+    let other : sameText (a .s .now) (a .nodata .now) ≡ false = sym (at-same-text .same-text .ensures) ∙ at-if1 .if1 .left in
     sym (high-here _ _ _ other (sym (c .before .before .before .before .level .ensures) ∙ c .before .before .v .given .1) (c .if2 .left))
 
 returns-4 : tie.Need-returns-4

@@ -15,7 +15,9 @@ same-length c = search needs
 
 returns : tie.Need-returns
 returns c =
-    wrote-then (c .before .before .before .before .before .before .before .before .before .pre) (c .before .before .before .before .before .before .put-byte .ensures) (c .before .before .put-byte2 .ensures)
+    let at-put-byte = c .before .before .before .before .before .before in
+    let start = at-put-byte .before .before .before in
+    wrote-then (start .pre) (at-put-byte .put-byte .ensures) (c .before .before .put-byte2 .ensures)
 
 pub put-end-spec : {M : Type 1} → statement M
 put-end-spec = tie.close (tie.spec put-byte-requires put-byte-requires-2 same-length returns)

@@ -24,18 +24,22 @@ put-whole-requires c κs =
 
 put-end-requires : tie.Need-put-end-requires
 put-end-requires c κs =
-    let k = c .before .before .before .before .before .before .before .put-text in
+    let at-put-text = c .before .before .before .before .before .before .before in
+    let start = at-put-text .before .before .before .before in
+    let k = at-put-text .put-text in
     let n = c .before .before .before .put-whole in
-    omega (arith, room (c .before .before .before .before .before .before .before .before .before .before .before), k .ensures .place, k .kept .0, n .ensures .place, n .kept .0)
+    omega (arith, room start, k .ensures .place, k .kept .0, n .ensures .place, n .kept .0)
 
 same-length : tie.Need-same-length
 same-length c = search needs
 
 returns : tie.Need-returns
 returns c =
-    let a = c .before .before .before .before .before .before .before .before .before .before .before .before .before .before in
+    let at-put-whole = c .before .before .before .before .before .before in
+    let at-put-text = at-put-whole .before .before .before .before in
+    let a = at-put-text .before .before .before .before in
     let l = key-length (a .args .key .now) (a .args .n) in
-    wrote-then (a .pre .1) (wrote-then (omega (arith, room a)) (c .before .before .before .before .before .before .before .before .before .before .put-text .ensures) (c .before .before .before .before .before .before .put-whole .ensures)) (c .before .before .put-end .ensures)
+    wrote-then (a .pre .1) (wrote-then (omega (arith, room a)) (at-put-text .put-text .ensures) (at-put-whole .put-whole .ensures)) (c .before .before .put-end .ensures)
 
 pub put-line-spec : {M : Type 1} → statement M
 put-line-spec =

@@ -5,7 +5,7 @@ use lib.ListN.{length, length-append}
 use mathlib.Core.List.{_++_}
 use Rattle.room.proofs.Laws.{wrote-then}
 use Rattle.grid.specs.Write.{textOf, rowLines}
-use Rattle.grid.specs.Steps.{sideLines, placeLines}
+use Rattle.grid.specs.InnerSteps.{sideLines, placeLines}
 use Rattle.grid.proofs.WriteLaws.{near, network-text, parts-length}
 use borrow.Author.Needs.{needs}
 use Rattle.grid.proofs.put.put_network.Statement.{statement}
@@ -32,9 +32,11 @@ cast-put-rows-2 c = search needs
 
 put-rows-requires : tie.Need-put-rows-requires
 put-rows-requires c κs =
-    let a = c .before .before .before .before .before .before .before .before .before .before .before .before .before in
-    let s = c .before .before .before .before .before .before .before .before .before .put-sides in
-    let p = c .before .before .before .before .before .put-place in
+    let at-put-place = c .before .before .before .before .before in
+    let at-put-sides = at-put-place .before .before .before .before in
+    let a = at-put-sides .before .before .before .before in
+    let s = at-put-sides .put-sides in
+    let p = at-put-place .put-place in
     (a .pre .0 .sized, a .pre .0 .quiet, omega (arith, room a, s .ensures .place, s .kept .0, p .ensures .place, p .kept .0))
 
 same-length : tie.Need-same-length
@@ -42,13 +44,15 @@ same-length c = search needs
 
 returns : tie.Need-returns
 returns c =
-    let a = c .before .before .before .before .before .before .before .before .before .before .before .before .before .before .before .before in
+    let at-put-place = c .before .before .before .before .before .before .before .before in
+    let at-put-sides = at-put-place .before .before .before .before in
+    let a = at-put-sides .before .before .before .before in
     let f = a .args .frame in
     let levels = a .args .levels .now in
     let both = length-append (textOf (sideLines f)) (textOf (placeLines f)) in
     rw (network-text levels f)
     (wrote-then (omega (arith, room a, both, length-append (textOf (sideLines f) ++ textOf (placeLines f)) (textOf (rowLines (f .columns) levels (f .rows)))))
-    (wrote-then (omega (arith, room a, both)) (c .before .before .before .before .before .before .before .before .before .before .before .before .put-sides .ensures) (c .before .before .before .before .before .before .before .before .put-place .ensures))
+    (wrote-then (omega (arith, room a, both)) (at-put-sides .put-sides .ensures) (at-put-place .put-place .ensures))
     (c .before .before .put-rows .ensures))
 
 pub put-network-spec : {M : Type 1} → statement M

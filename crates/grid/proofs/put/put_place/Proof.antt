@@ -6,7 +6,7 @@ use mathlib.Core.List.{_++_}
 use Rattle.room.proofs.Laws.{wrote-then}
 use Rattle.grid.specs.File.{xllcenter, yllcenter, cellsize}
 use Rattle.grid.specs.Write.{keyLine}
-use Rattle.grid.specs.Steps.{ended}
+use Rattle.grid.specs.InnerSteps.{ended}
 use Rattle.grid.proofs.WriteLaws.{three-lines, three-length}
 use borrow.Author.Needs.{needs}
 use Rattle.grid.proofs.put.put_place.Statement.{statement}
@@ -36,23 +36,29 @@ slice-aggregate-put-line-3 c = search needs
 
 put-line-requires-3 : tie.Need-put-line-requires-3
 put-line-requires-3 c κs =
-    let l = c .before .before .before .before .before .before .before .before .before .put-line in
-    let m = c .before .before .before .before .put-line2 in
-    (c .before .before .before .before .before .before .before .before .before .before .before .before .before .pre .0 .spacing-most, omega (arith, room (c .before .before .before .before .before .before .before .before .before .before .before .before .before), l .ensures .place, l .kept .0, m .ensures .place, m .kept .0))
+    let at-put-line2 = c .before .before .before .before in
+    let at-put-line = at-put-line2 .before .before .before .before .before in
+    let start = at-put-line .before .before .before .before in
+    let l = at-put-line .put-line in
+    let m = at-put-line2 .put-line2 in
+    (start .pre .0 .spacing-most, omega (arith, room start, l .ensures .place, l .kept .0, m .ensures .place, m .kept .0))
 
 same-length : tie.Need-same-length
 same-length c = search needs
 
 returns : tie.Need-returns
 returns c =
-    let f = c .before .before .before .before .before .before .before .before .before .before .before .before .before .before .before .before .args .frame in
+    let at-put-line2 = c .before .before .before .before .before .before .before in
+    let at-put-line = at-put-line2 .before .before .before .before .before in
+    let start = at-put-line .before .before .before .before in
+    let f = start .args .frame in
     let x = ended (keyLine xllcenter (f .west)) in
     let y = ended (keyLine yllcenter (f .south)) in
     let z = ended (keyLine cellsize (f .spacing)) in
-    let l = c .before .before .before .before .before .before .before .before .before .before .before .before .put-line in
+    let l = at-put-line .put-line in
     rw (three-lines (keyLine xllcenter (f .west)) (keyLine yllcenter (f .south)) (keyLine cellsize (f .spacing)))
-    (wrote-then (omega (arith, room (c .before .before .before .before .before .before .before .before .before .before .before .before .before .before .before .before), length-append x (y ++ z), length-append y z)) (l .ensures)
-    (wrote-then (omega (arith, room (c .before .before .before .before .before .before .before .before .before .before .before .before .before .before .before .before), length-append y z, l .ensures .place, l .kept .0)) (c .before .before .before .before .before .before .before .put-line2 .ensures) (c .before .before .put-line3 .ensures)))
+    (wrote-then (omega (arith, room start, length-append x (y ++ z), length-append y z)) (l .ensures)
+    (wrote-then (omega (arith, room start, length-append y z, l .ensures .place, l .kept .0)) (at-put-line2 .put-line2 .ensures) (c .before .before .put-line3 .ensures)))
 
 pub put-place-spec : {M : Type 1} → statement M
 put-place-spec =

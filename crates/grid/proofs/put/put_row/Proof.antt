@@ -23,7 +23,9 @@ same-length c = search needs
 
 returns : tie.Need-returns
 returns c =
-    wrote-then (c .before .before .before .before .before .before .before .before .before .before .pre .2) (c .before .before .before .before .before .before .put-values .ensures) (c .before .before .put-end .ensures)
+    let at-put-values = c .before .before .before .before .before .before in
+    let start = at-put-values .before .before .before .before in
+    wrote-then (start .pre .2) (at-put-values .put-values .ensures) (c .before .before .put-end .ensures)
 
 pub put-row-spec : {M : Type 1} → statement M
 put-row-spec = tie.close (tie.spec put-values-requires put-end-requires same-length returns)

@@ -3,8 +3,9 @@ use mathlib.Core.Path.{_≡_, refl, sym, subst, ap, _∙_}
 use mathlib.Core.List.{_++_}
 use lib.ListN.{length, drop, length-append, length-drop}
 use Rattle.room.specs.Room.{Wrote}
-use Rattle.grid.specs.Steps.{ended, Quiet}
-use Rattle.grid.proofs.WriteLaws.{Writing, writing-start, writing-room, writing-more, writing-end, row-inside, part-row, quiet-part, rows-more, rows-none}
+use Rattle.grid.specs.InnerSteps.{ended, Quiet}
+use Rattle.room.proofs.Writing.{Writing, writing-start, writing-room, writing-more, writing-end}
+use Rattle.grid.proofs.WriteLaws.{row-inside, part-row, quiet-part, rows-more, rows-none}
 use Prim.Native.Nat.{_+_, _-_, _*_, _≤_}
 use native.Mathlib.Omega.{arith}
 use borrow.Author.Needs.{needs}
@@ -74,14 +75,16 @@ loop-less c = omega (arith, c .before .before .before .before .before .loop-test
 
 loop-again : tie.Need-loop-again Inv-loop μ-loop
 loop-again c =
-    let s = c .before .before .before .before .before .before .before .before .before in
-    let l = c .before .before .before .before .before .before .loop in
+    let in-loop = c .before .before .before .before .before in
+    let at-loop = in-loop .before in
+    let s = at-loop .before .before .before in
+    let l = at-loop .loop in
     let levels = s .args .levels .now in
     let columns = s .args .columns in
     let start = (l .left - 1) * columns in
     let p = c .before .before .put-row in
     let wrote = subst (λ t. Wrote (l .out) (l .at) (ended (rowLine t)) (p .last .0) (p .result)) (part-row levels start columns) (p .ensures) in (
-      writing-more (ended (rowLine (rowAt columns levels (l .left - 1)))) (textOf (rowLines columns levels (l .left - 1))) (next (c .before .before .before .before .before)) (s .pre .2) wrote,
+      writing-more (ended (rowLine (rowAt columns levels (l .left - 1)))) (textOf (rowLines columns levels (l .left - 1))) (next in-loop) (s .pre .2) wrote,
       omega (arith, l .inv .1),
       p .kept .0 ∙ l .inv .2,
     )

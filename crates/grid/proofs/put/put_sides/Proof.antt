@@ -5,7 +5,7 @@ use lib.ListN.{length, length-append}
 use Rattle.room.proofs.Laws.{wrote-then}
 use Rattle.grid.specs.File.{ncols, nrows}
 use Rattle.grid.specs.Write.{keyLine}
-use Rattle.grid.specs.Steps.{ended}
+use Rattle.grid.specs.InnerSteps.{ended}
 use Rattle.grid.proofs.WriteLaws.{two-lines, two-length}
 use borrow.Author.Needs.{needs}
 use Rattle.grid.proofs.put.put_sides.Statement.{statement}
@@ -34,11 +34,13 @@ same-length c = search needs
 
 returns : tie.Need-returns
 returns c =
-    let f = c .before .before .before .before .before .before .before .before .before .before .before .args .frame in
+    let at-put-line = c .before .before .before .before .before .before .before in
+    let start = at-put-line .before .before .before .before in
+    let f = start .args .frame in
     let a = ended (keyLine ncols (f .columns)) in
     let b = ended (keyLine nrows (f .rows)) in
     rw (two-lines (keyLine ncols (f .columns)) (keyLine nrows (f .rows)))
-    (wrote-then (omega (arith, room (c .before .before .before .before .before .before .before .before .before .before .before), length-append a b)) (c .before .before .before .before .before .before .before .put-line .ensures) (c .before .before .put-line2 .ensures))
+    (wrote-then (omega (arith, room start, length-append a b)) (at-put-line .put-line .ensures) (c .before .before .put-line2 .ensures))
 
 pub put-sides-spec : {M : Type 1} → statement M
 put-sides-spec =

@@ -15,7 +15,9 @@ same-length c = search needs
 
 returns : tie.Need-returns
 returns c =
-    wrote-then (c .before .before .before .before .before .before .before .before .before .pre .1) (c .before .before .before .before .before .before .put-byte .ensures) (c .before .before .put-level .ensures)
+    let at-put-byte = c .before .before .before .before .before .before in
+    let start = at-put-byte .before .before .before in
+    wrote-then (start .pre .1) (at-put-byte .put-byte .ensures) (c .before .before .put-level .ensures)
 
 pub put-spaced-spec : {M : Type 1} → statement M
 put-spaced-spec = tie.close (tie.spec put-byte-requires put-level-requires same-length returns)

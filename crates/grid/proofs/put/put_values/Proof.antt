@@ -7,7 +7,8 @@ use borrow.Author.Needs.{needs}
 use lib.ListN.{length, getD, drop, length-append}
 use Rattle.text.specs.Number.{showLevel}
 use Rattle.room.proofs.Laws.{wrote-then}
-use Rattle.grid.proofs.WriteLaws.{Writing, writing-start, writing-room, writing-more, writing-end, spacedOf, spaced-more, spaced-none, row-first}
+use Rattle.room.proofs.Writing.{Writing, writing-start, writing-room, writing-more, writing-end}
+use Rattle.grid.proofs.WriteLaws.{spacedOf, spaced-more, spaced-none, row-first}
 use Rattle.grid.proofs.put.put_values.Statement.{statement}
 use Rattle.grid.proofs.put.put_values.Tie as tie
 
@@ -39,9 +40,13 @@ started c =
     omega (arith, a .pre .2, ap length (row-first row (a .pre .0)), length-append (showLevel (getD row 0 0)) (spacedOf (drop 1 row)), p .ensures .place, p .kept .0)
 
 -- what is left begins with the next space and level
-next : (c : tie.In-loop Inv-loop μ-loop) → let a = c .before .before .before .before .before .before .before .before .before .args in let l = c .before .loop in let p = c .before .before .before .before .put-level in
+next : (c : tie.In-loop Inv-loop μ-loop) → let at-put-level = c .before .before .before .before in let start = at-put-level .before .before .before .before .before in
+    let a = start .args in let l = c .before .loop in let p = at-put-level .put-level in
     Writing (p .last .0) (p .result) (spacedOf (drop 1 (a .row .now))) (l .out) (l .at) ((32 ∷ showLevel (getD (a .row .now) (l .i) 0)) ++ spacedOf (drop (l .i + 1) (a .row .now)))
-next c = rw (← spaced-more (c .before .before .before .before .before .before .before .before .before .args .row .now) (c .before .loop .i) (c .loop-test .taken)) (c .before .loop .inv .0)
+next c =
+    let at-loop = c .before in
+    let start = at-loop .before .before .before .before .before .before .before .before in
+    rw (← spaced-more (start .args .row .now) (at-loop .loop .i) (c .loop-test .taken)) (at-loop .loop .inv .0)
 
 mul-put-spaced : tie.Need-mul-put-spaced Inv-loop μ-loop
 mul-put-spaced c = search needs
@@ -51,10 +56,11 @@ shared-slice-read-put-spaced c = search needs
 
 put-spaced-requires : tie.Need-put-spaced-requires Inv-loop μ-loop
 put-spaced-requires c κs =
-    let a = c .before .before .before .before .before .before .before .before .before .before .before in
+    let at-slice-known2 = c .before .before .before .before in
+    let a = at-slice-known2 .before .before .before .before .before .before .before in
     let l = c .before .before .before .loop in
     let piece : List ℕ = 32 ∷ showLevel (getD (a .args .row .now) (l .i) 0) in
-    (a .pre .1 (l .i), omega (arith, writing-room (next (c .before .before)) (started (c .before .before .before .before)) .0, length-append piece (spacedOf (drop (l .i + 1) (a .args .row .now)))))
+    (a .pre .1 (l .i), omega (arith, writing-room (next (c .before .before)) (started at-slice-known2) .0, length-append piece (spacedOf (drop (l .i + 1) (a .args .row .now)))))
 
 add-i : tie.Need-add-i Inv-loop μ-loop
 add-i c = search needs
@@ -64,12 +70,16 @@ loop-less c = search needs
 
 loop-again : tie.Need-loop-again Inv-loop μ-loop
 loop-again c =
-    let a = c .before .before .before .before .before .before .before .before .before .before .before .before .before .before .args in
-    let l = c .before .before .before .before .before .before .loop in
+    let at-loop-test = c .before .before .before .before .before in
+    let at-loop = at-loop-test .before in
+    let at-slice-known2 = at-loop .before in
+    let start = at-slice-known2 .before .before .before .before .before .before .before in
+    let a = start .args in
+    let l = at-loop .loop in
     let piece : List ℕ = 32 ∷ showLevel (getD (a .row .now) (l .i) 0) in (
-      writing-more piece (spacedOf (drop (l .i + 1) (a .row .now))) (next (c .before .before .before .before .before)) (started (c .before .before .before .before .before .before .before)) (c .before .before .put-spaced .ensures),
+      writing-more piece (spacedOf (drop (l .i + 1) (a .row .now))) (next at-loop-test) (started at-slice-known2) (c .before .before .put-spaced .ensures),
       omega arith,
-      omega (arith, c .before .before .before .before .before .loop-test .taken),
+      omega (arith, at-loop-test .loop-test .taken),
       c .before .before .put-spaced .kept .0 ∙ l .inv .3,
     )
 
@@ -78,12 +88,13 @@ same-length c = c .before .loop .inv .3 ∙ c .before .before .before .before .p
 
 returns : tie.Need-returns Inv-loop μ-loop
 returns c =
-    let a = c .before .before .before .before .before .before .before .before .before in
+    let at-put-level = c .before .before .before .before in
+    let a = at-put-level .before .before .before .before .before in
     let row = a .args .row .now in
     let l = c .before .loop in
     let first = row-first row (a .pre .0) in
     let rest = writing-end (rw (spaced-none row (l .i) (c .loop-test .left)) at (l .inv .0)) in
-    rw first (wrote-then (omega (arith, a .pre .2, ap length first)) (c .before .before .before .before .put-level .ensures) rest)
+    rw first (wrote-then (omega (arith, a .pre .2, ap length first)) (at-put-level .put-level .ensures) rest)
 
 pub put-values-spec : {M : Type 1} → statement M
 put-values-spec =

@@ -1,6 +1,6 @@
 -- `grid::read::fault_line` meets its contract. Assumes nothing.
 use mathlib.Core.Path.{subst, sym}
-use Rattle.grid.specs.Steps.{fileRead}
+use Rattle.grid.specs.InnerSteps.{fileRead}
 use borrow.Author.Needs.{needs}
 use Rattle.grid.proofs.read.fault_line.Statement.{statement}
 use Rattle.grid.proofs.read.fault_line.Tie as tie

@@ -2,8 +2,9 @@
 use mathlib.Core.Path.{_≡_, subst, sym, ap, _∙_}
 use native.Mathlib.Omega.{arith}
 use Rattle.grid.specs.Row.{levelsOf}
-use Rattle.grid.specs.Read.{over, numbersOf}
-use Rattle.grid.specs.Steps.{fileRead, shapeRefusal}
+use Rattle.room.specs.Room.{front}
+use Rattle.grid.specs.Read.{numbersOf}
+use Rattle.grid.specs.InnerSteps.{fileRead, shapeRefusal}
 use Rattle.grid.specs.declared.judge.File.the-variants.{On}
 use Rattle.grid.proofs.ReadLaws.{off-layout, shape-refused, rows-ready, product-small, no-header, no-levels, roomy-both, refused-outcome, read-outcome}
 use borrow.Author.Needs.{needs}
@@ -39,8 +40,10 @@ shape-refusal-requires c κs = search needs
 
 returns-2 : tie.Need-returns-2
 returns-2 c =
-    let a = c .before .before .before .before .before .before .before .before .before .args in
-    let f = file (c .before .before) in
+    let at-known-told = c .before .before in
+    let start = at-known-told .before .before .before .before .before .before .before in
+    let a = start .args in
+    let f = file at-known-told in
     refused-outcome (a .text .now) (a .header .now) (a .levels .now) (c .before .shape-refusal .result)
     (shape-refused (a .text .now) _ _ _ _ (f .0) (f .1) _ _ (c .before .shape-refusal .result) (c .before .shape-refusal .ensures) (c .if1 .taken))
     (c .if1 .taken)
@@ -53,8 +56,10 @@ cast-rows c = search needs
 
 returns-3 : tie.Need-returns-3
 returns-3 c =
-    let a = c .before .before .before .before .before .before .before .before .before .before .before .before .args in
-    let f = file (c .before .before .before .before .before) in
+    let at-known-told = c .before .before .before .before .before in
+    let start = at-known-told .before .before .before .before .before .before .before in
+    let a = start .args in
+    let f = file at-known-told in
     refused-outcome (a .text .now) (a .header .now) (a .levels .now) 14
     (no-header (a .text .now) _ _ _ _ (f .0) (f .1) (none (c .before .before .before)) _ _ (omega (arith, c .if2 .taken)))
     (λ z. omega arith)
@@ -66,8 +71,10 @@ mul-if3 c =
 
 returns-4 : tie.Need-returns-4
 returns-4 c =
-    let a = c .before .before .before .before .before .before .before .before .before .before .before .before .before .args in
-    let f = file (c .before .before .before .before .before .before) in
+    let at-known-told = c .before .before .before .before .before .before in
+    let start = at-known-told .before .before .before .before .before .before .before in
+    let a = start .args in
+    let f = file at-known-told in
     refused-outcome (a .text .now) (a .header .now) (a .levels .now) 14
     (no-levels (a .text .now) _ _ _ _ (f .0) (f .1) (none (c .before .before .before .before)) _ _ (omega (arith, c .before .if2 .left)) (c .if3 .taken))
     (λ z. omega arith)
@@ -77,8 +84,11 @@ store-frame-requires c κs = search needs
 
 store-rows-requires : tie.Need-store-rows-requires
 store-rows-requires c κs =
-    let f = file (c .before .before .before .before .before .before .before .before .before .before .before) in
-    (rows-ready _ _ _ _ _ (f .0) (f .1) (none (c .before .before .before .before .before .before .before .before .before)), c .before .before .before .before .before .if3 .left)
+    let at-if3 = c .before .before .before .before .before in
+    let at-1 = at-if3 .before .before .before .before in
+    let at-known-told = at-1 .before .before in
+    let f = file at-known-told in
+    (rows-ready _ _ _ _ _ (f .0) (f .1) (none at-1), at-if3 .if3 .left)
 
 same-length : tie.Need-same-length
 same-length c = search needs
@@ -88,12 +98,18 @@ same-length-2 c = search needs
 
 returns-5 : tie.Need-returns-5
 returns-5 c =
-    let a = c .before .before .before .before .before .before .before .before .before .before .before .before .before .before .before .before .before .before .before .before .before .args in
-    let f = file (c .before .before .before .before .before .before .before .before .before .before .before .before .before .before) in
-    let o = read-outcome (a .text .now) (a .header .now) (a .levels .now) (roomy-both (a .text .now) _ _ _ _ (f .0) (f .1) (none (c .before .before .before .before .before .before .before .before .before .before .before .before)) _ _ (omega (arith, c .before .before .before .before .before .before .before .before .before .if2 .left)) (c .before .before .before .before .before .before .before .before .if3 .left)) in (
+    let at-store-frame = c .before .before .before .before .before .before in
+    let at-if3 = at-store-frame .before .before in
+    let at-if2 = at-if3 .before in
+    let at-1 = at-if2 .before .before .before in
+    let at-known-told = at-1 .before .before in
+    let start = at-known-told .before .before .before .before .before .before .before in
+    let a = start .args in
+    let f = file at-known-told in
+    let o = read-outcome (a .text .now) (a .header .now) (a .levels .now) (roomy-both (a .text .now) _ _ _ _ (f .0) (f .1) (none at-1) _ _ (omega (arith, at-if2 .if2 .left)) (at-if3 .if3 .left)) in (
       o .0,
-      c .before .before .before .before .before .before .store-frame .ensures ∙ ap (λ x. over (numbersOf x) (a .header .now)) (f .1 .frame) ∙ o .1,
-      c .before .before .store-rows .ensures ∙ ap (λ l. over (levelsOf l) (a .levels .now)) (f .1 .rows) ∙ o .2,
+      at-store-frame .store-frame .ensures ∙ ap (λ x. front (numbersOf x) (a .header .now)) (f .1 .frame) ∙ o .1,
+      c .before .before .store-rows .ensures ∙ ap (λ l. front (levelsOf l) (a .levels .now)) (f .1 .rows) ∙ o .2,
     )
 
 pub read-network-spec : {M : Type 1} → statement M

@@ -5,7 +5,7 @@ use native.Mathlib.Omega.{arith}
 use borrow.Author.Needs.{needs}
 use lib.ListN.{length, getD, drop}
 use Rattle.text.proofs.Shown.{level-most}
-use Rattle.grid.specs.Steps.{sizesOf}
+use Rattle.grid.specs.InnerSteps.{sizesOf}
 use Rattle.grid.proofs.WriteLaws.{sizes-more, sizes-none}
 use Rattle.grid.proofs.size.levels_size.Statement.{statement}
 use Rattle.grid.proofs.size.levels_size.Tie as tie

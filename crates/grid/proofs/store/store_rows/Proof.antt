@@ -4,18 +4,17 @@ use Prim.Native.Nat.{_+_, _-_, _*_, _≤_}
 use mathlib.Core.Path.{_≡_, refl, sym, ap, _∙_}
 use native.Mathlib.Omega.{arith}
 use lib.ListN.{length}
-use Rattle.room.specs.Room.{put}
+use Rattle.room.specs.Room.{front, put}
 use Rattle.grid.specs.Row.{valuesOf, rowLevels, levelsOf}
-use Rattle.grid.specs.Read.{over}
-use Rattle.grid.specs.Steps.{linesAt, lineFrom, Rows}
-use Rattle.grid.proofs.StoreLaws.{values-here, left-here, rows-left, place-room, over-here, over-end}
+use Rattle.grid.specs.InnerSteps.{linesAt, lineFrom, Rows}
+use Rattle.grid.proofs.StoreLaws.{values-here, left-here, rows-left, place-room, front-here, front-end}
 use Rattle.grid.proofs.store.store_rows.Statement.{statement}
 use Rattle.grid.proofs.store.store_rows.Tie as tie
 
 abbrev Inv-loop : tie.InvT-loop
 Inv-loop s from columns rows out₀ at₀ row₀ out at row =
     Rows s at columns (rows - row)
-    × (over (levelsOf (linesAt s from)) out₀ ≡ over (levelsOf (linesAt s at)) out)
+    × (front (levelsOf (linesAt s from)) out₀ ≡ front (levelsOf (linesAt s at)) out)
     × (length out ≡ length out₀)
 
 abbrev μ-loop : tie.MeasureT-loop
@@ -73,13 +72,17 @@ loop-less c =
 
 loop-again : tie.Need-loop-again Inv-loop μ-loop
 loop-again c =
-    let a = c .before .before .before .before .before .before .before .before .before .before .before in
+    let at-rows-south = c .before .before .before .before .before in
+    let at-line-at = at-rows-south .before in
+    let at-loop-test = at-line-at .before in
+    let at-loop = at-loop-test .before in
+    let a = at-loop .before .before .before in
     let s = a .args .s .now in
     let columns = a .args .columns in
-    let l = c .before .before .before .before .before .before .before .before .loop in
-    let line = c .before .before .before .before .before .before .line-at in
-    let h = c .before .before .before .before .before .before .before .loop-test .taken in
-    let south = c .before .before .before .before .before .rows-south in
+    let l = at-loop .loop in
+    let line = at-line-at .line-at in
+    let h = at-loop-test .loop-test .taken in
+    let south = at-rows-south .rows-south in
     let next = levelsOf (linesAt s (line .result .next)) in
     let one : a .args .rows - (l .row + 1) ≡ a .args .rows - l .row - 1 = omega arith in
     let place : a .args .rows - l .row - 1 ≡ south .result = omega (arith, south .ensures) in
@@ -88,9 +91,9 @@ loop-again c =
     let fits = mul-le-mul-right {m = a .args .rows - l .row} {n = a .args .rows} columns (omega arith) in (
       rw one (rows-left _ _ _ _ (l .inv .0) h (line .result) (line .ensures)),
       l .inv .1
-          ∙ over-here _ _ _ _ (l .inv .0) h (line .result) (line .ensures) (l .out) (omega (arith, a .pre .1, l .inv .2))
-          ∙ ap (λ n. over next (put (l .out) (n * columns) (rowLevels (lineFrom s (l .at))))) place
-          ∙ ap (over next) (sym stored),
+          ∙ front-here _ _ _ _ (l .inv .0) h (line .result) (line .ensures) (l .out) (omega (arith, a .pre .1, l .inv .2))
+          ∙ ap (λ n. front next (put (l .out) (n * columns) (rowLevels (lineFrom s (l .at))))) place
+          ∙ ap (front next) (sym stored),
       kept ∙ l .inv .2,
     )
 
@@ -100,7 +103,7 @@ same-length c = c .before .loop .inv .2
 returns : tie.Need-returns Inv-loop μ-loop
 returns c =
     let a = c .before .before .before .before .args in
-    sym (c .before .loop .inv .1 ∙ over-end (a .s .now) (c .before .loop .at) (c .before .loop .out) (c .loop-test .left))
+    sym (c .before .loop .inv .1 ∙ front-end (a .s .now) (c .before .loop .at) (c .before .loop .out) (c .loop-test .left))
 
 pub store-rows-spec : {M : Type 1} → statement M
 store-rows-spec =

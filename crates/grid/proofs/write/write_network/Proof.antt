@@ -4,8 +4,10 @@ use mathlib.Core.List.{[], _∷_}
 use native.Mathlib.Omega.{arith}
 use Rattle.network.specs.Refusals.{networkRefusal}
 use Rattle.network.proofs.Refusals.{not-refused}
-use Rattle.grid.specs.Read.{over}
-use Rattle.grid.proofs.WriteLaws.{network-refused, text-refused, size-refused, written, wrote-over, set-over, network-most}
+use Rattle.room.specs.Room.{front}
+use Rattle.room.proofs.Fronts.{front-one}
+use Rattle.room.proofs.Writing.{wrote-leaves}
+use Rattle.grid.proofs.WriteLaws.{network-refused, text-refused, size-refused, written, network-most}
 use borrow.Author.Needs.{needs}
 use Rattle.grid.proofs.write.write_network.Statement.{statement}
 use Rattle.grid.proofs.write.write_network.Tie as tie
@@ -41,8 +43,11 @@ put-network-requires c κs =
 
 cast-size : tie.Need-cast-size
 cast-size c =
-    let a = c .before .before .before .before .before .before .before .before .before .before .before .before .args in
-    omega (arith, c .before .before .before .before .before .before .text-size .ensures, network-most (a .levels .now) (a .frame) (not-refused (a .levels .now) (a .frame) (none (c .before .before .before .before .before .before .before))))
+    let at-text-size = c .before .before .before .before .before .before in
+    let at-1 = at-text-size .before in
+    let start = at-1 .before .before .before .before .before in
+    let a = start .args in
+    omega (arith, at-text-size .text-size .ensures, network-most (a .levels .now) (a .frame) (not-refused (a .levels .now) (a .frame) (none at-1)))
 
 slice-write-size : tie.Need-slice-write-size
 slice-write-size c = search needs
@@ -55,11 +60,15 @@ same-length-2 c = search needs
 
 returns-4 : tie.Need-returns-4
 returns-4 c =
-    let a = c .before .before .before .before .before .before .before .before .before .before .before .before .args in
-    let n = c .before .before .before .before .before .before .text-size in
+    let at-if2 = c .before .before .before .before .before in
+    let at-text-size = at-if2 .before in
+    let at-1 = at-text-size .before in
+    let start = at-1 .before .before .before .before .before in
+    let a = start .args in
+    let n = at-text-size .text-size in
     let room = c .before .before .before .before .if3 .left in
-    let o = written (a .levels .now) (a .frame) (a .text .now) (a .size .now) (none (c .before .before .before .before .before .before .before)) (omega (arith, c .before .before .before .before .before .if2 .left, n .ensures)) room in
-    (o .0, wrote-over (c .before .before .put-network .ensures) ∙ o .1, set-over (a .size .now) (n .result) room ∙ ap (λ x. over (x ∷ []) (a .size .now)) (n .ensures) ∙ o .2)
+    let o = written (a .levels .now) (a .frame) (a .text .now) (a .size .now) (none at-1) (omega (arith, at-if2 .if2 .left, n .ensures)) room in
+    (o .0, wrote-leaves (c .before .before .put-network .ensures) ∙ o .1, front-one (a .size .now) (n .result) room ∙ ap (λ x. front (x ∷ []) (a .size .now)) (n .ensures) ∙ o .2)
 
 pub write-network-spec : {M : Type 1} → statement M
 write-network-spec =

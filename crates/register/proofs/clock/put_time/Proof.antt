@@ -7,14 +7,19 @@ use Rattle.register.proofs.clock.put_time.Tie as tie
 
 returns : tie.Need-returns
 returns c =
-    let room = c .before .before .before .before .before .before .before .before .before .before .before .before .before .before .before .before .before .before .before .before .before .pre .1 in
+    let at-put-byte2 = c .before .before .before .before .before .before in
+    let at-put-digits2 = at-put-byte2 .before .before .before .before in
+    let at-put-byte = at-put-digits2 .before .before .before .before in
+    let at-put-digits = at-put-byte .before .before .before .before in
+    let start = at-put-digits .before .before .before in
+    let room = start .pre .1 in
     wrote-then (omega arith)
     (wrote-then (omega arith)
     (wrote-then (omega arith)
-    (wrote-then (omega arith) (c .before .before .before .before .before .before .before .before .before .before .before .before .before .before .before .before .before .before .put-two .ensures) (c .before .before .before .before .before .before .before .before .before .before .before .before .before .before .put-byte .ensures))
-    (c .before .before .before .before .before .before .before .before .before .before .put-two2 .ensures))
-    (c .before .before .before .before .before .before .put-byte2 .ensures))
-    (c .before .before .put-two3 .ensures)
+    (wrote-then (omega arith) (at-put-digits .put-digits .ensures) (at-put-byte .put-byte .ensures))
+    (at-put-digits2 .put-digits2 .ensures))
+    (at-put-byte2 .put-byte2 .ensures))
+    (c .before .before .put-digits3 .ensures)
 
 pub put-time-spec : {M : Type 1} → statement M
 put-time-spec =

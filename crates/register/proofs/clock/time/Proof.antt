@@ -36,31 +36,40 @@ opened c =
 
 returns-4 : tie.Need-returns-4
 returns-4 c =
-    let s = c .before .before .before .before .before .before .before .before .before .args .s .now in
+    let at-3 = c .before .before .before in
+    let start = at-3 .before .before .before .before .before .before in
+    let s = start .args .s .now in
     let h : twoAt s 0 24 ≡ Off = cc in
-    sym (opened (c .before .before .before) ∙ rw h)
+    sym (opened at-3 ∙ rw h)
 
 returns-5 : tie.Need-returns-5
 returns-5 c =
-    let s = c .before .before .before .before .before .before .before .before .before .before .before .before .before .args .s .now in
+    let at-3 = c .before .before .before .before .before .before .before in
+    let start = at-3 .before .before .before .before .before .before in
+    let s = start .args .s .now in
     let h : twoAt s 0 24 ≡ Got (c .before .before .before .before .hour .given .0 .0) = cc in
     let m : twoAt s 3 60 ≡ Off = cc in
-    sym (opened (c .before .before .before .before .before .before .before) ∙ rw (h, m))
+    sym (opened at-3 ∙ rw (h, m))
 
 returns-6 : tie.Need-returns-6
 returns-6 c =
-    let s = c .before .before .before .before .before .before .before .before .before .before .before .before .before .before .before .before .before .args .s .now in
-    let h : twoAt s 0 24 ≡ Got (c .before .before .before .before .before .before .before .before .hour .given .0 .0) = cc in
+    let at-hour = c .before .before .before .before .before .before .before .before in
+    let at-3 = at-hour .before .before .before in
+    let start = at-3 .before .before .before .before .before .before in
+    let s = start .args .s .now in
+    let h : twoAt s 0 24 ≡ Got (at-hour .hour .given .0 .0) = cc in
     let m : twoAt s 3 60 ≡ Got (c .before .before .before .before .minute .given .0 .0) = cc in
     let z : twoAt s 6 60 ≡ Off = cc in
-    sym (opened (c .before .before .before .before .before .before .before .before .before .before .before) ∙ rw (h, m, z))
+    sym (opened at-3 ∙ rw (h, m, z))
 
 -- the three numbers are read, and are small
-three : (c : tie.After-known-told3) → let s = c .before .before .before .before .before .before .before .before .before .before .before .before .before .before .before .before .before .before .args .s .now in
-    (twoAt s 0 24 ≡ Got (c .before .before .before .before .before .before .before .before .before .hour .given .0 .0)) × (twoAt s 3 60 ≡ Got (c .before .before .before .before .before .minute .given .0 .0)) × (twoAt s 6 60 ≡ Got (c .before .second .given .0 .0))
+three : (c : tie.After-known-told3) → let at-minute = c .before .before .before .before .before in let at-hour = at-minute .before .before .before .before in let earlier = at-hour .before .before .before .before in let start = earlier .before .before .before .before .before in
+    let s = start .args .s .now in
+    (twoAt s 0 24 ≡ Got (at-hour .hour .given .0 .0)) × (twoAt s 3 60 ≡ Got (at-minute .minute .given .0 .0)) × (twoAt s 6 60 ≡ Got (c .before .second .given .0 .0))
 three c = (cc, cc, cc)
 
-small : (c : tie.After-known-told3) → (c .before .before .before .before .before .before .before .before .before .hour .given .0 .0 < 24) × (c .before .before .before .before .before .minute .given .0 .0 < 60) × (c .before .second .given .0 .0 < 60)
+small : (c : tie.After-known-told3) → let at-minute = c .before .before .before .before .before in let at-hour = at-minute .before .before .before .before in
+    (at-hour .hour .given .0 .0 < 24) × (at-minute .minute .given .0 .0 < 60) × (c .before .second .given .0 .0 < 60)
 small c = (two-under _ 0 24 _ (three c .0), two-under _ 3 60 _ (three c .1), two-under _ 6 60 _ (three c .2))
 
 mul-t13 : tie.Need-mul-t13
@@ -76,7 +85,10 @@ add-t16 : tie.Need-add-t16
 add-t16 c = omega (arith, small c .0, small c .1, small c .2)
 
 returns-7 : tie.Need-returns-7
-returns-7 c = let r = three c in sym (opened (c .before .before .before .before .before .before .before .before .before .before .before .before) ∙ rw (r .0, r .1, r .2))
+returns-7 c =
+    let earlier = c .before .before .before .before in
+    let at-3 = earlier .before .before .before .before .before .before .before .before in
+    let r = three c in sym (opened at-3 ∙ rw (r .0, r .1, r .2))
 
 pub time-spec : {M : Type 1} → statement M
 time-spec =

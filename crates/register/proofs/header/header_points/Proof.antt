@@ -55,11 +55,14 @@ slice-aggregate-same-text c = sym (length-take-le _ _ (c .before .before .before
 returns-5 : tie.Need-returns-5
 unfolding headerOf
 returns-5 c =
-    let a = c .before .before .before .before .before .before .before .before .before .args in
+    let at-if2 = c .before .before .before .before .before in
+    let at-if1 = at-if2 .before in
+    let start = at-if1 .before .before .before in
+    let a = start .args in
     let n = length (a .s .now) in
     rw (
-      lt-ltb (a .lead) n (c .before .before .before .before .before .before .if1 .left),
-      le-leb n (length (a .full .now)) (c .before .before .before .before .before .if2 .left),
+      lt-ltb (a .lead) n (at-if1 .if1 .left),
+      le-leb n (length (a .full .now)) (at-if2 .if2 .left),
       eq-eqb ((n - a .lead) % 3) 0 (c .before .before .before .before .if3 .left),
       le-leb ((n - a .lead) / 3) 8 (c .before .before .before .if4 .left),
       sym (c .before .same-text .ensures) ∙ c .if5 .taken,
@@ -68,11 +71,14 @@ returns-5 c =
 returns-6 : tie.Need-returns-6
 unfolding headerOf
 returns-6 c =
-    let a = c .before .before .before .before .before .before .before .before .before .args in
+    let at-if2 = c .before .before .before .before .before in
+    let at-if1 = at-if2 .before in
+    let start = at-if1 .before .before .before in
+    let a = start .args in
     let n = length (a .s .now) in
     rw (
-      lt-ltb (a .lead) n (c .before .before .before .before .before .before .if1 .left),
-      le-leb n (length (a .full .now)) (c .before .before .before .before .before .if2 .left),
+      lt-ltb (a .lead) n (at-if1 .if1 .left),
+      le-leb n (length (a .full .now)) (at-if2 .if2 .left),
       eq-eqb ((n - a .lead) % 3) 0 (c .before .before .before .before .if3 .left),
       le-leb ((n - a .lead) / 3) 8 (c .before .before .before .if4 .left),
       sym (c .before .same-text .ensures) ∙ c .if5 .left,

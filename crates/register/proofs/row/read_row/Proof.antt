@@ -2,7 +2,7 @@
 use mathlib.Core.Path.{_≡_, sym, ap, _∙_}
 use borrow.Author.Tests.{eq-eqb, ne-eqb}
 use lib.ListN.{length, take}
-use Rattle.room.specs.Room.{put}
+use Rattle.room.specs.Room.{front}
 use Rattle.register.specs.Row.{layoutOf, rowRefusal, fieldList}
 use Rattle.register.proofs.Rows.{row-none, layout-points}
 use borrow.Author.Needs.{needs}
@@ -27,14 +27,18 @@ put-levels-requires c κs =
 
 returns-2 : tie.Need-returns-2
 returns-2 c =
-    let a = c .before .before .before .before .before .before .before .before .before .before .before .args in
-    let e = found (c .before .before .before .before .before .before .before) in
-    let fine = eq-eqb (c .before .before .before .before .before .before .before .row-refusal .result) 0 (c .before .before .before .before .before .before .if1 .left) in
-    let l = c .before .before .before .before .before .before .before .before .read-layout .ensures in
+    let at-if1 = c .before .before .before .before .before .before in
+    let at-row-refusal = at-if1 .before in
+    let at-read-layout = at-row-refusal .before in
+    let start = at-read-layout .before .before .before in
+    let a = start .args in
+    let e = found at-row-refusal in
+    let fine = eq-eqb (at-row-refusal .row-refusal .result) 0 (at-if1 .if1 .left) in
+    let l = at-read-layout .read-layout .ensures in
     record {
-      number = sym (c .before .before .before .before .before .before .if1 .left) ∙ e;
+      number = sym (at-if1 .if1 .left) ∙ e;
       values = rw (← e, fine) (ap (λ r. fieldList (r .fields)) l);
-      levels = rw (← e, fine) (c .before .before .put-levels .ensures ∙ ap (λ r. put (a .levels .now) 0 (take (a .points) (r .levels))) l);
+      levels = rw (← e, fine) (c .before .before .put-levels .ensures ∙ ap (λ r. front (take (a .points) (r .levels)) (a .levels .now)) l);
     }
 
 pub read-row-spec : {M : Type 1} → statement M

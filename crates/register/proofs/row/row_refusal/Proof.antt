@@ -24,12 +24,16 @@ returns-2 c =
 returns-3 : tie.Need-returns-3
 unfolding rowRefusal
 returns-3 c =
-    rw (eq-eqb (c .before .before .before .before .before .before .before .before .before .args .l .refusal) 0 (c .before .before .before .before .before .before .before .if1 .left), ← fault-of (c .before .before), eq-eqb (c .before .before .fault .result) 0 (c .before .if2 .left), le-leb (c .before .before .before .before .before .before .before .before .before .args .points) (c .before .before .before .before .before .before .before .before .before .args .room) (c .if3 .taken))
+    let at-if1 = c .before .before .before .before .before .before .before in
+    let start = at-if1 .before .before in
+    rw (eq-eqb (start .args .l .refusal) 0 (at-if1 .if1 .left), ← fault-of (c .before .before), eq-eqb (c .before .before .fault .result) 0 (c .before .if2 .left), le-leb (start .args .points) (start .args .room) (c .if3 .taken))
 
 returns-4 : tie.Need-returns-4
 unfolding rowRefusal
 returns-4 c =
-    rw (eq-eqb (c .before .before .before .before .before .before .before .before .before .args .l .refusal) 0 (c .before .before .before .before .before .before .before .if1 .left), ← fault-of (c .before .before), eq-eqb (c .before .before .fault .result) 0 (c .before .if2 .left), lt-leb (c .before .before .before .before .before .before .before .before .before .args .points) (c .before .before .before .before .before .before .before .before .before .args .room) (c .if3 .left))
+    let at-if1 = c .before .before .before .before .before .before .before in
+    let start = at-if1 .before .before in
+    rw (eq-eqb (start .args .l .refusal) 0 (at-if1 .if1 .left), ← fault-of (c .before .before), eq-eqb (c .before .before .fault .result) 0 (c .before .if2 .left), lt-leb (start .args .points) (start .args .room) (c .if3 .left))
 
 pub row-refusal-spec : {M : Type 1} → statement M
 row-refusal-spec =

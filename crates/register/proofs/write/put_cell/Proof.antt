@@ -3,7 +3,8 @@ use Prim.Native.Nat.{_<_}
 use native.Mathlib.Omega.{arith}
 use Rattle.room.proofs.Laws.{wrote-none}
 use Rattle.text.proofs.Shown.{level-most, shown-width}
-use Rattle.register.specs.Cell.{shownCell, topOf}
+use Rattle.register.specs.Cell.{shownCell}
+use Rattle.register.specs.InnerCell.{topOf}
 use Rattle.register.proofs.Columns.{text-blank, text-marked, text-head, shown-level, top-level}
 use Rattle.register.proofs.Writes.{whole-column}
 use borrow.Author.Needs.{needs}
@@ -49,8 +50,11 @@ put-letter-requires-2 c κs =
 returns-4 : tie.Need-returns-4
 unfolding shownCell
 returns-4 c =
-    let a = c .before .before .before .before .before .before .before .before .before .args in
-    rw (text-head (a .mark) (a .k) (a .v) (omega (arith, c .before .before .before .before .before .before .before .if1 .left)), c .before .before .before .before .before .if4 .taken) (c .before .before .put-letter2 .ensures)
+    let at-if4 = c .before .before .before .before .before in
+    let at-if1 = at-if4 .before .before in
+    let start = at-if1 .before .before in
+    let a = start .args in
+    rw (text-head (a .mark) (a .k) (a .v) (omega (arith, at-if1 .if1 .left)), at-if4 .if4 .taken) (c .before .before .put-letter2 .ensures)
 
 put-time-requires : tie.Need-put-time-requires
 unfolding topOf
@@ -61,8 +65,10 @@ put-time-requires c κs =
 returns-5 : tie.Need-returns-5
 unfolding shownCell
 returns-5 c =
-    let a = c .before .before .before .before .before .before .before .before .before .args in
-    rw (text-head (a .mark) (a .k) (a .v) (omega (arith, c .before .before .before .before .before .before .before .if1 .left)), c .before .before .before .before .if5 .taken) (c .before .before .put-time .ensures)
+    let at-if1 = c .before .before .before .before .before .before .before in
+    let start = at-if1 .before .before in
+    let a = start .args in
+    rw (text-head (a .mark) (a .k) (a .v) (omega (arith, at-if1 .if1 .left)), c .before .before .before .before .if5 .taken) (c .before .before .put-time .ensures)
 
 put-whole-requires : tie.Need-put-whole-requires
 put-whole-requires c κs =
@@ -74,9 +80,13 @@ put-whole-requires c κs =
 
 returns-6 : tie.Need-returns-6
 returns-6 c =
-    let a = c .before .before .before .before .before .before .before .before .before .args in
-    let w = whole-column (a .k) (a .v) (c .before .before .before .before .before .before .before .if1 .left) (c .before .before .before .before .before .before .if3 .left) (c .before .before .before .before .before .if4 .left) (c .before .before .before .before .if5 .left) in
-    rw (text-head (a .mark) (a .k) (a .v) (omega (arith, c .before .before .before .before .before .before .before .if1 .left)), w .0) (c .before .before .put-whole .ensures)
+    let at-if4 = c .before .before .before .before .before in
+    let at-if3 = at-if4 .before in
+    let at-if1 = at-if3 .before in
+    let start = at-if1 .before .before in
+    let a = start .args in
+    let w = whole-column (a .k) (a .v) (at-if1 .if1 .left) (at-if3 .if3 .left) (at-if4 .if4 .left) (c .before .before .before .before .if5 .left) in
+    rw (text-head (a .mark) (a .k) (a .v) (omega (arith, at-if1 .if1 .left)), w .0) (c .before .before .put-whole .ensures)
 
 pub put-cell-spec : {M : Type 1} → statement M
 put-cell-spec =

@@ -12,10 +12,13 @@ returns c = rw (eq-eqb (c .before .before .before .before .before .before .args 
 
 returns-2 : tie.Need-returns-2
 returns-2 c =
-    let a = c .before .before .before .before .before .before .before .before .before .before .args in
-    let p = c .before .before .before .before .before .before .before .before .before .before .pre in
-    rw (ne-eqb (a .k) 0 (c .before .before .before .before .before .before .before .before .if1 .left))
-    (wrote-then (omega (arith, p .1, text-most (a .mark) (a .k) (a .v) (p .0))) (c .before .before .before .before .before .before .put-byte .ensures) (c .before .before .put-cell2 .ensures))
+    let at-put-byte = c .before .before .before .before .before .before in
+    let at-if1 = at-put-byte .before .before in
+    let start = at-if1 .before .before in
+    let a = start .args in
+    let p = start .pre in
+    rw (ne-eqb (a .k) 0 (at-if1 .if1 .left))
+    (wrote-then (omega (arith, p .1, text-most (a .mark) (a .k) (a .v) (p .0))) (at-put-byte .put-byte .ensures) (c .before .before .put-cell2 .ensures))
 
 pub put-field-spec : {M : Type 1} → statement M
 put-field-spec =

@@ -3,6 +3,7 @@ use mathlib.Core.Path.{sym}
 use native.Mathlib.Omega.{arith}
 use lib.Seq.{length-take-le}
 use borrow.Author.Needs.{needs}
+use Rattle.room.proofs.Writing.{wrote-leaves}
 use Rattle.register.proofs.write.put_front.Statement.{statement}
 use Rattle.register.proofs.write.put_front.Tie as tie
 
@@ -13,7 +14,7 @@ put-text-requires : tie.Need-put-text-requires
 put-text-requires c κs = rw (length-take-le (c .before .before .before .before .args .n) (c .before .before .before .before .args .text .now) (c .before .before .before .before .pre .0)) (omega (arith, c .before .before .before .before .pre .1))
 
 returns : tie.Need-returns
-returns c = c .before .before .put-text .ensures .bytes
+returns c = wrote-leaves (c .before .before .put-text .ensures)
 
 pub put-front-spec : {M : Type 1} → statement M
 put-front-spec =

@@ -8,8 +8,10 @@ use Rattle.text.specs.Field.{joinedBy}
 use Rattle.text.specs.Index.{listing}
 use Rattle.room.specs.Room.{Wrote}
 use Rattle.room.proofs.Laws.{wrote-then, wrote-none}
-use Rattle.register.specs.Cell.{cellText, topOf}
-use Rattle.register.specs.Write.{commaAt, textAt, showLine}
+use Rattle.register.specs.Cell.{cellText}
+use Rattle.register.specs.InnerCell.{topOf}
+use Rattle.register.specs.Write.{textAt, showLine}
+use Rattle.register.specs.InnerCell.{commaAt}
 use Rattle.register.proofs.Columns.{text-most}
 use Rattle.register.proofs.Writes.{joined-more, comma-most}
 use borrow.Author.Needs.{needs}
@@ -39,11 +41,14 @@ put-field-requires c κs =
 
 loop-again : tie.Need-loop-again Inv-loop μ-loop
 loop-again c =
-    let a = c .before .before .before .before .before .before .before .before .before .args in
-    let l = c .before .before .before .before .before .before .loop in
+    let at-loop-test = c .before .before .before .before .before in
+    let at-loop = at-loop-test .before in
+    let start = at-loop .before .before .before in
+    let a = start .args in
+    let l = at-loop .loop in
     let p = c .before .before .put-field in
     let v = c .before .before .before .before .value-at in
-    let few = c .before .before .before .before .before .before .before .before .before .pre .0 .few in
+    let few = start .pre .0 .few in
     let more = joined-more (textAt (a .f) (a .levels .now)) (l .k) in
     let most = text-most (a .f .computed) (l .k) (v .result) (below (c .before .before .before .before)) in
     let comma = comma-most (l .k) in
@@ -51,9 +56,9 @@ loop-again c =
     let text = joinedBy 44 (listing (textAt (a .f) (a .levels .now)) (l .k)) in
     let here = l .inv .0 .place in
     let all = length-append text (commaAt (l .k) ++ cellText (a .f .computed) (l .k) (v .result)) in (
-      rw (more, ← v .ensures) (wrote-then (omega (arith, l .inv .1, l .inv .3, c .before .before .before .before .before .before .before .before .before .pre .1, c .before .before .before .before .before .loop-test .taken)) (l .inv .0) (p .ensures)),
+      rw (more, ← v .ensures) (wrote-then (omega (arith, l .inv .1, l .inv .3, start .pre .1, at-loop-test .loop-test .taken)) (l .inv .0) (p .ensures)),
       omega (arith, p .ensures .place, l .inv .1),
-      omega (arith, c .before .before .before .before .before .loop-test .taken),
+      omega (arith, at-loop-test .loop-test .taken),
       p .kept .0 ∙ l .inv .3,
     )
 

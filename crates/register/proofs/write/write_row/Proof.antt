@@ -4,7 +4,7 @@ use mathlib.Core.List.{[], _∷_}
 use native.Mathlib.Omega.{arith}
 use borrow.Author.Tests.{le-leb, lt-leb, eq-eqb, ne-eqb}
 use lib.ListN.{length}
-use Rattle.room.specs.Room.{put}
+use Rattle.room.specs.Room.{front}
 use Rattle.room.proofs.Laws.{wrote-front, wrote-fits}
 use Rattle.register.specs.Write.{showRow, writeFault, writeRefusal}
 use Rattle.register.proofs.Writes.{fault-fine, fine-writable}
@@ -43,15 +43,19 @@ cast-t17 c = omega (arith, c .before .before .before .before .before .before .be
 returns-3 : tie.Need-returns-3
 unfolding writeRefusal
 returns-3 c =
-    let a = c .before .before .before .before .before .before .before .before .before .before .before .before .before .args in
-    let p = c .before .before .before .before .before .before .before .put-row in
-    let none = eq-eqb _ 0 (fine (c .before .before .before .before .before .before .before .before .before)) in
+    let at-if2 = c .before .before .before .before .before in
+    let at-put-row = at-if2 .before .before in
+    let at-1 = at-put-row .before .before in
+    let start = at-1 .before .before .before .before in
+    let a = start .args in
+    let p = at-put-row .put-row in
+    let none = eq-eqb _ 0 (fine at-1) in
     let n : p .result ≡ length (showRow (a .f) (a .levels .now)) = omega (arith, p .ensures .0 .place) in
-    let room = le-leb (length (showRow (a .f) (a .levels .now))) (length (a .out .now)) (omega (arith, c .before .before .before .before .before .if2 .left)) in
+    let room = le-leb (length (showRow (a .f) (a .levels .now))) (length (a .out .now)) (omega (arith, at-if2 .if2 .left)) in
     record {
       number = rw (none, room);
       values = rw (none, room) (ap (λ k. k ∷ []) n);
-      bytes = rw (none, room) (c .before .before .put-front .ensures ∙ ap (put (a .out .now) 0) (wrote-front (p .ensures .0)));
+      bytes = rw (none, room) (c .before .before .put-front .ensures ∙ ap (λ t. front t (a .out .now)) (wrote-front (p .ensures .0)));
     }
 
 pub write-row-spec : {M : Type 1} → statement M

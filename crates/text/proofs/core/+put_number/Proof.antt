@@ -103,10 +103,14 @@ put-number-returns-2 : (t : ℕ) → put-number-lts.Need-returns-2 (
   put-number-below t,
   put-number.Post,
 ) (put-number-at t) put-number.Post
-put-number-returns-2 t c = let a = c .before .before .before .before .before .before .before .before .before .before .args in
-    let p = c .before .before .before .before .before .before .before .before .before .before .pre .1 in
-    let m = shown-tenth 18 (a .n) (c .before .before .before .before .before .before .before .before .if1 .left) (small (a .n) (omega arith)) in
-    rw m (wrote-then (rw m at p) (c .before .before .before .before .before .before .put-number .ensures) (c .before .before .put-byte2 .ensures))
+put-number-returns-2 t c =
+    let at-put-number = c .before .before .before .before .before .before in
+    let at-if1 = at-put-number .before .before in
+    let start = at-if1 .before .before in
+    let a = start .args in
+    let p = start .pre .1 in
+    let m = shown-tenth 18 (a .n) (at-if1 .if1 .left) (small (a .n) (omega arith)) in
+    rw m (wrote-then (rw m at p) (at-put-number .put-number .ensures) (c .before .before .put-byte2 .ensures))
 
 pub +put-number-spec : {M : Type 1} → statement M
 +put-number-spec = close μ-put-number λ t. put-number-lts.spec (

@@ -14,30 +14,35 @@ room : (c : tie.Start)
     → c .args .at + length (showMetres (c .args .spot .x)) + 1 + length (showMetres (c .args .spot .y)) ≤ length (c .args .out .now)
 room c = omega (arith, c .pre, length-append (showMetres (c .args .spot .x)) (32 ∷ showMetres (c .args .spot .y)))
 
-put-metres-requires : tie.Need-put-metres-requires
-put-metres-requires c κs = omega (arith, room (c .before .before))
+put-decimal-requires : tie.Need-put-decimal-requires
+put-decimal-requires c κs = (omega arith, omega arith, omega (arith, room (c .before .before)))
 
 put-byte-requires : tie.Need-put-byte-requires
-put-byte-requires c κs = omega (arith, room (c .before .before .before .before .before .before), c .before .before .before .put-metres .ensures .place, c .before .before .before .put-metres .kept .0)
+put-byte-requires c κs =
+    let east = c .before .before .before .put-decimal in
+    omega (arith, room (c .before .before .before .before .before .before), east .ensures .place, east .kept .0)
 
-put-metres-requires-2 : tie.Need-put-metres-requires-2
-put-metres-requires-2 c κs =
-    let at-put-byte = c .before .before .before in
-    let at-put-metres = at-put-byte .before .before .before .before in
-    let start = at-put-metres .before .before .before in
-    omega (arith, room start, at-put-metres .put-metres .ensures .place, at-put-metres .put-metres .kept .0, at-put-byte .put-byte .ensures .place, at-put-byte .put-byte .kept .0)
+put-decimal-requires-2 : tie.Need-put-decimal-requires-2
+put-decimal-requires-2 c κs =
+    let space = c .before .before .before .put-byte in
+    let after-east = c .before .before .before .before .before .before .before in
+    let east = after-east .put-decimal in
+    let start = after-east .before .before .before in
+    (omega arith, omega arith, omega (arith, room start, east .ensures .place, east .kept .0, space .ensures .place, space .kept .0))
+
+same-length : tie.Need-same-length
+same-length c = search needs
 
 returns : tie.Need-returns
 returns c =
-    let at-put-byte = c .before .before .before .before .before .before in
-    let at-put-metres = at-put-byte .before .before .before .before in
-    let start = at-put-metres .before .before .before in
-    let east = at-put-metres .put-metres in
+    let after-space = c .before .before .before .before .before .before in
+    let after-east = after-space .before .before .before .before in
+    let east = after-east .put-decimal in
+    let start = after-east .before .before .before in
     wrote-then (start .pre) (east .ensures)
-    (wrote-then (omega (arith, room start, east .ensures .place, east .kept .0)) (at-put-byte .put-byte .ensures)
-    (c .before .before .put-metres2 .ensures))
+    (wrote-then (omega (arith, room start, east .ensures .place, east .kept .0)) (after-space .put-byte .ensures) (c .before .before .put-decimal2 .ensures))
 
 pub put-spot-spec : {M : Type 1} → statement M
 put-spot-spec =
     tie.close
-    (tie.spec put-metres-requires put-byte-requires put-metres-requires-2 (λ c. search needs) returns)
+    (tie.spec put-decimal-requires put-byte-requires put-decimal-requires-2 same-length returns)

@@ -1,12 +1,12 @@
--- `grid_cases::numbers` meets its contract. Assumes nothing.
+-- `grid_cases::show::numbers` meets its contract. Assumes nothing.
 use Prim.Native.Nat.{_-_, _≤_}
 use borrow.Author.Needs.{needs}
 use lib.ListN.{length}
-use Rattle.grid_cases.proofs.numbers.Statement.{statement}
-use Rattle.grid_cases.proofs.numbers.Tie as tie
-use Rattle.grid_cases.proofs.numbers.Reads as reads
-use Rattle.grid_cases.proofs.numbers.Lts as lts
-use Rattle.grid_cases.proofs.wide.Reads as wide-reads
+use Rattle.grid_cases.proofs.show.numbers.Statement.{statement}
+use Rattle.grid_cases.proofs.show.numbers.Tie as tie
+use Rattle.grid_cases.proofs.show.numbers.Reads as reads
+use Rattle.grid_cases.proofs.show.numbers.Lts as lts
+use Rattle.grid_cases.proofs.show.wide.Reads as wide-reads
 use Rattle.io.proofs.print_decimal.Reads as print-decimal-reads
 use Rattle.io.proofs.write_all.Reads as write-all-reads
 

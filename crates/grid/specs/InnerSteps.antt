@@ -1,4 +1,5 @@
--- What the parts of reading answer, each over the rest of a text or of a line. No promise of a call uses these. Assumes nothing.
+-- Inner steps: no promise uses them. What the parts of reading answer, each over the rest of a text or of a line, and
+-- what those of writing ask. Assumes nothing.
 use Prim.Native.Nat.{ℕ, _+_, _-_, _≤_, _<_}
 use mathlib.Core.Path.{_≡_}
 use mathlib.Core.List.{List, [], _∷_, _++_, map}
@@ -7,13 +8,15 @@ use lib.ListN.{length, getD, take, drop}
 use lib.Dec.{leb}
 use Rattle.text.specs.Number.{showLevel}
 use Rattle.text.specs.Line.{linesOf}
+use Rattle.text.specs.Spelled.{crlf}
 use Rattle.text.specs.declared.number.Number.the-variants as number
 use Rattle.refusal.specs.Refuse.{refuse}
 use Rattle.network.specs.Limits.{maxNetworkLevel, maxOrigin}
 use Rattle.network.specs.Refusals.{sided, placed}
 use Rattle.network.specs.declared.Frame.{Frame}
 use Rattle.grid.specs.Row.{all, valuesOf, given, isValue, isRow, hasValues, levelIn}
-use Rattle.grid.specs.File.{ncols, nrows, xllcenter, yllcenter, cellsize, unnamed, numberAfter, names, namesWell, spelledIn, headOn, frameOf, noDataOf, rowsOf, firstOff, faultLine, rowsFit}
+use Rattle.grid.specs.File.{ncols, nrows, xllcenter, yllcenter, cellsize, unnamed, numberAfter, names, namesWell}
+use Rattle.grid.specs.File.{spelledIn, headOn, frameOf, noDataOf, rowsOf, firstOff, faultLine, rowsFit}
 use Rattle.grid.specs.Write.{keyLine}
 use Rattle.grid.specs.declared.head.Line.{Line}
 use Rattle.grid.specs.declared.head.Keyed.{Keyed}
@@ -48,13 +51,15 @@ pub record LineAt (s : List ℕ) (at : ℕ) (l : Line) : Type 0 where
   pub passed : Passed s at (l .next)
 
 -- the number of the header line at `at`
-abbrev pub keyRead : List ℕ → ℕ → List ℕ → Keyed → Type 0
+abbrev pub keyRead : (s : List ℕ) (at : ℕ) (key : List ℕ) → Keyed → Type 0
 keyRead s at key (keyed.Got n next) = (numberAfter key (lineFrom s at) ≡ number.Got n) × Passed s at next
 keyRead s at key keyed.Off = numberAfter key (lineFrom s at) ≡ number.Off
 
 -- the five header lines
 abbrev pub headRead : List ℕ → Head → Type 0
-headRead s (head.Got f at) = (firstOff 1 (headOn (linesOf s)) ≡ 0) × (frameOf (linesOf s) ≡ f) × (at ≤ length s) × (linesAt s at ≡ drop 5 (linesOf s))
+headRead s (head.Got f at) =
+    (firstOff 1 (headOn (linesOf s)) ≡ 0) × (frameOf (linesOf s) ≡ f) × (at ≤ length s)
+    × (linesAt s at ≡ drop 5 (linesOf s))
 headRead s (head.Off n) = (firstOff 1 (headOn (linesOf s)) ≡ n) × (1 ≤ n)
 
 -- the line at `at` as one that may name the no-data value
@@ -79,11 +84,12 @@ unfoldable pub rowOf : List ℕ → List ℕ → Row
 rowOf nodata line = cond (isRow nodata line) (row.Values (length (valuesOf line)) (rowSound nodata line)) row.Off
 
 -- rows from `from` on, the first of which is line `first`
-abbrev pub rowsRead : List ℕ → ℕ → List ℕ → Frame → ℕ → File → Type 0
+abbrev pub rowsRead : (s : List ℕ) (from : ℕ) (nodata : List ℕ) (frame : Frame) (first : ℕ) → File → Type 0
 rowsRead s from nodata frame first (file.On f at fits sound) =
     (firstOff first (map (isRow nodata) (linesAt s from)) ≡ 0) × (f ≡ frame) × (at ≡ from)
     × (fits ≡ rowsFit frame (linesAt s from)) × (sound ≡ all (rowSound nodata) (linesAt s from))
-rowsRead s from nodata frame first (file.Off n) = (firstOff first (map (isRow nodata) (linesAt s from)) ≡ n) × (1 ≤ n)
+rowsRead s from nodata frame first (file.Off n) =
+    (firstOff first (map (isRow nodata) (linesAt s from)) ≡ n) × (1 ≤ n)
 
 -- what follows the five header lines, from `at` on
 abbrev pub bodyOn : List ℕ → ℕ → List Bool
@@ -98,7 +104,7 @@ bodyRows s at = cond (names (lineFrom s at)) (drop 1 (linesAt s at)) (linesAt s 
 abbrev pub bodyNoData : List ℕ → ℕ → List ℕ
 bodyNoData s at = cond (names (lineFrom s at)) (spelledIn (lineFrom s at)) unnamed
 
-abbrev pub bodyRead : List ℕ → ℕ → Frame → File → Type 0
+abbrev pub bodyRead : (s : List ℕ) (at : ℕ) (frame : Frame) → File → Type 0
 bodyRead s at frame (file.On f from fits sound) =
     (firstOff 6 (bodyOn s at) ≡ 0) × (f ≡ frame) × (from ≤ length s) × (linesAt s from ≡ bodyRows s at)
     × (fits ≡ rowsFit frame (bodyRows s at)) × (sound ≡ all (rowSound (bodyNoData s at)) (bodyRows s at))
@@ -122,7 +128,8 @@ pub record Rows (s : List ℕ) (from columns rows : ℕ) : Type 0 where
   pub number : length (linesAt s from) ≡ rows
   pub each : all (hasValues columns) (linesAt s from) ≡ true
 
--- the refusal of a text on its layout: 12 where its rows don't fit or its frame is out of range, then 13 for a value that isn't sound
+-- the refusal of a text on its layout: 12 where its rows don't fit or its frame is out of range, then 13 for a value
+-- that isn't sound
 abbrev pub shapeRefusal : Frame → Bool → Bool → ℕ
 shapeRefusal f fits sound = refuse 12 (fits && sided f && placed f) (refuse 13 sound 0)
 
@@ -146,7 +153,7 @@ pub record Near (f : Frame) : Type 0 where
 
 -- a line with its end
 abbrev pub ended : List ℕ → List ℕ
-ended line = line ++ (13 ∷ 10 ∷ [])
+ended line = line ++ crlf
 
 -- the header lines in two parts
 abbrev pub sideLines : Frame → List (List ℕ)

@@ -1,4 +1,4 @@
--- `register::limits::judged_limits` meets its contract: each test settles one of `judgedLimits`'. Assumes nothing.
+-- `register::limits_csv::judged_limits` meets its contract: each test settles one of `judgedLimits`'. Assumes nothing.
 use mathlib.Core.Path.{_≡_, ap, _∙_}
 use native.Mathlib.Omega.{arith}
 use borrow.Author.Tests.{le-leb, lt-leb}
@@ -6,10 +6,10 @@ use lib.ListN.{getD}
 use Rattle.refusal.specs.Range.{allWithin}
 use Rattle.refusal.proofs.Laws.{passed, failed}
 use Rattle.register.specs.Row.{eightFrom}
-use Rattle.register.specs.Limits.{judgedLimits}
+use Rattle.register.specs.LimitsFile.{judgedLimits}
 use borrow.Author.Needs.{needs}
-use Rattle.register.proofs.limits.judged_limits.Statement.{statement}
-use Rattle.register.proofs.limits.judged_limits.Tie as tie
+use Rattle.register.proofs.limits_csv.judged_limits.Statement.{statement}
+use Rattle.register.proofs.limits_csv.judged_limits.Tie as tie
 
 returns : tie.Need-returns
 unfolding judgedLimits

@@ -1,4 +1,4 @@
--- `register::limits::read_limits` meets its contract: the first line, and what follows its CRLF. Assumes nothing.
+-- `register::limits_csv::read_limits` meets its contract: the first line, and what follows its CRLF. Assumes nothing.
 use Prim.Native.Nat.{_+_, _-_, _≤_}
 use mathlib.Core.Path.{_≡_, sym, ap, _∙_}
 use mathlib.Core.List.{[]}
@@ -9,12 +9,12 @@ use Rattle.text.specs.Line.{firstLine, linesOf}
 use Rattle.text.specs.declared.number.Number.the-variants.{Got}
 use Rattle.text.proofs.Lines.{line-take, line-length, line-none, lines-first, lines-next, lines-rest}
 use Rattle.register.specs.Header.{headerOf, limitsHeader}
-use Rattle.register.specs.Limits.{limitsOf, secondLimits}
-use Rattle.register.specs.declared.cell.Table.the-variants.{Limits}
+use Rattle.register.specs.LimitsFile.{limitsOf, secondLimits}
+use Rattle.register.specs.declared.cell.Table.the-variants.{LimitsFile}
 use Rattle.register.proofs.Rows.{header-range, cells-empty}
 use borrow.Author.Needs.{needs}
-use Rattle.register.proofs.limits.read_limits.Statement.{statement}
-use Rattle.register.proofs.limits.read_limits.Tie as tie
+use Rattle.register.proofs.limits_csv.read_limits.Statement.{statement}
+use Rattle.register.proofs.limits_csv.read_limits.Tie as tie
 
 -- where the first line ends
 end : (c : tie.After-line-end) → c .line-end .result ≡ length (firstLine (c .before .before .args .s .now))
@@ -63,11 +63,13 @@ second c =
 returns-2 : tie.Need-returns-2
 unfolding limitsOf secondLimits
 returns-2 c =
-    let s = c .before .before .before .before .before .before .before .before .before .args .s .now in
+    let at-line-end = c .before .before .before .before .before .before .before in
+    let start = at-line-end .before .before in
+    let s = start .args .s .now in
     let n = c .before .before .before .points .given .0 .0 in
-    let empty : firstLine (drop (c .before .before .before .before .before .before .before .line-end .result + 2) s) ≡ [] = line-none s (c .before .before .before .before .before .before .before .line-end .result + 2) (omega (arith, c .before .if1 .taken, within (c .before .before .before .before .before .before .before))) in
+    let empty : firstLine (drop (at-line-end .line-end .result + 2) s) ≡ [] = line-none s (at-line-end .line-end .result + 2) (omega (arith, c .before .if1 .taken, within at-line-end)) in
     c .refused-limits2 .ensures
-    ∙ rw (headed (c .before .before), second (c .before .before) .0 ∙ empty, cells-empty Limits (1 + n) (omega (arith, range (c .before .before) .0)))
+    ∙ rw (headed (c .before .before), second (c .before .before) .0 ∙ empty, cells-empty LimitsFile (1 + n) (omega (arith, range (c .before .before) .0)))
 
 second-limits-requires : tie.Need-second-limits-requires
 second-limits-requires c κs = (omega (arith, c .if1 .left, within (c .before .before .before .before .before .before)), range (c .before) .0, range (c .before) .1)

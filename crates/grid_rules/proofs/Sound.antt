@@ -1,0 +1,91 @@
+-- Frames in range, and values that are given: the tests that 12 and 13 go by. Assumes nothing.
+use Prim.Native.Nat.{ℕ, suc, _≤_, _<_}
+use mathlib.Core.Path.{_≡_, refl, sym, ap, _∙_}
+use mathlib.Core.List.{List, [], _∷_, _++_, map}
+use mathlib.Core.Bool.{true, _&&_, true≢false}
+use native.Mathlib.Omega.{arith}
+use borrow.Author.Tests.{leb-true, le-leb, not-true}
+use lib.Dec.{leb}
+use lib.ListN.{length, getD, length-map}
+use Rattle.refusal.specs.Range.{allWithin}
+use Rattle.text.specs.Field.{countOf, fieldOf}
+use Rattle.text.specs.Number.{levelOf, valueOf, showLevel}
+use Rattle.text.specs.Same.{sameText}
+use Rattle.text.proofs.Digits.{either}
+use Rattle.text.proofs.Shown.{level-back}
+use Rattle.network.specs.Limits.{leastSide, maxSide, leastSpacing, maxSpacing, maxOrigin}
+use Rattle.network.specs.Refusals.{between, sided, placed}
+use Rattle.network.specs.declared.Frame.{Frame}
+use Rattle.network.proofs.Refusals.{both, in-between}
+use Rattle.grid.specs.Row.{valuesOf, given, levelIn, rowLevels, levelsOf}
+use Rattle.grid.proofs.ReadLaws.{up-append}
+use Rattle.grid.proofs.Values.{same-equal, same-self}
+use Rattle.grid_rules.specs.Refused.{InRange}
+use Rattle.grid_rules.proofs.Places.{map-at, value-field, value-count}
+use Rattle.grid_rules.proofs.Ordered.{both-true}
+
+-- ---- 12
+
+pub range-on : (f : Frame) → (sided f && placed f) ≡ true → InRange f
+range-on f h =
+    let s = both (sided f) (placed f) h in
+    let p = both (between leastSide (f .columns) maxSide) (between leastSide (f .rows) maxSide) (s .0) in
+    let o = both (between leastSpacing (f .spacing) maxSpacing) (leb (f .west) maxOrigin && leb (f .south) maxOrigin) (s .1) in
+    let w = both (leb (f .west) maxOrigin) (leb (f .south) maxOrigin) (o .1) in
+    record {
+      columns = in-between leastSide (f .columns) maxSide (p .0);
+      rows = in-between leastSide (f .rows) maxSide (p .1);
+      spacing = in-between leastSpacing (f .spacing) maxSpacing (o .0);
+      west = leb-true (f .west) maxOrigin (w .0);
+      south = leb-true (f .south) maxOrigin (w .1);
+    }
+
+pub range-passes : (f : Frame) → InRange f → (sided f && placed f) ≡ true
+range-passes f r =
+    rw (
+      le-leb 2 (f .columns) (r .columns .0),
+      le-leb (f .columns) 256 (r .columns .1),
+      le-leb 2 (f .rows) (r .rows .0),
+      le-leb (f .rows) 256 (r .rows .1),
+      le-leb 1 (f .spacing) (r .spacing .0),
+      le-leb (f .spacing) 500 (r .spacing .1),
+      le-leb (f .west) 900000 (r .west),
+      le-leb (f .south) 900000 (r .south),
+    ) refl
+
+-- ---- 13
+
+within-from : (top : ℕ) (xs : List ℕ) → ((i : ℕ) → i < length xs → getD xs i 0 ≤ top) → allWithin top xs ≡ true
+unfolding allWithin
+within-from top [] h = refl
+within-from top (x ∷ xs) h = rw (le-leb x top (h 0 (omega arith))) (within-from top xs (λ i l. h (suc i) (omega arith)))
+
+within-append : (top : ℕ) (a b : List ℕ) → allWithin top a ≡ true → allWithin top b ≡ true → allWithin top (a ++ b) ≡ true
+within-append top a b p q = up-append top a b ∙ both-true (allWithin top a) (allWithin top b) p q
+
+pub levels-within : (top : ℕ) (rows : List (List ℕ)) → ((k : ℕ) → k < length rows → allWithin top (rowLevels (getD rows k [])) ≡ true)
+    → allWithin top (levelsOf rows) ≡ true
+unfolding levelsOf allWithin
+levels-within top [] h = refl
+levels-within top (row ∷ rows) h =
+    within-append top (levelsOf rows) (rowLevels row) (levels-within top rows (λ k l. h (suc k) (omega arith))) (h 0 (omega arith))
+
+pub row-within : (top : ℕ) (row : List ℕ) → ((c : ℕ) → c ≤ countOf 32 row → levelIn (fieldOf 32 c row) ≤ top) → allWithin top (rowLevels row) ≡ true
+unfolding rowLevels
+row-within top row h =
+    within-from top (map levelIn (valuesOf row))
+    (λ i l. let inside : i < length (valuesOf row) = omega (arith, length-map (valuesOf row) levelIn) in
+    let place : i ≤ countOf 32 row = omega (arith, value-count row) in
+    rw (map-at levelIn (valuesOf row) [] 0 i inside, value-field row i) (h i place))
+
+-- a level's text has that level
+pub level-of : (t : List ℕ) (n : ℕ) → n < 100000 → t ≡ showLevel n → levelIn t ≡ n
+level-of t n h e = ap valueOf (ap levelOf e ∙ level-back n h)
+
+pub given-is : (nodata t : List ℕ) → (t ≡ nodata → ⊥) → given nodata t ≡ true
+given-is nodata t other =
+    either (sameText t nodata) (λ yes. absurd (other (same-equal t nodata yes))) (λ off. rw off refl)
+
+pub given-other : (nodata t : List ℕ) → given nodata t ≡ true → t ≡ nodata → ⊥
+given-other nodata t g e =
+    true≢false (sym (ap (λ (s : List ℕ). sameText s nodata) e ∙ same-self nodata) ∙ not-true (sameText t nodata) g)
