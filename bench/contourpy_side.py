@@ -1,4 +1,6 @@
-"""Times the library's contours and contourpy's side by side on the same networks; prints lines of the benchmark's table.
+"""Times the library's contours and contourpy's side by side on the same networks.
+
+Prints lines of the benchmark's table.
 
 contourpy_side.py FOLDER: a folder with the networks smooth, noisy and checkerboard, 256 by 256 levels, one a line.
 """

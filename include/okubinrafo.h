@@ -51,7 +51,8 @@ extern "C" {
     const uint32_t *marks, size_t marks_len, const uint32_t *levels, size_t levels_len, uint32_t points
 
 /* type: 0 large, 1 small, 2 helicopter. kind: 0 start, 1 landing. time: second of the local day. mass: kg. */
-uint32_t okubinrafo_enter(OKUBINRAFO_BOOK, uint32_t identity, uint32_t type, uint32_t kind, uint32_t time, uint32_t mass);
+uint32_t okubinrafo_enter(OKUBINRAFO_BOOK, uint32_t identity, uint32_t type, uint32_t kind, uint32_t time,
+                          uint32_t mass);
 uint32_t okubinrafo_supply(OKUBINRAFO_BOOK, uint32_t identity, const uint32_t *given, size_t given_len);
 uint32_t okubinrafo_take_back(OKUBINRAFO_BOOK, uint32_t identity);
 uint32_t okubinrafo_withdraw(OKUBINRAFO_BOOK, uint32_t identity);
@@ -60,7 +61,8 @@ uint32_t okubinrafo_withdraw(OKUBINRAFO_BOOK, uint32_t identity);
  *   1 enter: identity, type, kind, time, mass.   2 supply: identity, how many levels follow, those levels.
  *   3 take back: identity.                       4 withdraw: identity.
  * The calls are made in order, each as the function above would make it; answers: one number a call, 0 or its refusal.
- * Refusals of the whole, before anything changes: 16 the numbers are off this layout, 9, 14 fewer answers than calls. */
+ * Refusals of the whole, before anything changes: 16 the numbers are off this layout, 9, 14 fewer answers than
+ * calls. */
 uint32_t okubinrafo_replay(OKUBINRAFO_BOOK, const uint32_t *journal, size_t journal_len,
                            uint32_t *answers, size_t answers_len);
 
@@ -109,6 +111,10 @@ uint32_t okubinrafo_read_network(const uint8_t *text, size_t text_len, uint32_t 
                                  uint32_t *levels, size_t levels_len);
 /* size: 1 number, the bytes written. */
 uint32_t okubinrafo_write_network(OKUBINRAFO_NETWORK, uint8_t *text, size_t text_len, uint32_t *size, size_t size_len);
+
+/* The sentence for a refusal's number, in English, ASCII, no line end, at most 120 bytes; size: 1 number, the bytes
+ * written. A number that is no refusal: 0 bytes. 14 last. */
+uint32_t okubinrafo_sentence(uint32_t refusal, uint8_t *text, size_t text_len, uint32_t *size, size_t size_len);
 
 #ifdef __cplusplus
 }

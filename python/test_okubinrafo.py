@@ -62,7 +62,7 @@ class Books(Case):
         full.enter(7, 0, 0, 0, 7000)
         self.refused(6, full.enter, 8, 0, 0, 0, 7000)
         self.assertIn("no unused row", str(self.refused(6, full.enter, 8, 0, 0, 0, 7000)))
-        self.assertIn("none is computed", self.refused(10, full.load, 0, 1).sentence)
+        self.assertIn("none of them has levels", self.refused(10, full.load, 0, 1).sentence)
 
     def test_calls_one_by_one(self):
         book = Book(3, 2)
@@ -80,6 +80,15 @@ class Books(Case):
                 Book(1, 1).withdraw(wrong)
             with self.assertRaises(ValueError):
                 Book(1, 1).supply(1, [wrong])
+
+    def test_sentences(self):
+        sentences = [okubinrafo.sentence(number) for number in range(1, 18)]
+        self.assertEqual(len({sentence for sentence in sentences if sentence}), 17)
+        self.assertEqual([okubinrafo.sentence(number) for number in (0, 18, 2**32 - 1)], ["", "", ""])
+        refused = self.refused(3, Book(1, 1).withdraw, 0)
+        self.assertEqual(refused.sentence, "the identity is not from 1 to 99,999")
+        self.assertEqual(str(refused), "refused (3): the identity is not from 1 to 99,999")
+        self.assertEqual(str(Refused(4, 17)), "refused (4, line 17): the identity already stands")
 
     def test_replay(self):
         book = Book(2, 1)

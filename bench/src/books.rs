@@ -4,25 +4,33 @@ use crate::inputs::{book, register, Book};
 use crate::library::Library;
 use crate::timing::{alone, beside, grows, line, pair, rate};
 use reference::book::Columns;
+use reference::calls::LOAD_NUMBERS;
 use reference::level::{table_a, table_b};
 
 #[rustfmt::skip]
 extern "C" {
     fn baseline_load(
-        identities: *const u32, groups: *const u32, marks: *const u32, levels: *const u32, rows: usize, points: u32, point: u32, days: u32,
-        table_a: *const u64, table_b: *const u64, answer: *mut u64,
+        identities: *const u32, groups: *const u32, marks: *const u32, levels: *const u32, rows: usize, points: u32,
+        point: u32, days: u32, table_a: *const u64, table_b: *const u64, answer: *mut u64,
     ) -> u32;
-    fn baseline_open(identities: *mut u32, groups: *mut u32, marks: *mut u32, levels: *mut u32, used: usize, points: usize, place: usize);
-    fn baseline_close(identities: *mut u32, groups: *mut u32, marks: *mut u32, levels: *mut u32, used: usize, points: usize, place: usize);
-    fn baseline_sound(identities: *const u32, groups: *const u32, marks: *const u32, levels: *const u32, rows: usize, points: u32) -> u32;
+    fn baseline_open(
+        identities: *mut u32, groups: *mut u32, marks: *mut u32, levels: *mut u32, used: usize, points: usize,
+        place: usize,
+    );
+    fn baseline_close(
+        identities: *mut u32, groups: *mut u32, marks: *mut u32, levels: *mut u32, used: usize, points: usize,
+        place: usize,
+    );
+    fn baseline_sound(
+        identities: *const u32, groups: *const u32, marks: *const u32, levels: *const u32, rows: usize, points: u32,
+    ) -> u32;
     fn baseline_commas(text: *const u8, length: usize) -> usize;
 }
 
 const POINTS: u32 = 8;
 const DAYS: u32 = 365;
-const LOAD_NUMBERS: usize = 39;
 const FEW_ROWS: usize = 1_000;
-const MOST_ROWS: usize = 50_000;
+const MAX_ROWS: usize = 50_000;
 const JOURNAL_PAIRS: usize = 50;
 
 /// Calls a function of the library with the arguments of a book and more; it must be accepted.
@@ -32,7 +40,10 @@ macro_rules! with_book {
         let Book { identities: i, groups: g, marks: m, levels: l, points } = &mut *$book;
         // SAFETY: every pointer is lent with its own length.
         let answer = unsafe {
-            $function(i.as_mut_ptr(), i.len(), g.as_mut_ptr(), g.len(), m.as_mut_ptr(), m.len(), l.as_mut_ptr(), l.len(), *points, $($argument),*)
+            $function(
+                i.as_mut_ptr(), i.len(), g.as_mut_ptr(), g.len(), m.as_mut_ptr(), m.len(), l.as_mut_ptr(), l.len(),
+                *points, $($argument),*
+            )
         };
         assert_eq!(answer, 0, "the call must be accepted");
     }};
@@ -59,7 +70,7 @@ fn c_loads(book: &Book) -> Vec<u64> {
 }
 
 pub fn loads(library: &Library) {
-    let mut own = book(MOST_ROWS, 0, POINTS);
+    let mut own = book(MAX_ROWS, 0, POINTS);
     let other = own.clone();
     assert_eq!(library_loads(library, &mut own), c_loads(&other), "both must give the same loads");
     let times = pair(|| library_loads(library, &mut own), || c_loads(&other));
@@ -87,7 +98,14 @@ impl Middle {
     fn replay(&mut self, library: &Library, pairs: usize) {
         let journal: Vec<u32> = (0..pairs).flat_map(|_| [1, self.identity, 0, 0, 0, 7_000, 4, self.identity]).collect();
         let mut answers = vec![0; 2 * pairs];
-        with_book!(library.replay, &mut self.book, journal.as_ptr(), journal.len(), answers.as_mut_ptr(), answers.len());
+        with_book!(
+            library.replay,
+            &mut self.book,
+            journal.as_ptr(),
+            journal.len(),
+            answers.as_mut_ptr(),
+            answers.len()
+        );
     }
 
     /// Only the bytes that both move, in C.
@@ -108,8 +126,16 @@ impl Middle {
         let Book { identities, groups, marks, levels, points } = &self.book;
         for _ in 0..2 {
             // SAFETY: the columns fit.
-            let sound =
-                unsafe { baseline_sound(identities.as_ptr(), groups.as_ptr(), marks.as_ptr(), levels.as_ptr(), identities.len(), *points) };
+            let sound = unsafe {
+                baseline_sound(
+                    identities.as_ptr(),
+                    groups.as_ptr(),
+                    marks.as_ptr(),
+                    levels.as_ptr(),
+                    identities.len(),
+                    *points,
+                )
+            };
             assert_eq!(sound, 1, "the book must be sound");
         }
     }
@@ -117,7 +143,7 @@ impl Middle {
 
 /// Enter and withdraw in the middle: call by call (each looks at the whole book) and in a journal (one look for all).
 pub fn shifts(library: &Library) {
-    let (mut own, mut other) = (Middle::new(MOST_ROWS), Middle::new(MOST_ROWS));
+    let (mut own, mut other) = (Middle::new(MAX_ROWS), Middle::new(MAX_ROWS));
     let times = pair(|| own.enter_and_withdraw(library), || other.move_bytes());
     beside("enter and withdraw in the middle of 50,000 rows, call by call", times, "memmove", None);
     let both = |middle: &mut Middle| {
@@ -178,7 +204,7 @@ pub fn load_grows(library: &Library) {
         let mut book = book(rows, 0, POINTS);
         (rows, alone(|| library_loads(library, &mut book)))
     };
-    grows("load at 8 points, a row", load(FEW_ROWS), load(MOST_ROWS));
+    grows("load at 8 points, a row", load(FEW_ROWS), load(MAX_ROWS));
 }
 
 pub fn shift_grows(library: &Library) {
@@ -186,10 +212,10 @@ pub fn shift_grows(library: &Library) {
         let mut middle = Middle::new(rows);
         (rows, alone(|| middle.enter_and_withdraw(library)))
     };
-    grows("enter and withdraw in the middle, a row", shift(FEW_ROWS), shift(MOST_ROWS));
+    grows("enter and withdraw in the middle, a row", shift(FEW_ROWS), shift(MAX_ROWS));
 }
 
 pub fn register_grows(library: &Library) {
     let register = |rows: usize| (rows, time_register(library, rows).0);
-    grows("a register with rising identities read and replayed, a row", register(FEW_ROWS), register(MOST_ROWS));
+    grows("a register with rising identities read and replayed, a row", register(FEW_ROWS), register(MAX_ROWS));
 }

@@ -27,7 +27,9 @@ pub fn book(rows: usize, free: usize, points: u32) -> Book {
         book.groups[row] = numbers.below(18);
         book.marks[row] = u32::from(numbers.below(4) > 0);
         if book.marks[row] == 1 {
-            book.levels[row * points as usize..][..points as usize].iter_mut().for_each(|level| *level = 4_000 + numbers.below(6_000));
+            book.levels[row * points as usize..][..points as usize]
+                .iter_mut()
+                .for_each(|level| *level = 4_000 + numbers.below(6_000));
         }
     }
     book
@@ -47,7 +49,8 @@ pub fn register(rows: u32, points: u32) -> Vec<u8> {
         );
         let blank = numbers.below(4) == 0;
         for _ in 0..points {
-            text += &if blank { ",".to_string() } else { format!(",{}.{:02}", 40 + numbers.below(60), numbers.below(100)) };
+            text +=
+                &if blank { ",".to_string() } else { format!(",{}.{:02}", 40 + numbers.below(60), numbers.below(100)) };
         }
         text += "\r\n";
     }
@@ -57,7 +60,8 @@ pub fn register(rows: u32, points: u32) -> Vec<u8> {
 /// The level of the contours measured.
 pub const LEVEL: u32 = 5_000;
 
-pub const NETWORKS: [(&str, fn(u32) -> Vec<u32>); 3] = [("smooth", smooth), ("noisy", noisy), ("checkerboard", checkerboard)];
+pub const NETWORKS: [(&str, fn(u32) -> Vec<u32>); 3] =
+    [("smooth", smooth), ("noisy", noisy), ("checkerboard", checkerboard)];
 
 /// Two hills, as around an airfield.
 fn smooth(side: u32) -> Vec<u32> {

@@ -56,7 +56,8 @@ impl Measured {
         // SAFETY: every pointer is lent with its own length.
         let answer = unsafe {
             (library.print_contours)(
-                levels.as_ptr(), levels.len(), side, side, SPACING, 0, 0, LEVEL, text.as_mut_ptr(), text.len(), size.as_mut_ptr(), size.len(),
+                levels.as_ptr(), levels.len(), side, side, SPACING, 0, 0, LEVEL,
+                text.as_mut_ptr(), text.len(), size.as_mut_ptr(), size.len(),
             )
         };
         assert_eq!(answer, 0, "the call must be accepted");
@@ -85,7 +86,13 @@ pub fn texts(library: &Library) {
         let bytes = own.print(library);
         let times = pair(|| own.print(library), || reference::wkt::print(&other, LEVEL));
         let beside = format!("Rust {}", rate(bytes, times.1));
-        line(&format!("text of contours, {name} ({bytes} bytes)"), &rate(bytes, times.0), &beside, times.0 / times.1, None);
+        line(
+            &format!("text of contours, {name} ({bytes} bytes)"),
+            &rate(bytes, times.0),
+            &beside,
+            times.0 / times.1,
+            None,
+        );
     }
 }
 

@@ -1,5 +1,5 @@
-//! Times side by side: both are run in turns, and the least processor time of each counts, so that other programs on the
-//! machine matter little.
+//! Times side by side: both are run in turns, and the least processor time of each counts, so that other programs on
+//! the machine matter little.
 
 use std::hint::black_box;
 use std::time::{Duration, Instant};
@@ -69,7 +69,8 @@ pub fn rate(bytes: usize, seconds: f64) -> String {
 
 /// A line of the first table.
 pub fn line(what: &str, own: &str, other: &str, ratio: f64, goal: Option<f64>) {
-    let goal = goal.map_or(String::new(), |goal| format!("≤ {goal}: {}", if ratio <= goal { "met" } else { "MISSED" }));
+    let verdict = |goal| if ratio <= goal { "met" } else { "MISSED" };
+    let goal = goal.map_or(String::new(), |goal| format!("≤ {goal}: {}", verdict(goal)));
     println!("| {what} | {own} | {other} | {ratio:.2} | {goal} |");
 }
 

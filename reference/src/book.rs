@@ -36,7 +36,13 @@ impl Columns<Vec<u32>> {
     /// An empty book.
     pub fn new(rows: usize, points: u32) -> Self {
         let zeros = || vec![0; rows];
-        Columns { identities: zeros(), groups: zeros(), marks: zeros(), levels: vec![0; rows * points as usize], points }
+        Columns {
+            identities: zeros(),
+            groups: zeros(),
+            marks: zeros(),
+            levels: vec![0; rows * points as usize],
+            points,
+        }
     }
 }
 
@@ -49,10 +55,11 @@ impl<C: AsRef<[u32]>> Columns<C> {
         ensure((1..=MAX_POINTS).contains(&self.points) && (1..=MAX_ROWS).contains(&rows), Refusal::Book)?;
         ensure(groups.len() == rows && marks.len() == rows && levels.len() == rows * points, Refusal::Book)?;
         let standing = identities.iter().position(|&identity| identity == 0).unwrap_or(rows);
-        let unused_is_zero = [&identities[standing..], &groups[standing..], &marks[standing..], &levels[standing * points..]]
-            .concat()
-            .iter()
-            .all(|&value| value == 0);
+        let unused_is_zero =
+            [&identities[standing..], &groups[standing..], &marks[standing..], &levels[standing * points..]]
+                .concat()
+                .iter()
+                .all(|&value| value == 0);
         let rising = identities[..standing].windows(2).all(|pair| pair[0] < pair[1]);
         ensure(unused_is_zero && rising, Refusal::Book)?;
         let movements = (0..standing).map(|row| {
@@ -218,7 +225,13 @@ mod tests {
 
     #[test]
     fn unsound_books_are_refused() {
-        let sound = Columns { identities: vec![3, 5, 0], groups: vec![17, 0, 0], marks: vec![1, 0, 0], levels: vec![9, 0, 0], points: 1 };
+        let sound = Columns {
+            identities: vec![3, 5, 0],
+            groups: vec![17, 0, 0],
+            marks: vec![1, 0, 0],
+            levels: vec![9, 0, 0],
+            points: 1,
+        };
         assert!(sound.read().is_ok());
         let spoil: [fn(&mut Columns<Vec<u32>>); 12] = [
             |c| c.points = 0,

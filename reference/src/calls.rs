@@ -9,6 +9,7 @@ use crate::mapping::{crossing as crossing_of, map_point as map_point_of};
 use crate::movement::Movement;
 use crate::network::{Frame, Network};
 use crate::register;
+use crate::sentence;
 use crate::wkt;
 use crate::{ensure, Answer, Refusal};
 
@@ -124,6 +125,10 @@ fn put_text(text: &mut [u8], size: &mut [u32], written: &str) -> Answer<()> {
     put(text, written.as_bytes());
     put(size, &[written.len() as u32]);
     Ok(())
+}
+
+pub fn sentence(refusal: u32, text: &mut [u8], size: &mut [u32]) -> u32 {
+    number(put_text(text, size, sentence::sentence(refusal)))
 }
 
 pub fn crossing(network: Network, level: u32, edge: u32, which: &mut [u32], fraction: &mut [f64]) -> u32 {

@@ -51,7 +51,8 @@ struct Tracer<'a> {
 pub fn contours(network: &Network, level: u32) -> Contours {
     let frame = network.frame;
     let inside = network.levels.iter().map(|&own| own >= level).collect();
-    let mut tracer = Tracer { network, level, inside, listed: vec![false; frame.edges() as usize], found: Contours::default() };
+    let mut tracer =
+        Tracer { network, level, inside, listed: vec![false; frame.edges() as usize], found: Contours::default() };
     // Open contours by the border edge where they enter; what is left is closed, by its lowest edge.
     border(&frame).for_each(|edge| tracer.trace_if_new(edge));
     all(&frame).for_each(|edge| tracer.trace_if_new(edge));
@@ -61,8 +62,10 @@ pub fn contours(network: &Network, level: u32) -> Contours {
 /// The edges in the order of their numbers.
 fn all(frame: &Frame) -> impl Iterator<Item = Edge> {
     let Frame { columns, rows, .. } = *frame;
-    let horizontal = (0..rows).flat_map(move |row| (0..columns - 1).map(move |column| Edge { along: Along::Horizontal, row, column }));
-    let vertical = (0..rows - 1).flat_map(move |row| (0..columns).map(move |column| Edge { along: Along::Vertical, row, column }));
+    let horizontal = (0..rows)
+        .flat_map(move |row| (0..columns - 1).map(move |column| Edge { along: Along::Horizontal, row, column }));
+    let vertical =
+        (0..rows - 1).flat_map(move |row| (0..columns).map(move |column| Edge { along: Along::Vertical, row, column }));
     horizontal.chain(vertical)
 }
 
@@ -196,7 +199,8 @@ mod tests {
         let found = contours(&network, 11);
         let mut listed = found.edges.clone();
         listed.sort_unstable();
-        let crossed: Vec<u32> = (0..frame.edges()).filter(|&edge| network.crossed(frame.edge(edge).unwrap(), 11).is_some()).collect();
+        let crossed: Vec<u32> =
+            (0..frame.edges()).filter(|&edge| network.crossed(frame.edge(edge).unwrap(), 11).is_some()).collect();
         assert_eq!(listed, crossed);
         assert!(found.closed.windows(2).all(|pair| pair[0] <= pair[1]));
         let starts: Vec<u32> = found.lines().filter(|line| line.1).map(|(edges, _)| edges[0]).collect();

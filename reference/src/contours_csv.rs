@@ -6,8 +6,8 @@ use crate::text::{level, spell_level};
 use crate::wkt;
 use crate::Refusal;
 
-/// What the program writes: a line of well-known text for each level. The network is judged first (17 with its line, 12,
-/// 13), and then every level (15; also where there is none).
+/// What the program writes: a line of well-known text for each level. The network is judged first (17 with its line,
+/// 12, 13), and then every level (15; also where there is none).
 pub fn contours_csv(text: &[u8], levels: &[&[u8]]) -> String {
     match draw(text, levels) {
         Ok(lines) => lines,
@@ -28,11 +28,13 @@ fn draw(text: &[u8], levels: &[&[u8]]) -> Result<String, (Refusal, usize)> {
 mod tests {
     use super::*;
 
-    const SADDLE: &str = "ncols 2\r\nnrows 2\r\nxllcenter 7\r\nyllcenter 900000\r\ncellsize 1\r\n0.00 0.16\r\n0.16 0.00\r\n";
+    const SADDLE: &str =
+        "ncols 2\r\nnrows 2\r\nxllcenter 7\r\nyllcenter 900000\r\ncellsize 1\r\n0.00 0.16\r\n0.16 0.00\r\n";
 
     #[test]
     fn a_line_for_each_level() {
-        let around_the_out_corners = "MULTILINESTRING ((7.938 900000.000, 8.000 900000.063), (7.063 900001.000, 7.000 900000.938))";
+        let around_the_out_corners =
+            "MULTILINESTRING ((7.938 900000.000, 8.000 900000.063), (7.063 900001.000, 7.000 900000.938))";
         let expected = format!("level;wkt\r\n0.17;MULTILINESTRING EMPTY\r\n0.01;{around_the_out_corners}\r\n");
         assert_eq!(contours_csv(SADDLE.as_bytes(), &[b"0.17", b"0.01"]), expected);
     }

@@ -35,7 +35,8 @@ fn spelled(text: &[u8]) -> Result<(Frame, Vec<Vec<Option<u32>>>), usize> {
 }
 
 fn spelled_frame(lines: &[&[u8]]) -> Result<Frame, usize> {
-    let header = |number: usize, key| lines.get(number - 1).and_then(|line| keyed(line, key)).and_then(whole).ok_or(number);
+    let header =
+        |number: usize, key| lines.get(number - 1).and_then(|line| keyed(line, key)).and_then(whole).ok_or(number);
     let (columns, rows) = (header(1, "ncols")?, header(2, "nrows")?);
     let (west, south) = (header(3, "xllcenter")?, header(4, "yllcenter")?);
     Ok(Frame { columns, rows, spacing: header(5, "cellsize")?, west, south })
@@ -68,7 +69,8 @@ fn row(line: &[u8], no_data: &[u8]) -> Option<Vec<Option<u32>>> {
 /// The network's text; the network is in range.
 pub fn write(network: &Network) -> String {
     let Frame { columns, rows, spacing, west, south } = network.frame;
-    let mut text = format!("ncols {columns}\r\nnrows {rows}\r\nxllcenter {west}\r\nyllcenter {south}\r\ncellsize {spacing}\r\n");
+    let mut text =
+        format!("ncols {columns}\r\nnrows {rows}\r\nxllcenter {west}\r\nyllcenter {south}\r\ncellsize {spacing}\r\n");
     for row in network.levels.chunks(columns as usize).rev() {
         let values: Vec<String> = row.iter().map(|&level| spell_level(level)).collect();
         write!(text, "{}\r\n", values.join(" ")).expect("a string takes all text");
@@ -114,9 +116,15 @@ mod tests {
         ] {
             assert_eq!(read_values(wrong), Err(Refusal::Grid), "{wrong:?}");
         }
-        for wrong in ["", "ncols 2\r\nnrows 2\r\nxllcenter 5\r\nyllcenter 6", "NCOLS 2", "ncols  2", "ncols 02", "ncols -2"] {
+        for wrong in
+            ["", "ncols 2\r\nnrows 2\r\nxllcenter 5\r\nyllcenter 6", "NCOLS 2", "ncols  2", "ncols 02", "ncols -2"]
+        {
             let text = HEAD.replacen("ncols 2", wrong, 1);
-            assert_eq!(read(if wrong.len() > 20 { wrong.as_bytes() } else { text.as_bytes() }), Err(Refusal::Grid), "{wrong:?}");
+            assert_eq!(
+                read(if wrong.len() > 20 { wrong.as_bytes() } else { text.as_bytes() }),
+                Err(Refusal::Grid),
+                "{wrong:?}"
+            );
         }
         assert_eq!(read(b""), Err(Refusal::Grid));
     }
@@ -141,8 +149,14 @@ mod tests {
 
     #[test]
     fn off_the_size() {
-        for wrong in ["", "1.00 2.00", "1.00 2.00\r\n3.00", "1.00 2.00\r\n3.00 4.00 5.00", "1.00 2.00\r\n3.00 4.00\r\n5.00 6.00", "999.99"]
-        {
+        for wrong in [
+            "",
+            "1.00 2.00",
+            "1.00 2.00\r\n3.00",
+            "1.00 2.00\r\n3.00 4.00 5.00",
+            "1.00 2.00\r\n3.00 4.00\r\n5.00 6.00",
+            "999.99",
+        ] {
             assert_eq!(read_values(wrong), Err(Refusal::Network), "{wrong:?}");
         }
         let spaced = format!("{HEAD}1.00 2.00\r\n3.00 4.00").replace("cellsize 100", "cellsize 0");

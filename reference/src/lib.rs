@@ -14,6 +14,7 @@ pub mod movement;
 pub mod network;
 pub mod register;
 pub mod report;
+pub mod sentence;
 pub mod text;
 pub mod wkt;
 
@@ -38,6 +39,29 @@ pub enum Refusal {
     Range = 15,
     Register = 16,
     Grid = 17,
+}
+
+impl Refusal {
+    /// All of them, in the order of their numbers.
+    pub const ALL: [Refusal; 17] = [
+        Refusal::Movement,
+        Refusal::TooLight,
+        Refusal::Identity,
+        Refusal::Stands,
+        Refusal::StandsNot,
+        Refusal::NoRow,
+        Refusal::Levels,
+        Refusal::NoLevels,
+        Refusal::Book,
+        Refusal::NoneComputed,
+        Refusal::Days,
+        Refusal::Network,
+        Refusal::NetworkLevel,
+        Refusal::Room,
+        Refusal::Range,
+        Refusal::Register,
+        Refusal::Grid,
+    ];
 }
 
 pub type Answer<T> = Result<T, Refusal>;

@@ -117,7 +117,9 @@ mod tests {
 
     #[test]
     fn refusals_in_the_documents_order() {
-        let missing = Columns { identities: vec![1], groups: vec![0], marks: vec![0], levels: vec![0], points: 1 }.read().unwrap();
+        let missing = Columns { identities: vec![1], groups: vec![0], marks: vec![0], levels: vec![0], points: 1 }
+            .read()
+            .unwrap();
         assert_eq!(load(&missing, 1, 0), Err(Refusal::Book));
         assert_eq!(load(&missing, 0, 0), Err(Refusal::Days));
         assert_eq!(load(&missing, 0, 367), Err(Refusal::Days));
@@ -136,7 +138,9 @@ mod tests {
 
     #[test]
     fn a_level_of_zero_is_computed() {
-        let zero = Columns { identities: vec![1], groups: vec![0], marks: vec![1], levels: vec![0], points: 1 }.read().unwrap();
+        let zero = Columns { identities: vec![1], groups: vec![0], marks: vec![1], levels: vec![0], points: 1 }
+            .read()
+            .unwrap();
         assert_eq!(load(&zero, 0, 1).unwrap().computed[0], 1);
         assert_eq!(load(&zero, 0, 1).unwrap().total, 1);
     }

@@ -53,7 +53,9 @@ pub fn map_point(network: &Network, level: u32, number: u32) -> (Crossing, MapPo
     let found = crossing(network, level, number);
     let frame = network.frame;
     let exact = |index: u32, origin: u32| f64::from(index * frame.spacing + origin);
-    let moving = |index: u32, fraction: f64, origin: u32| ((f64::from(index) + fraction) * f64::from(frame.spacing)) + f64::from(origin);
+    let moving = |index: u32, fraction: f64, origin: u32| {
+        ((f64::from(index) + fraction) * f64::from(frame.spacing)) + f64::from(origin)
+    };
     let place = match (found, frame.edge(number)) {
         (Crossing::Horizontal(fraction), Some(edge)) => {
             MapPoint { x: moving(edge.column, fraction, frame.west), y: exact(edge.row, frame.south) }

@@ -62,7 +62,8 @@ pub struct Movement {
 impl Movement {
     /// 1: a value outside its range, or small and too heavy for it.
     pub fn check(&self) -> Answer<()> {
-        let in_range = self.aircraft <= MAX_TYPE && self.kind <= MAX_KIND && self.time <= MAX_TIME && self.mass <= MAX_MASS;
+        let in_range =
+            self.aircraft <= MAX_TYPE && self.kind <= MAX_KIND && self.time <= MAX_TIME && self.mass <= MAX_MASS;
         let too_heavy = self.aircraft == SMALL && self.mass >= SMALL_MASS;
         ensure(in_range && !too_heavy, Refusal::Movement)
     }
@@ -93,7 +94,8 @@ mod tests {
     #[test]
     fn worked_periods() {
         use Period::*;
-        let worked = [(25_199, Night), (25_200, Day), (68_399, Day), (68_400, Evening), (82_799, Evening), (82_800, Night)];
+        let worked =
+            [(25_199, Night), (25_200, Day), (68_399, Day), (68_400, Evening), (82_799, Evening), (82_800, Night)];
         for (time, expected) in worked {
             assert_eq!(Period::at(time), expected, "second {time}");
         }
@@ -112,7 +114,9 @@ mod tests {
     #[test]
     fn ranges_end_where_the_document_says() {
         assert_eq!(movement(2, 1, 86_399, 1_000_000).check(), Ok(()));
-        for wrong in [movement(3, 0, 0, 0), movement(0, 2, 0, 0), movement(0, 0, 86_400, 0), movement(0, 0, 0, 1_000_001)] {
+        for wrong in
+            [movement(3, 0, 0, 0), movement(0, 2, 0, 0), movement(0, 0, 86_400, 0), movement(0, 0, 0, 1_000_001)]
+        {
             assert_eq!(wrong.check(), Err(Refusal::Movement), "{wrong:?}");
         }
         assert_eq!(check_identity(0), Err(Refusal::Identity));

@@ -58,7 +58,12 @@ fn spelled_row(line: &[u8], points: u32) -> Option<Row> {
     }
     let blank = levels.iter().all(|field| field.is_empty());
     let levels = if blank { None } else { Some(levels.iter().map(|field| level(field)).collect::<Option<_>>()?) };
-    let movement = Movement { aircraft: letter(aircraft, TYPES)?, kind: letter(kind, KINDS)?, time: time(at)?, mass: whole(mass)? };
+    let movement = Movement {
+        aircraft: letter(aircraft, TYPES)?,
+        kind: letter(kind, KINDS)?,
+        time: time(at)?,
+        mass: whole(mass)?,
+    };
     Some(Row { identity: whole(identity)?, movement, levels })
 }
 

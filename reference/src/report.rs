@@ -72,7 +72,8 @@ mod tests {
 
     #[test]
     fn the_documents_file() {
-        let rows = "1,G,70000,S,07:00:00,100.00\r\n2,G,70000,S,18:59:59,100.00\r\n3,G,70000,S,12:00:00,\r\n4,H,3000,L,23:00:00,\r\n";
+        let rows = "1,G,70000,S,07:00:00,100.00\r\n2,G,70000,S,18:59:59,100.00\r\n\
+                    3,G,70000,S,12:00:00,\r\n4,H,3000,L,23:00:00,\r\n";
         assert_eq!(with_rows(rows), "point,level,limit,verdict,computed,missing\r\n1,56.66,56.65,over,2,2\r\n");
     }
 
@@ -96,7 +97,9 @@ mod tests {
         assert_eq!(with_rows("7,G,70000,S,07:00:00,120.01"), "refused,7,2\r\n");
         assert_eq!(with_rows("0,K,6000,S,07:00:00,"), "refused,1,2\r\n");
         let full: String = (1..=2_001)
-            .map(|identity| format!("{identity},G,70000,S,07:00:00,{}\r\n", if identity > 2_000 { "999.99" } else { "1.00" }))
+            .map(|identity| {
+                format!("{identity},G,70000,S,07:00:00,{}\r\n", if identity > 2_000 { "999.99" } else { "1.00" })
+            })
             .collect();
         assert_eq!(with_rows(&full), "refused,6,2002\r\n");
     }

@@ -83,8 +83,24 @@ mod tests {
 
     #[test]
     fn levels() {
-        assert_eq!((level(b"0.00"), level(b"0.05"), level(b"120.00"), level(b"999.99")), (Some(0), Some(5), Some(12_000), Some(99_999)));
-        for wrong in [&b""[..], b".00", b"00.00", b"01.00", b"1.0", b"1.000", b"1000.00", b"1,00", b"1", b"-1.00", b"1.-1", b"1. 1"] {
+        assert_eq!(
+            (level(b"0.00"), level(b"0.05"), level(b"120.00"), level(b"999.99")),
+            (Some(0), Some(5), Some(12_000), Some(99_999))
+        );
+        for wrong in [
+            &b""[..],
+            b".00",
+            b"00.00",
+            b"01.00",
+            b"1.0",
+            b"1.000",
+            b"1000.00",
+            b"1,00",
+            b"1",
+            b"-1.00",
+            b"1.-1",
+            b"1. 1",
+        ] {
             assert_eq!(level(wrong), None, "{wrong:?}");
         }
         assert_eq!((spell_level(5), spell_level(12_000)), ("0.05".to_string(), "120.00".to_string()));

@@ -53,7 +53,8 @@ mod tests {
     #[test]
     fn the_documents_hill() {
         let network = Network { frame: FRAME, levels: &HILL };
-        let expected = "MULTILINESTRING ((50.000 100.000, 100.000 50.000, 150.000 100.000, 100.000 150.000, 50.000 100.000))";
+        let expected =
+            "MULTILINESTRING ((50.000 100.000, 100.000 50.000, 150.000 100.000, 100.000 150.000, 50.000 100.000))";
         assert_eq!(print(&network, 4500), expected);
         assert_eq!(print(&network, 4000), "MULTILINESTRING EMPTY");
     }
@@ -63,7 +64,8 @@ mod tests {
         // 1 m times 1/16 and 15/16: 62.5 mm goes up to 63, 937.5 mm to 938.
         let frame = Frame { columns: 2, rows: 2, spacing: 1, west: 7, south: 900_000 };
         let network = Network { frame, levels: &[16, 0, 0, 16] };
-        let around_the_out_corners = "MULTILINESTRING ((7.938 900000.000, 8.000 900000.063), (7.063 900001.000, 7.000 900000.938))";
+        let around_the_out_corners =
+            "MULTILINESTRING ((7.938 900000.000, 8.000 900000.063), (7.063 900001.000, 7.000 900000.938))";
         assert_eq!(print(&network, 1), around_the_out_corners);
         assert_eq!((nearest(1, 2), nearest(1, 3), nearest(2, 3)), (1, 0, 1));
     }

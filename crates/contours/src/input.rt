@@ -9,8 +9,9 @@ ghost use mathlib.Core.Path.{_≡_};
 ghost use mathlib.Core.Bool.{_&&_};
 ghost use Prim.Native.Nat.{_<_};
 ghost use lib.ListN.{length};
-ghost use Rattle.contours_steps.specs.Intake.{Turned, TextRead};
-ghost use Rattle.contours_steps.specs.Words.{Gathered, ArgumentTaken};
+ghost use Rattle.contours_steps.specs.Intake.{TextRead};
+ghost use Rattle.contours_steps.specs.Words.{Gathered};
+ghost use Rattle.contours_steps.specs.InnerIntake.{Turned, ArgumentTaken};
 
 // One read behind the first n bytes.
 fn read_on(text: &mut [u8], n: usize) -> Turn

@@ -6,9 +6,9 @@ mod input;
 mod print;
 mod say;
 
+use contours_steps::core::intake::COMPLETE;
 use contours_steps::core::intake::FAILED;
 use contours_steps::core::intake::Turn;
-use contours_steps::core::intake::WHOLE;
 use contours_steps::core::intake::line_begun;
 use contours_steps::core::intake::overlong_line;
 use contours_steps::words::Given;
@@ -21,7 +21,7 @@ ghost use Rattle.contours_steps.specs.Answer.{ReadWhole, ReadFailed, ReadFull};
 ghost use Rattle.contours_steps.specs.Intake.{TextRead};
 ghost use Rattle.contours_steps.specs.Sheet.{textRefusal, refusedAt, maxText};
 ghost use Rattle.contours_steps.specs.Words.{Gathered, maxContourLevels, givenRefusal};
-ghost use Rattle.contours_steps.specs.Drawing.{Stored};
+ghost use Rattle.contours_steps.specs.InnerDrawing.{Stored};
 
 // Room for any network that is not refused, and more: 65,536 values of up to 8 bytes, each with the space or line end
 // behind it, and the header.
@@ -44,7 +44,7 @@ fn answer(text: &[u8], read: Turn, asked: &[u32], given: Given)
 {
     let size = read.size;
     let state = read.state;
-    if state == WHOLE {
+    if state == COMPLETE {
         judged(&text[..size], read, asked, given);
         return;
     }

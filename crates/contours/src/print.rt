@@ -18,12 +18,13 @@ ghost use Rattle.wkt.specs.Parts.{Printable, linesFrom};
 ghost use Rattle.wkt.specs.Text.{textOf};
 ghost use Rattle.contours_steps.specs.Sheet.{lineStart, levelLine, sheetOf, refusedLine, lineBegun, overlongLine};
 ghost use Rattle.contours_steps.specs.Words.{Gathered};
-ghost use Rattle.contours_steps.specs.Drawing.{Accepted, Refused, Drawable};
+ghost use Rattle.contours_steps.specs.Drawing.{Accepted, Refused};
+ghost use Rattle.contours_steps.specs.InnerDrawing.{Drawable};
 ghost use Rattle.contours_steps.specs.Due.{Due};
 ghost use Rattle.contours_steps.specs.Answer.{ReadWhole, ReadFailed, ReadFull, Answered};
 
-// The one write of a part of the sheet, which is due past the `sent` bytes before it. The count goes on with it, so that
-// no part is due twice.
+// The one write of a part of the sheet, which is due past the `sent` bytes before it. The count goes on with it, so
+// that no part is due twice.
 fn written(levels: &[u32], frame: Frame, asked: &[u32], sent: &mut usize, part: &[u8])
     requires { ⌜ Drawable (now levels) frame (now asked) ⌝ }
     requires { ⌜ Due (sheetOf (now levels) frame (now asked)) (now sent) (now part) ⌝ }
@@ -90,7 +91,8 @@ fn start(levels: &[u32], frame: Frame, asked: &[u32], i: usize, sent: &mut usize
     requires { ⌜ Drawable (now levels) frame (now asked) ⌝ }
     requires { ⌜ i < length (now asked) ⌝ }
     requires { ⌜ Due (sheetOf (now levels) frame (now asked)) (now sent) (lineStart (getD (now asked) i 0)) ⌝ }
-    ensures { λ _. ⌜ now (sent .exit) ≡ now (sent .entry) + length (lineStart (getD (now (asked .entry)) i 0)) ⌝ }
+    ensures { λ _. ⌜ now (sent .exit) ≡ now (sent .entry)
+        + length (lineStart (getD (now (asked .entry)) i 0)) ⌝ }
 {
     let mut room = [0u8; 16];
     let n = put_start(&mut room, asked[i]);
@@ -101,7 +103,8 @@ fn start(levels: &[u32], frame: Frame, asked: &[u32], i: usize, sent: &mut usize
 fn contours(levels: &[u32], frame: Frame, asked: &[u32], v: u32, sent: &mut usize)
     requires { ⌜ Drawable (now levels) frame (now asked) ⌝ }
     requires { ⌜ Due (sheetOf (now levels) frame (now asked)) (now sent) (networkText (now levels) frame v) ⌝ }
-    ensures { λ _. ⌜ now (sent .exit) ≡ now (sent .entry) + length (networkText (now (levels .entry)) frame v) ⌝ }
+    ensures { λ _. ⌜ now (sent .exit) ≡ now (sent .entry)
+        + length (networkText (now (levels .entry)) frame v) ⌝ }
 {
     let mut edges = [0u32; MAX_EDGES];
     let mut counts = [0u32; MAX_EDGES];

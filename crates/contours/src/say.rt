@@ -1,28 +1,27 @@
 // What a person reads on standard error when something is refused.
 use libc::STDERR_FILENO;
+use sentence::MAX_SENTENCE;
 
-// The network is refused.
+// The network is refused: the line at fault is named where there is one.
 pub(crate) fn of_network(number: u32, line: u64) {
-    io::write_all(STDERR_FILENO, b"network");
     if number == 17 {
-        io::write_all(STDERR_FILENO, b", line ");
+        io::write_all(STDERR_FILENO, b"network, line ");
         io::print_decimal(STDERR_FILENO, line);
         io::write_all(
             STDERR_FILENO,
             b": the line is off its layout, or its line end is LF where CRLF is expected",
         );
-    } else if number == 12 {
-        io::write_all(
-            STDERR_FILENO,
-            b": size (2 to 256 a side), spacing (1 to 500 m), origin (0 to 900,000 m) or the count of values is wrong",
-        );
     } else {
-        io::write_all(
-            STDERR_FILENO,
-            b": a level is over 150.00, or is the no-data value",
-        );
+        in_general(number);
     }
     rule(number);
+}
+
+// The sentence of a refusal's number.
+fn in_general(number: u32) {
+    let mut room = [0u8; MAX_SENTENCE];
+    let n = sentence::put_sentence(&mut room, number);
+    io::write_all(STDERR_FILENO, &room[..n]);
 }
 
 // The network's bytes can't be read on.

@@ -8,7 +8,7 @@ use lib.ListN.{length, take}
 use lib.Seq.{take-length}
 use Rattle.contours_steps.specs.declared.core.intake.Turn.{Turn}
 use Rattle.contours_steps.specs.declared.words.Given.{Given}
-use Rattle.contours_steps.specs.Intake.{reading, whole, failed, TextRead}
+use Rattle.contours_steps.specs.Intake.{reading, complete, failed, TextRead}
 use Rattle.contours_steps.specs.Words.{Gathered}
 use Rattle.contours_steps.specs.Sheet.{refusedLine, lineBegun, maxText, overlongLine, overlongOf}
 use Rattle.contours_steps.specs.Drawing.{Refused}
@@ -22,10 +22,11 @@ module _ {t : Turn} {room : List ℕ} (r : TextRead t room) (long : length room 
   came e = record { room = room; long = long; read = r; front = refl; is = e }
 
   -- what neither ended nor failed fills the room
-  pub came-full : (t .state ≡ whole → ⊥) → (t .state ≡ failed → ⊥) → ReadFull t room
+  pub came-full : (t .state ≡ complete → ⊥) → (t .state ≡ failed → ⊥) → ReadFull t room
   came-full not-whole not-failed =
       let e : t .state ≡ reading = omega (arith, r .known) in
-      let all : room ≡ take (t .size) room = sym (take-length room) ∙ ap (λ (n : ℕ). take n room) (sym (r .full e)) in
+      let all : room ≡ take (t .size) room =
+      sym (take-length room) ∙ ap (λ (n : ℕ). take n room) (sym (r .full e)) in
       (record { room = room; long = long; read = r; front = all; is = e }, long)
 
 -- ---- what may then be written

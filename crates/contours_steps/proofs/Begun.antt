@@ -45,7 +45,8 @@ stream-line s t h =
     ∙ rw (first-stays s t h, drop-append-le (length (firstLine s) + 2) s t h) refl
 
 -- with no line end ahead the next byte stands in the first line
-pub unended : (s : List ℕ) → length s ≤ length (firstLine s) → linesOf (s ++ (0 ∷ [])) ≡ (s ++ (0 ∷ [])) ∷ []
+pub unended : (s : List ℕ) → length s ≤ length (firstLine s)
+    → linesOf (s ++ (0 ∷ [])) ≡ (s ++ (0 ∷ [])) ∷ []
 unfolding firstLine linesOf
 unended [] h = refl
 unended (c ∷ []) h = rw (and-false (eqb c 13)) refl
@@ -64,10 +65,19 @@ pub record Counting (s : List ℕ) (at line end : ℕ) : Type 0 where
   pub is : lineBegun s + 1 ≡ line + lineBegun (drop at s)
 
 pub counting-none : (s : List ℕ) (end : ℕ) → end ≡ 0 + length (firstLine (drop 0 s)) → Counting s 0 1 end
-counting-none s end e = record { within = omega arith; ended = e; few = omega arith; some = omega arith; is = omega arith }
+counting-none s end e =
+    record { within = omega arith; ended = e; few = omega arith; some = omega arith; is = omega arith }
 
-pub counting-room : {s : List ℕ} {at line end : ℕ} → Counting s at line end → end < length s → end + 2 ≤ length s
-counting-room {s} {at} {line} {end} k h = omega (arith, k .ended, k .within, length-drop at s, line-room (drop at s) (omega (arith, k .ended, length-drop at s)))
+pub counting-room : {s : List ℕ} {at line end : ℕ} → Counting s at line end → end < length s
+    → end + 2 ≤ length s
+counting-room {s} {at} {line} {end} k h =
+    omega (
+      arith,
+      k .ended,
+      k .within,
+      length-drop at s,
+      line-room (drop at s) (omega (arith, k .ended, length-drop at s)),
+    )
 
 pub counting-next : {s : List ℕ} {at line end : ℕ} (end′ : ℕ) → Counting s at line end → end < length s
     → end′ ≡ end + 2 + length (firstLine (drop (end + 2) s)) → Counting s (end + 2) (line + 1) end′
@@ -77,7 +87,8 @@ counting-next {s} {at} {line} {end} end′ k h e =
     let n = length (firstLine (drop at s)) in
     let q : at + (n + 2) ≡ end + 2 = omega (arith, k .ended) in
     let step : linesOf (drop at s ++ (0 ∷ [])) ≡ firstLine (drop at s) ∷ linesOf (drop (end + 2) s ++ (0 ∷ [])) =
-    rw (← q, ← drop-drop (n + 2) at s) (stream-line (drop at s) (0 ∷ []) (omega (arith, k .ended, length-drop at s))) in
+    rw (← q, ← drop-drop (n + 2) at s)
+    (stream-line (drop at s) (0 ∷ []) (omega (arith, k .ended, length-drop at s))) in
     record {
       within = room;
       ended = e;
@@ -86,7 +97,8 @@ counting-next {s} {at} {line} {end} end′ k h e =
       is = omega (arith, k .is, ap length step);
     }
 
-pub counting-end : {s : List ℕ} {at line end : ℕ} → Counting s at line end → length s ≤ end → line ≡ lineBegun s
+pub counting-end : {s : List ℕ} {at line end : ℕ} → Counting s at line end → length s ≤ end
+    → line ≡ lineBegun s
 unfolding lineBegun
 counting-end {s} {at} {line} {end} k h =
     omega (arith, k .is, ap length (unended (drop at s) (omega (arith, k .ended, k .within, length-drop at s))))

@@ -16,7 +16,8 @@ digit : (n : ℕ) → glyph (n % 10) ≡ 48 + n % 10
 digit n = rw (lt-ltb (n % 10) 10 (omega arith)) refl
 
 -- k digits that begin with none too many, in room for j
-as-shown : (k j n : ℕ) → k ≤ j → n < 10 ^ suc k → (0 < k → 10 ^ k ≤ n) → digits 10 (suc k) n ≡ shown (suc j) n
+as-shown : (k j n : ℕ) → k ≤ j → n < 10 ^ suc k → (0 < k → 10 ^ k ≤ n)
+    → digits 10 (suc k) n ≡ shown (suc j) n
 unfolding shown
 as-shown zero j n le most least =
     let small : n < 10 = omega (arith, pow-suc 10 0, pow-zero 10) in
@@ -26,7 +27,8 @@ as-shown (suc k) zero n le most least = absurd (omega arith)
 as-shown (suc k) (suc j) n le most least =
     let big : 10 ^ suc k ≤ n = least (omega arith) in
     let ten : 10 ≤ n = omega (arith, pow-suc 10 k, pow-least k) in
-    rw (digit n, le-ltb n 10 ten, as-shown k j (n / 10) (omega arith) (omega (arith, pow-suc 10 (suc k))) (λ some. omega (arith, pow-suc 10 k))) refl
+    rw
+    (digit n, le-ltb n 10 ten, as-shown k j (n / 10) (omega arith) (omega (arith, pow-suc 10 (suc k))) (λ some. omega (arith, pow-suc 10 k))) refl
   where
     pow-least : (i : ℕ) → 1 ≤ 10 ^ i
     pow-least zero = omega (arith, pow-zero 10)

@@ -13,7 +13,13 @@ due-whole whole = record { before = []; after = []; place = refl; is = sym (appe
 -- a part lies within the whole
 pub due-within : {whole part : List ℕ} {at : ℕ} → Due whole at part → at + length part ≤ length whole
 due-within {whole} {part} {at} d =
-    omega (arith, d .place, ap length (d .is), length-append (d .before) (part ++ d .after), length-append part (d .after))
+    omega (
+      arith,
+      d .place,
+      ap length (d .is),
+      length-append (d .before) (part ++ d .after),
+      length-append part (d .after),
+    )
 
 -- the front of a part is due, and then its rest
 pub due-front : {whole : List ℕ} {at : ℕ} (a b : List ℕ) → Due whole at (a ++ b) → Due whole at a

@@ -14,7 +14,8 @@ use Rattle.refusal.proofs.Laws.{and-left}
 use Rattle.grid.specs.Row.{all}
 use Rattle.contours_steps.proofs.Levels.{word-range}
 use Rattle.contours_steps.specs.declared.words.Given.{Given}
-use Rattle.contours_steps.specs.Words.{wordLevel, isContour, maxContourLevels, levelsIn, wordsRefusal, givenRefusal, WordTaken, Gathered}
+use Rattle.contours_steps.specs.Words.{wordLevel, isContour, maxContourLevels, levelsIn, wordsRefusal}
+use Rattle.contours_steps.specs.Words.{givenRefusal, WordTaken, Gathered}
 
 -- ---- a word's step
 
@@ -65,7 +66,8 @@ words-given {g} {asked} k = rw (k .count, k .fit) refl
 
 -- ---- words in their order
 
-all-snoc : (p : List ℕ → Bool) (ws : List (List ℕ)) (w : List ℕ) → all p (ws ++ (w ∷ [])) ≡ (all p ws && p w)
+all-snoc : (p : List ℕ → Bool) (ws : List (List ℕ)) (w : List ℕ)
+    → all p (ws ++ (w ∷ [])) ≡ (all p ws && p w)
 unfolding all
 all-snoc p [] w = last (p w)
   where
@@ -74,11 +76,13 @@ all-snoc p [] w = last (p w)
     last false = refl
 all-snoc p (x ∷ ws) w = first (p x) (all-snoc p ws w)
   where
-    first : (b : Bool) → all p (ws ++ (w ∷ [])) ≡ (all p ws && p w) → (b && all p (ws ++ (w ∷ []))) ≡ ((b && all p ws) && p w)
+    first : (b : Bool) → all p (ws ++ (w ∷ [])) ≡ (all p ws && p w)
+        → (b && all p (ws ++ (w ∷ []))) ≡ ((b && all p ws) && p w)
     first true e = e
     first false e = refl
 
-levels-snoc : (ws : List (List ℕ)) (w : List ℕ) → levelsIn (ws ++ (w ∷ [])) ≡ levelsIn ws ++ (wordLevel w ∷ [])
+levels-snoc : (ws : List (List ℕ)) (w : List ℕ)
+    → levelsIn (ws ++ (w ∷ [])) ≡ levelsIn ws ++ (wordLevel w ∷ [])
 levels-snoc [] w = refl
 levels-snoc (x ∷ ws) w = ap (λ (l : List ℕ). wordLevel x ∷ l) (levels-snoc ws w)
 
@@ -93,7 +97,8 @@ pub gathering-none : (asked : List ℕ) → Gathering asked true 1
 unfolding all
 gathering-none asked = record { words = []; count = refl; fits = refl; stored = λ _ _. refl }
 
-pub gathering-next : {asked asked′ word : List ℕ} {fit r both : Bool} {i : ℕ} → Gathering asked fit i → WordTaken asked (i - 1) word r asked′ → both ≡ (fit && r)
+pub gathering-next : {asked asked′ word : List ℕ} {fit r both : Bool} {i : ℕ} → Gathering asked fit i
+    → WordTaken asked (i - 1) word r asked′ → both ≡ (fit && r)
     → Gathering asked′ both (i + 1)
 gathering-next {asked} {asked′} {word} {fit} {r} {both} {i} k w e =
     let n = length-append (k .words) (word ∷ []) in
@@ -108,12 +113,18 @@ gathering-next {asked} {asked′} {word} {fit} {r} {both} {i} k w e =
     right true b t = t
     right false b t = let n : _≡_ {A = ℕ} 0 1 = cc in absurd (omega arith)
 
-    there : fit ≡ true → r ≡ true → length (k .words) < length asked′ → take (length (k .words ++ (word ∷ []))) asked′ ≡ levelsIn (k .words ++ (word ∷ []))
+    there : fit ≡ true → r ≡ true → length (k .words) < length asked′
+        → take (length (k .words ++ (word ∷ []))) asked′ ≡ levelsIn (k .words ++ (word ∷ []))
     there f t l =
-        let m : length (k .words ++ (word ∷ [])) ≡ suc (length (k .words)) = omega (arith, length-append (k .words) (word ∷ [])) in
+        let m : length (k .words ++ (word ∷ [])) ≡ suc (length (k .words)) =
+        omega (arith, length-append (k .words) (word ∷ [])) in
         let p : i - 1 ≡ length (k .words) = omega (arith, k .count) in
-        let s : asked′ ≡ set asked (length (k .words)) (wordLevel word) = rw p at (w .stored t (omega (arith, k .count, w .long))) in
-        rw (m, s, take-suc-set asked (length (k .words)) (wordLevel word) (omega (arith, w .long)), k .stored f (omega (arith, w .long)), levels-snoc (k .words) word) refl
+        let s : asked′ ≡ set asked (length (k .words)) (wordLevel word) =
+        rw p at (w .stored t (omega (arith, k .count, w .long))) in
+        rw
+        (m, s, take-suc-set asked (length (k .words)) (wordLevel word) (omega (arith, w .long)), k .stored f (omega (arith, w .long)), levels-snoc (k .words) word) refl
 
-pub gathered : {asked : List ℕ} {fit : Bool} {i : ℕ} (count : ℕ) → Gathering asked fit i → count + 1 ≡ i → Gathered (record { count = count; fit = fit }) asked
-gathered {asked} {fit} {i} count k e = record { words = k .words; count = omega (arith, k .count); fit = k .fits; stored = k .stored }
+pub gathered : {asked : List ℕ} {fit : Bool} {i : ℕ} (count : ℕ) → Gathering asked fit i → count + 1 ≡ i
+    → Gathered (record { count = count; fit = fit }) asked
+gathered {asked} {fit} {i} count k e =
+    record { words = k .words; count = omega (arith, k .count); fit = k .fits; stored = k .stored }

@@ -31,6 +31,7 @@ module _ (w : List ℕ) {x : Number} (is : x ≡ levelOf w) where
   word-off e = rw (← is, e) refl
 
 -- a word that is a contour's level is in its range
-pub word-range : (w : List ℕ) → isContour w ≡ true → (leastContour ≤ wordLevel w) × (wordLevel w ≤ maxContour)
+pub word-range : (w : List ℕ) → isContour w ≡ true
+    → (leastContour ≤ wordLevel w) × (wordLevel w ≤ maxContour)
 unfolding isContour
 word-range w h = in-between leastContour (wordLevel w) maxContour (and-right (isGot (levelOf w)) _ h)

@@ -24,13 +24,17 @@ module _ (levels : List ℕ) (f : Frame) (vs : List ℕ) where
   pub heading-due : Due (sheetOf levels f vs) 0 heading
   heading-due = due-front heading (levelLines levels f (drop 0 vs)) sheet-due
 
-  pub lines-due : (at : ℕ) → at ≡ 0 + length heading → Due (sheetOf levels f vs) at (levelLines levels f (drop 0 vs))
+  pub lines-due : (at : ℕ) → at ≡ 0 + length heading
+      → Due (sheetOf levels f vs) at (levelLines levels f (drop 0 vs))
   lines-due at e = rw e (due-rest heading (levelLines levels f (drop 0 vs)) sheet-due)
 
-  pub lines-long : (at : ℕ) → at ≡ 0 + length heading → at + length (levelLines levels f (drop 0 vs)) ≡ length (sheetOf levels f vs)
+  pub lines-long : (at : ℕ) → at ≡ 0 + length heading
+      → at + length (levelLines levels f (drop 0 vs)) ≡ length (sheetOf levels f vs)
   lines-long at e = omega (arith, ap length sheet-start, length-append heading (levelLines levels f (drop 0 vs)))
 
-  pub lines-more : (i : ℕ) → i < length vs → levelLines levels f (drop i vs) ≡ levelLine levels f (getD vs i 0) ++ levelLines levels f (drop (i + 1) vs)
+  pub lines-more : (i : ℕ) → i < length vs
+      → levelLines levels f (drop i vs) ≡ levelLine levels f (getD vs i 0) ++ levelLines levels f
+      (drop (i + 1) vs)
   unfolding levelLines
   lines-more i h = rw (add-one i, drop-cons vs i 0 h) refl
 

@@ -55,7 +55,8 @@ values-total (c ∷ s) =
     (λ yes. rw yes (omega (arith, values-total s)))
     (λ no. rw no (omega (arith, values-total s, onto-total 1 c (valuesOf s))))
 
-total-front : (ls : List (List ℕ)) (n : ℕ) → total 2 (drop n ls) ≤ length (getD ls n []) + 2 + total 2 (drop (suc n) ls)
+total-front : (ls : List (List ℕ)) (n : ℕ)
+    → total 2 (drop n ls) ≤ length (getD ls n []) + 2 + total 2 (drop (suc n) ls)
 unfolding total
 total-front [] zero = omega arith
 total-front [] (suc n) = omega arith
@@ -70,12 +71,15 @@ got-passed false n h = let z : _≡_ {A = ℕ} 0 1 = cc in absurd (omega arith)
 
 level-short : (t : List ℕ) → isGot (levelOf t) ≡ true → length t ≤ 6
 unfolding levelOf
-level-short t h = leb-true (length t) 6 (and-right (leb 4 (length t)) (leb (length t) 6) (got-passed (leb 4 (length t) && leb (length t) 6) (pointed t (length t - 3)) h))
+level-short t h =
+    leb-true (length t) 6
+    (and-right (leb 4 (length t)) (leb (length t) 6) (got-passed (leb 4 (length t) && leb (length t) 6) (pointed t (length t - 3)) h))
 
 whole-short : (t : List ℕ) → isGot (wholeOf t) ≡ true → length t ≤ 7
 unfolding wholeOf
 whole-short t h =
-    leb-true (length t) 7 (and-right (leb 1 (length t)) (leb (length t) 7) (and-left (leb 1 (length t) && leb (length t) 7) _ (got-passed _ (digitsOf 0 t) h)))
+    leb-true (length t) 7
+    (and-right (leb 1 (length t)) (leb (length t) 7) (and-left (leb 1 (length t) && leb (length t) 7) _ (got-passed _ (digitsOf 0 t) h)))
 
 one-of : (a b : Bool) → (a || b) ≡ true → {P : Type 0} → (a ≡ true → P) → (b ≡ true → P) → P
 one-of true b h p q = p refl
@@ -87,7 +91,8 @@ value-short nodata t few h =
     (λ l. omega (arith, level-short t l))
     (λ s. omega (arith, ap length (same-equal t nodata s)))
 
-values-short : (nodata : List ℕ) (vs : List (List ℕ)) → length nodata ≤ 8 → all (isValue nodata) vs ≡ true → total 1 vs ≤ 9 * length vs
+values-short : (nodata : List ℕ) (vs : List (List ℕ)) → length nodata ≤ 8 → all (isValue nodata) vs ≡ true
+    → total 1 vs ≤ 9 * length vs
 unfolding total
 values-short nodata [] few h = omega arith
 values-short nodata (v ∷ vs) few h =
@@ -98,7 +103,8 @@ values-short nodata (v ∷ vs) few h =
       values-short nodata vs few (and-right (isValue nodata v) (all (isValue nodata) vs) e),
     )
 
-row-short : (nodata line : List ℕ) → length nodata ≤ 8 → isRow nodata line ≡ true → length line + 1 ≤ 9 * length (valuesOf line)
+row-short : (nodata line : List ℕ) → length nodata ≤ 8 → isRow nodata line ≡ true
+    → length line + 1 ≤ 9 * length (valuesOf line)
 row-short nodata line few h = omega (arith, values-total line, values-short nodata (valuesOf line) few h)
 
 key-short : (key line : List ℕ) → isGot (numberAfter key line) ≡ true → length line ≤ length key + 7
@@ -121,31 +127,41 @@ spelling-short t h =
 
 named-short : (line : List ℕ) → namesWell line ≡ true → length (spelledIn line) ≤ 8
 unfolding namesWell
-named-short line h = spelling-short (spelledIn line) (and-right (eqb (getD line (length noDataWord) 0) 32) (isSpelling (spelledIn line)) h)
+named-short line h =
+    spelling-short (spelledIn line)
+    (and-right (eqb (getD line (length noDataWord) 0) 32) (isSpelling (spelledIn line)) h)
 
 -- ---- lines of which none is at fault
 
-off-split : (n : ℕ) (b : Bool) (bs : List Bool) → 1 ≤ n → firstOff n (b ∷ bs) ≡ 0 → (b ≡ true) × (firstOff (n + 1) bs ≡ 0)
+off-split : (n : ℕ) (b : Bool) (bs : List Bool) → 1 ≤ n → firstOff n (b ∷ bs) ≡ 0
+    → (b ≡ true) × (firstOff (n + 1) bs ≡ 0)
 unfolding firstOff
 off-split n true bs h e = (refl, e)
 off-split n false bs h e = absurd (omega arith)
 
-rows-total : (nodata : List ℕ) (columns n : ℕ) (rows : List (List ℕ)) → length nodata ≤ 8 → 1 ≤ n → firstOff n (map (isRow nodata) rows) ≡ 0
+rows-total : (nodata : List ℕ) (columns n : ℕ) (rows : List (List ℕ)) → length nodata ≤ 8 → 1 ≤ n
+    → firstOff n (map (isRow nodata) rows) ≡ 0
     → all (hasValues columns) rows ≡ true → total 2 rows ≤ length rows * (9 * columns + 1)
 unfolding total
 rows-total nodata columns n [] few one off fit = omega arith
 rows-total nodata columns n (row ∷ rows) few one off fit =
     let s = off-split n (isRow nodata row) (map (isRow nodata) rows) one off in
-    let f : (hasValues columns row && all (hasValues columns) rows) ≡ true = sym (all-cons (hasValues columns) row rows) ∙ fit in
-    let c : length (valuesOf row) ≡ columns = eqb-true _ _ (and-left (hasValues columns row) (all (hasValues columns) rows) f) in
+    let f : (hasValues columns row && all (hasValues columns) rows) ≡ true =
+    sym (all-cons (hasValues columns) row rows) ∙ fit in
+    let c : length (valuesOf row) ≡ columns =
+    eqb-true _ _ (and-left (hasValues columns row) (all (hasValues columns) rows) f) in
     let r : length row + 1 ≤ 9 * columns = rw c at (row-short nodata row few (s .0)) in
-    omega (arith, rows-total nodata columns (n + 1) rows few (omega arith) (s .1) (and-right (hasValues columns row) (all (hasValues columns) rows) f))
+    omega (
+      arith,
+      rows-total nodata columns (n + 1) rows few (omega arith) (s .1) (and-right (hasValues columns row) (all (hasValues columns) rows) f),
+    )
 
 module _ (ls : List (List ℕ)) (on : faultLine ls ≡ 0) (fit : rowsFit (frameOf ls) (rowsOf ls) ≡ true) (size : sided (frameOf ls) ≡ true) where
   rest : List Bool
   rest = namedOn ls ++ map (isRow (noDataOf ls)) (rowsOf ls)
 
-  head : (length (getD ls 0 []) ≤ 13) × (length (getD ls 1 []) ≤ 13) × (length (getD ls 2 []) ≤ 17) × (length (getD ls 3 []) ≤ 17) × (length (getD ls 4 []) ≤ 16)
+  head : (length (getD ls 0 []) ≤ 13) × (length (getD ls 1 []) ≤ 13) × (length (getD ls 2 []) ≤ 17)
+      × (length (getD ls 3 []) ≤ 17) × (length (getD ls 4 []) ≤ 16)
       × (firstOff 6 rest ≡ 0)
   unfolding faultLine rest
   head =
@@ -173,7 +189,8 @@ module _ (ls : List (List ℕ)) (on : faultLine ls ≡ 0) (fit : rowsFit (frameO
         in-between leastSide (f .rows) maxSide (and-right (between leastSide (f .columns) maxSide) (between leastSide (f .rows) maxSide) size) .1,
       )
 
-  body-total : (nodata : List ℕ) (n : ℕ) (rows : List (List ℕ)) → rowsOf ls ≡ rows → length nodata ≤ 8 → 1 ≤ n → firstOff n (map (isRow nodata) rows) ≡ 0 → total 2 rows ≤ 590080
+  body-total : (nodata : List ℕ) (n : ℕ) (rows : List (List ℕ)) → rowsOf ls ≡ rows → length nodata ≤ 8
+      → 1 ≤ n → firstOff n (map (isRow nodata) rows) ≡ 0 → total 2 rows ≤ 590080
   body-total nodata n rows is few one off =
       let t = rows-total nodata (frameOf ls .columns) n rows few one off (rw is at (fits .1)) in
       let r : length rows ≤ 256 = omega (arith, ap length is, fits .0, most .1) in
@@ -187,16 +204,36 @@ module _ (ls : List (List ℕ)) (on : faultLine ls ≡ 0) (fit : rowsFit (frameO
       (λ yes. let o : firstOff 6 (namesWell (sixth ls) ∷ map (isRow (spelledIn (sixth ls))) (drop 6 ls)) ≡ 0 = rw yes at (head .5) in
       let s = off-split 6 (namesWell (sixth ls)) (map (isRow (spelledIn (sixth ls))) (drop 6 ls)) (omega arith) o in
       let w = named-short (sixth ls) (s .0) in
-      omega (arith, total-front ls 5, length-drop (length noDataWord + 1) (sixth ls), w, body-total (spelledIn (sixth ls)) 7 (drop 6 ls) (rw yes refl) w (omega arith) (s .1)))
+      omega (
+        arith,
+        total-front ls 5,
+        length-drop (length noDataWord + 1) (sixth ls),
+        w,
+        body-total (spelledIn (sixth ls)) 7 (drop 6 ls) (rw yes refl) w (omega arith) (s .1),
+      ))
       (λ no. let o : firstOff 6 (map (isRow unnamed) (drop 5 ls)) ≡ 0 = rw no at (head .5) in
       omega (arith, body-total unnamed 6 (drop 5 ls) (rw no refl) (omega arith) (omega arith) o))
 
   lines-short : total 2 ls ≤ 600000 - 1
   lines-short =
-      omega (arith, head .0, head .1, head .2, head .3, head .4, after-head, total-front ls 0, total-front ls 1, total-front ls 2, total-front ls 3, total-front ls 4)
+      omega (
+        arith,
+        head .0,
+        head .1,
+        head .2,
+        head .3,
+        head .4,
+        after-head,
+        total-front ls 0,
+        total-front ls 1,
+        total-front ls 2,
+        total-front ls 3,
+        total-front ls 4,
+      )
 
 -- Of a text that fills the room and is on its layout the size, spacing, origin or count of values is wrong
-pub overlong-twelve : (text : List ℕ) → maxText ≤ length text → faultLine (linesOf text) ≡ 0 → textRefusal text ≡ 12
+pub overlong-twelve : (text : List ℕ) → maxText ≤ length text → faultLine (linesOf text) ≡ 0
+    → textRefusal text ≡ 12
 unfolding linesRefusal
 overlong-twelve text long on =
     let ls = linesOf text in

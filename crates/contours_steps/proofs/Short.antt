@@ -23,12 +23,13 @@ use Rattle.wkt.proofs.Lengths.{piece-short}
 use Rattle.wkt.proofs.Steps.{ahead, goes, left-end, left-first, reached-first, count-total}
 use Rattle.wkt.proofs.Contours.{lines-from, printable}
 use Rattle.contours_steps.specs.Sheet.{lineStart, levelLine, levelLines, sheetOf}
-use Rattle.contours_steps.specs.Drawing.{Drawable}
+use Rattle.contours_steps.specs.InnerDrawing.{Drawable}
 
 module _ (levels : List ℕ) (f : Frame) (v : ℕ) where
   module _ (listed counts closed : List ℕ) (p : Printable levels f v listed counts closed) where
     -- what is left at a cursor, by how far it is to the end
-    left-short : (k : ℕ) (c : Cursor) → Reached listed counts closed c → ahead listed counts c ≤ k → length (leftOf levels f v listed counts closed c) ≤ 64 * k
+    left-short : (k : ℕ) (c : Cursor) → Reached listed counts closed c → ahead listed counts c ≤ k
+        → length (leftOf levels f v listed counts closed c) ≤ 64 * k
     left-short zero c r h =
         either (ltb (length counts) (c .line))
         (λ past. omega (arith, ap length (left-end levels f v listed counts closed c (ltb-true (length counts) (c .line) past))))
@@ -49,27 +50,43 @@ module _ (levels : List ℕ) (f : Frame) (v : ℕ) where
     text-short : length (textOf levels f v (linesFrom listed counts closed)) ≤ 25067712
     text-short =
         let c : Cursor = record { line = 0; start = 0; point = 0 } in
-        let few : length listed ≤ 130560 = omega (arith, p .few, edges-le (f .columns) (f .rows) (p .checked .sized .sides .narrow) (p .checked .sized .sides .low)) in
+        let few : length listed ≤ 130560 =
+        omega (
+          arith,
+          p .few,
+          edges-le (f .columns) (f .rows) (p .checked .sized .sides .narrow) (p .checked .sized .sides .low),
+        ) in
         omega (
           arith,
           ap length (left-first levels f v listed counts closed c (refl, (refl, refl))),
-          left-short (3 * 130560 + 3) c (reached-first levels f v listed counts closed (p .summed) c (refl, (refl, refl)))
+          left-short (3 * 130560 + 3) c
+              (reached-first levels f v listed counts closed (p .summed) c (refl, (refl, refl)))
               (omega (arith, p .summed, count-total counts (p .some))),
         )
 
   pub network-short : Checked levels f → length (networkText levels f v) ≤ 25067712
   network-short k =
       let cs = contoursOf (picture levels (f .columns) (f .rows) v) in
-      omega (arith, ap (λ (ls : List (List ℕ)). length (textOf levels f v ls)) (lines-from cs), text-short (edgesOf cs) (countsOf cs) (closedOf cs) (printable levels f v k))
+      omega (
+        arith,
+        ap (λ (ls : List (List ℕ)). length (textOf levels f v ls)) (lines-from cs),
+        text-short (edgesOf cs) (countsOf cs) (closedOf cs) (printable levels f v k),
+      )
 
 pub start-short : (v : ℕ) → v < 100000 → length (lineStart v) ≤ 7
 start-short v h = omega (arith, length-append (showLevel v) (59 ∷ []), level-most v h)
 
-pub line-length : (levels : List ℕ) (f : Frame) (v : ℕ) → length (levelLine levels f v) ≡ length (lineStart v) + (length (networkText levels f v) + 2)
+pub line-length : (levels : List ℕ) (f : Frame) (v : ℕ)
+    → length (levelLine levels f v) ≡ length (lineStart v) + (length (networkText levels f v) + 2)
 line-length levels f v =
-    omega (arith, length-append (lineStart v) (networkText levels f v ++ (13 ∷ 10 ∷ [])), length-append (networkText levels f v) (13 ∷ 10 ∷ []))
+    omega (
+      arith,
+      length-append (lineStart v) (networkText levels f v ++ (13 ∷ 10 ∷ [])),
+      length-append (networkText levels f v) (13 ∷ 10 ∷ []),
+    )
 
-lines-short : (levels : List ℕ) (f : Frame) (vs : List ℕ) → Checked levels f → ((i : ℕ) → i < length vs → getD vs i 0 < 100000)
+lines-short : (levels : List ℕ) (f : Frame) (vs : List ℕ) → Checked levels f
+    → ((i : ℕ) → i < length vs → getD vs i 0 < 100000)
     → length (levelLines levels f vs) ≤ length vs * 25067721
 unfolding levelLines
 lines-short levels f [] k h = omega arith
@@ -83,7 +100,8 @@ lines-short levels f (v ∷ vs) k h =
       lines-short levels f vs k (λ i l. h (suc i) (omega arith)),
     )
 
-pub sheet-short : {levels : List ℕ} {f : Frame} {asked : List ℕ} → Drawable levels f asked → length (sheetOf levels f asked) < 2 ^ 64
+pub sheet-short : {levels : List ℕ} {f : Frame} {asked : List ℕ} → Drawable levels f asked
+    → length (sheetOf levels f asked) < 2 ^ 64
 unfolding sheetOf
 sheet-short {levels} {f} {asked} d =
     omega (

@@ -29,7 +29,8 @@ ended-first s h =
     (λ no. absurd (omega (arith, ap length (unended s (ltb-false (length (firstLine s)) (length s) no)))))
 
 pub line-stays : (i : ℕ) (s u : List ℕ) → i + 1 < lineBegun s
-    → (getD (linesOf (s ++ u)) i [] ≡ getD (linesOf s) i []) × (i < length (linesOf s)) × (i < length (linesOf (s ++ u)))
+    → (getD (linesOf (s ++ u)) i [] ≡ getD (linesOf s) i []) × (i < length (linesOf s))
+    × (i < length (linesOf (s ++ u)))
 unfolding lineBegun
 line-stays zero s u h =
     let r = ended-first s (omega arith) in
@@ -40,7 +41,8 @@ line-stays (suc i) s u h =
     let r = ended-first s (omega arith) in
     let a = stream-line s u r in
     let b = lines-step s (omega arith) in
-    let k = line-stays i (drop (length (firstLine s) + 2) s) u (omega (arith, ap length (stream-line s (0 ∷ []) r))) in
+    let k =
+    line-stays i (drop (length (firstLine s) + 2) s) u (omega (arith, ap length (stream-line s (0 ∷ []) r))) in
     (ap (λ (ls : List (List ℕ)). getD ls (suc i) []) a ∙ k .0 ∙ sym (ap (λ (ls : List (List ℕ)). getD ls (suc i) []) b), omega (arith, ap length b, k .1), omega (arith, ap length a, k .2))
 
 -- ---- the test of each line
@@ -48,24 +50,28 @@ line-stays (suc i) s u h =
 abbrev testsOf : List (List ℕ) → List Bool
 testsOf ls = headOn ls ++ (namedOn ls ++ map (isRow (noDataOf ls)) (rowsOf ls))
 
-map-get : (f : List ℕ → Bool) (xs : List (List ℕ)) (j : ℕ) → j < length xs → getD (map f xs) j true ≡ f (getD xs j [])
+map-get : (f : List ℕ → Bool) (xs : List (List ℕ)) (j : ℕ) → j < length xs
+    → getD (map f xs) j true ≡ f (getD xs j [])
 map-get f [] j h = absurd (omega arith)
 map-get f (x ∷ xs) zero h = refl
 map-get f (x ∷ xs) (suc j) h = map-get f xs j (omega arith)
 
-row-at : (f : List ℕ → Bool) (ls : List (List ℕ)) (n j : ℕ) → n + j < length ls → getD (map f (drop n ls)) j true ≡ f (getD ls (n + j) [])
+row-at : (f : List ℕ → Bool) (ls : List (List ℕ)) (n j : ℕ) → n + j < length ls
+    → getD (map f (drop n ls)) j true ≡ f (getD ls (n + j) [])
 row-at f ls n j h = map-get f (drop n ls) j (omega (arith, length-drop n ls)) ∙ ap f (getD-drop n ls j [])
 
 -- the tests from the sixth line on, by that line
 bodyOf : List ℕ → List (List ℕ) → List Bool
-bodyOf six ls = cond (names six) (namesWell six ∷ map (isRow (spelledIn six)) (drop 6 ls)) (map (isRow unnamed) (drop 5 ls))
+bodyOf six ls =
+    cond (names six) (namesWell six ∷ map (isRow (spelledIn six)) (drop 6 ls)) (map (isRow unnamed) (drop 5 ls))
 
 body-is : (ls : List (List ℕ)) → namedOn ls ++ map (isRow (noDataOf ls)) (rowsOf ls) ≡ bodyOf (sixth ls) ls
 unfolding bodyOf noDataOf rowsOf
 body-is ls = either (names (sixth ls)) (λ yes. rw yes refl) (λ no. rw no refl)
 
 body-at : (six : List ℕ) (b : Bool) → names six ≡ b → (ls : List (List ℕ)) (j : ℕ) → 5 + j < length ls
-    → getD (bodyOf six ls) j true ≡ cond b (cond (leb j 0) (namesWell six) (isRow (spelledIn six) (getD ls (5 + j) []))) (isRow unnamed (getD ls (5 + j) []))
+    → getD (bodyOf six ls) j true ≡ cond b
+    (cond (leb j 0) (namesWell six) (isRow (spelledIn six) (getD ls (5 + j) []))) (isRow unnamed (getD ls (5 + j) []))
 unfolding bodyOf
 body-at six true e ls zero h = rw e refl
 body-at six true e ls (suc j) h =
@@ -75,7 +81,8 @@ body-at six false e ls j h = rw e (row-at (isRow unnamed) ls 5 j h)
 
 module _ (ls ls′ : List (List ℕ)) (most : ℕ)
     (same : (k : ℕ) → k < most → (getD ls′ k [] ≡ getD ls k []) × (k < length ls) × (k < length ls′)) where
-  key-same : (key : List ℕ) (k : ℕ) → k < most → isGot (numberAfter key (getD ls′ k [])) ≡ isGot (numberAfter key (getD ls k []))
+  key-same : (key : List ℕ) (k : ℕ) → k < most
+      → isGot (numberAfter key (getD ls′ k [])) ≡ isGot (numberAfter key (getD ls k []))
   key-same key k h = ap (λ (l : List ℕ). isGot (numberAfter key l)) (same k h .0)
 
   test-same : (i : ℕ) → i < most → getD (testsOf ls′) i true ≡ getD (testsOf ls) i true
@@ -95,12 +102,15 @@ module _ (ls ls′ : List (List ℕ)) (most : ℕ)
       ∙ sym (ap (λ (bs : List Bool). getD bs j true) (body-is ls))
 
 -- the first that fails, where the tests up to it are the same
-first-same : (n f : ℕ) (bs bs′ : List Bool) → 1 ≤ n → 1 ≤ f → firstOff n bs ≡ f → ((i : ℕ) → n + i ≤ f → getD bs′ i true ≡ getD bs i true) → firstOff n bs′ ≡ f
+first-same : (n f : ℕ) (bs bs′ : List Bool) → 1 ≤ n → 1 ≤ f → firstOff n bs ≡ f
+    → ((i : ℕ) → n + i ≤ f → getD bs′ i true ≡ getD bs i true) → firstOff n bs′ ≡ f
 unfolding firstOff
 first-same n f [] bs′ one some e same = absurd (omega arith)
-first-same n f (false ∷ bs) [] one some e same = let t : true ≡ false = same 0 (omega arith) in let z : _≡_ {A = ℕ} 0 1 = cc in absurd (omega arith)
+first-same n f (false ∷ bs) [] one some e same =
+    let t : true ≡ false = same 0 (omega arith) in let z : _≡_ {A = ℕ} 0 1 = cc in absurd (omega arith)
 first-same n f (false ∷ bs) (b ∷ bs′) one some e same = let t : b ≡ false = same 0 (omega arith) in rw t e
-first-same n f (true ∷ bs) [] one some e same = first-same (n + 1) f bs [] (omega arith) some e (λ i h. same (suc i) (omega arith))
+first-same n f (true ∷ bs) [] one some e same =
+    first-same (n + 1) f bs [] (omega arith) some e (λ i h. same (suc i) (omega arith))
 first-same n f (true ∷ bs) (b ∷ bs′) one some e same =
     let later : n + 1 ≤ f = off-later (n + 1) f bs (omega arith) some e in
     let t : b ≡ true = same 0 (omega arith) in
@@ -111,7 +121,8 @@ first-same n f (true ∷ bs) (b ∷ bs′) one some e same =
     off-later n f (false ∷ bs) one some e = omega arith
     off-later n f (true ∷ bs) one some e = omega (arith, off-later (n + 1) f bs (omega arith) some e)
 
-fault-stays : (s u : List ℕ) → 1 ≤ faultLine (linesOf s) → faultLine (linesOf s) < lineBegun s → faultLine (linesOf (s ++ u)) ≡ faultLine (linesOf s)
+fault-stays : (s u : List ℕ) → 1 ≤ faultLine (linesOf s) → faultLine (linesOf s) < lineBegun s
+    → faultLine (linesOf (s ++ u)) ≡ faultLine (linesOf s)
 unfolding faultLine
 fault-stays s u some ended =
     let f = faultLine (linesOf s) in
@@ -119,7 +130,8 @@ fault-stays s u some ended =
     (λ i h. test-same (linesOf s) (linesOf (s ++ u)) f (λ k l. line-stays k s u (omega arith)) i (omega arith))
 
 -- and back: the first at fault of the longer text is that of its front, where the front ends it
-pub fault-back : (s u : List ℕ) → 1 ≤ faultLine (linesOf (s ++ u)) → faultLine (linesOf (s ++ u)) < lineBegun s → faultLine (linesOf s) ≡ faultLine (linesOf (s ++ u))
+pub fault-back : (s u : List ℕ) → 1 ≤ faultLine (linesOf (s ++ u))
+    → faultLine (linesOf (s ++ u)) < lineBegun s → faultLine (linesOf s) ≡ faultLine (linesOf (s ++ u))
 unfolding faultLine
 fault-back s u some ended =
     let f = faultLine (linesOf (s ++ u)) in
@@ -127,7 +139,8 @@ fault-back s u some ended =
     (λ i h. test-same (linesOf (s ++ u)) (linesOf s) f (λ k l. let x = line-stays k s u (omega arith) in (sym (x .0), x .2, x .1)) i (omega arith))
 
 -- a line that is told, and that the text ends
-overlong-stays : (text u : List ℕ) → 1 ≤ overlongLine text → overlongLine text < lineBegun text → faultLine (linesOf (text ++ u)) ≡ overlongLine text
+overlong-stays : (text u : List ℕ) → 1 ≤ overlongLine text → overlongLine text < lineBegun text
+    → faultLine (linesOf (text ++ u)) ≡ overlongLine text
 unfolding overlongLine
 overlong-stays text u some ended =
     let f = faultLine (linesOf text) in

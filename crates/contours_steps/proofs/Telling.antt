@@ -36,7 +36,8 @@ use Rattle.grid.proofs.WriteLaws.{text-cons, text-none}
 use Rattle.grid.proofs.ValueLaws.{all-cons, all-none}
 use Rattle.grid.proofs.Values.{lines-apart}
 use Rattle.contours_steps.specs.Words.{wordLevel, isContour, maxContourLevels, wordsRefusal, levelsIn}
-use Rattle.contours_steps.specs.Sheet.{lineStart, levelLines, sheetOf, maxPointsDrawn, textRefusal, refusalOf, refusedAt, refusedLine, writtenOf}
+use Rattle.contours_steps.specs.Sheet.{lineStart, levelLines, sheetOf, maxPointsDrawn, textRefusal, refusalOf}
+use Rattle.contours_steps.specs.Sheet.{refusedAt, refusedLine, writtenOf}
 use Rattle.contours_steps.specs.Told.{headingText, Spells, EachWord, Judged}
 use Rattle.contours_steps.proofs.Levels.{word-range}
 use Rattle.contours_steps.proofs.Drawings.{fine-both, words-fine}
@@ -44,12 +45,16 @@ use Rattle.contours_steps.proofs.Drawings.{fine-both, words-fine}
 -- ---- no text of contours has a CR
 
 three-free : (n : ℕ) → countOf 13 (showThree n) ≡ 0
-three-free n = byte-free 13 (omega arith) (48 + n / 100) (showTwo (n % 100)) (omega arith) ∙ two-free 13 (omega arith) (n % 100) [] ∙ nil-free 13 (omega arith)
+three-free n =
+    byte-free 13 (omega arith) (48 + n / 100) (showTwo (n % 100)) (omega arith)
+    ∙ two-free 13 (omega arith) (n % 100) []
+    ∙ nil-free 13 (omega arith)
 
 metres-free : (n : ℕ) → countOf 13 (showMetres n) ≡ 0
 metres-free n =
     count-append 13 (showWhole (n / 1000)) (46 ∷ showThree (n % 1000))
-    ∙ rw (shown-free 13 (omega arith) 7 (n / 1000), byte-free 13 (omega arith) 46 (showThree (n % 1000)) (omega arith), three-free (n % 1000)) refl
+    ∙ rw
+    (shown-free 13 (omega arith) 7 (n / 1000), byte-free 13 (omega arith) 46 (showThree (n % 1000)) (omega arith), three-free (n % 1000)) refl
 
 -- `MULTILINE` and `STRING `, apart since each byte doubles the work
 front-free : countOf 13 (77 ∷ 85 ∷ 76 ∷ 84 ∷ 73 ∷ 76 ∷ 73 ∷ 78 ∷ 69 ∷ []) ≡ 0
@@ -62,7 +67,9 @@ rest-free = refl
 
 word-free : countOf 13 multilinestring ≡ 0
 word-free =
-    count-append 13 (77 ∷ 85 ∷ 76 ∷ 84 ∷ 73 ∷ 76 ∷ 73 ∷ 78 ∷ 69 ∷ []) (83 ∷ 84 ∷ 82 ∷ 73 ∷ 78 ∷ 71 ∷ 32 ∷ []) ∙ rw (front-free, rest-free) refl
+    count-append 13 (77 ∷ 85 ∷ 76 ∷ 84 ∷ 73 ∷ 76 ∷ 73 ∷ 78 ∷ 69 ∷ [])
+    (83 ∷ 84 ∷ 82 ∷ 73 ∷ 78 ∷ 71 ∷ 32 ∷ [])
+    ∙ rw (front-free, rest-free) refl
 
 empty-free : countOf 13 empty ≡ 0
 unfolding countOf
@@ -77,26 +84,37 @@ module _ (levels : List ℕ) (f : Frame) (v : ℕ) where
   unfolding placeText countOf
   place-free n =
       let s = spotOf levels f v (edgeAt (f .columns) (f .rows) n) in
-      count-append 13 (showMetres (s .x)) (32 ∷ showMetres (s .y)) ∙ omega (arith, metres-free (s .x), metres-free (s .y))
+      count-append 13 (showMetres (s .x)) (32 ∷ showMetres (s .y))
+      ∙ omega (arith, metres-free (s .x), metres-free (s .y))
 
-  points-free : (before ns : List ℕ) → countOf 13 before ≡ 0 → countOf 13 (pointsText levels f v before ns) ≡ 0
+  points-free : (before ns : List ℕ) → countOf 13 before ≡ 0
+      → countOf 13 (pointsText levels f v before ns) ≡ 0
   unfolding pointsText countOf
   points-free before [] h = refl
   points-free before (n ∷ ns) h =
       count-append 13 (before ++ placeText levels f v n) (pointsText levels f v comma ns)
       ∙ omega (arith, count-append 13 before (placeText levels f v n), h, place-free n, points-free comma ns refl)
 
-  lines-free : (before : List ℕ) (ls : List (List ℕ)) → countOf 13 before ≡ 0 → countOf 13 (linesText levels f v before ls) ≡ 0
+  lines-free : (before : List ℕ) (ls : List (List ℕ)) → countOf 13 before ≡ 0
+      → countOf 13 (linesText levels f v before ls) ≡ 0
   unfolding linesText countOf
   lines-free before [] h = refl
   lines-free before (l ∷ ls) h =
       count-append 13 (before ++ pointsText levels f v bracket l) (linesText levels f v comma ls)
-      ∙ omega (arith, count-append 13 before (pointsText levels f v bracket l), h, points-free bracket l refl, lines-free comma ls refl)
+      ∙ omega (
+        arith,
+        count-append 13 before (pointsText levels f v bracket l),
+        h,
+        points-free bracket l refl,
+        lines-free comma ls refl,
+      )
 
   text-free : (ls : List (List ℕ)) → countOf 13 (textOf levels f v ls) ≡ 0
   unfolding textOf
   text-free [] = count-append 13 multilinestring empty ∙ rw (word-free, empty-free) refl
-  text-free (l ∷ ls) = count-append 13 multilinestring (linesText levels f v bracket (l ∷ ls)) ∙ rw (word-free, lines-free bracket (l ∷ ls) bracket-free) refl
+  text-free (l ∷ ls) =
+      count-append 13 multilinestring (linesText levels f v bracket (l ∷ ls))
+      ∙ rw (word-free, lines-free bracket (l ∷ ls) bracket-free) refl
 
   -- the line of a level, without its end
   abbrev lineOf : List ℕ
@@ -106,7 +124,11 @@ module _ (levels : List ℕ) (f : Frame) (v : ℕ) where
   unfolding countOf
   line-free =
       count-append 13 (showLevel v) (59 ∷ networkText levels f v)
-      ∙ omega (arith, level-free 13 (omega arith) v, text-free (map (λ (c : Contour). pointsOf (c .edges) (bit (c .closes))) (contoursOf (picture levels (f .columns) (f .rows) v))))
+      ∙ omega (
+        arith,
+        level-free 13 (omega arith) v,
+        text-free (map (λ (c : Contour). pointsOf (c .edges) (bit (c .closes))) (contoursOf (picture levels (f .columns) (f .rows) v))),
+      )
 
 -- ---- the sheet by its lines
 
@@ -122,19 +144,24 @@ module _ (levels : List ℕ) (f : Frame) where
       ∙ regroup (showLevel v) (networkText levels f v) (write.textOf (linesIn vs))
       ∙ sym (text-cons (showLevel v ++ (59 ∷ networkText levels f v)) (linesIn vs))
     where
-      regroup : (a b t : List ℕ) → ((a ++ (59 ∷ [])) ++ (b ++ (13 ∷ 10 ∷ []))) ++ t ≡ ((a ++ (59 ∷ b)) ++ (13 ∷ 10 ∷ [])) ++ t
+      regroup : (a b t : List ℕ)
+          → ((a ++ (59 ∷ [])) ++ (b ++ (13 ∷ 10 ∷ []))) ++ t
+          ≡ ((a ++ (59 ∷ b)) ++ (13 ∷ 10 ∷ [])) ++ t
       regroup a b t = simp append-assoc
 
   sheet-joined : (vs : List ℕ) → sheetOf levels f vs ≡ write.textOf (headingText ∷ linesIn vs)
   unfolding sheetOf
-  sheet-joined vs = ap (λ (t : List ℕ). headingText ++ (13 ∷ 10 ∷ t)) (lines-joined vs) ∙ sym (text-cons headingText (linesIn vs))
+  sheet-joined vs =
+      ap (λ (t : List ℕ). headingText ++ (13 ∷ 10 ∷ t)) (lines-joined vs)
+      ∙ sym (text-cons headingText (linesIn vs))
 
   free-each : (vs : List ℕ) (i : ℕ) → i < length (linesIn vs) → countOf 13 (getD (linesIn vs) i []) ≡ 0
   free-each [] i h = absurd (omega arith)
   free-each (v ∷ vs) zero h = line-free levels f v
   free-each (v ∷ vs) (suc i) h = free-each vs i (omega arith)
 
-  free-all : (vs : List ℕ) (i : ℕ) → i < suc (length (linesIn vs)) → countOf 13 (getD (headingText ∷ linesIn vs) i []) ≡ 0
+  free-all : (vs : List ℕ) (i : ℕ) → i < suc (length (linesIn vs))
+      → countOf 13 (getD (headingText ∷ linesIn vs) i []) ≡ 0
   unfolding countOf
   free-all vs zero h = refl
   free-all vs (suc i) h = free-each vs i (omega arith)
@@ -158,25 +185,36 @@ contour-spells w h =
 
 pub spells-contour : (w : List ℕ) → Spells w → isContour w ≡ true
 unfolding isContour
-spells-contour w s = rw (s .spelled, level-back (s .level) (omega (arith, s .most)), le-leb 1 (s .level) (s .least), le-leb (s .level) 15000 (s .most)) refl
+spells-contour w s =
+    rw
+    (s .spelled, level-back (s .level) (omega (arith, s .most)), le-leb 1 (s .level) (s .least), le-leb (s .level) 15000 (s .most)) refl
 
-all-each : (words : List (List ℕ)) → all isContour words ≡ true → (i : ℕ) → i < length words → isContour (getD words i []) ≡ true
+all-each : (words : List (List ℕ)) → all isContour words ≡ true → (i : ℕ) → i < length words
+    → isContour (getD words i []) ≡ true
 all-each [] h i l = absurd (omega arith)
 all-each (w ∷ words) h zero l = and-left (isContour w) (all isContour words) (sym (all-cons isContour w words) ∙ h)
-all-each (w ∷ words) h (suc i) l = all-each words (and-right (isContour w) (all isContour words) (sym (all-cons isContour w words) ∙ h)) i (omega arith)
+all-each (w ∷ words) h (suc i) l =
+    all-each words (and-right (isContour w) (all isContour words) (sym (all-cons isContour w words) ∙ h)) i
+    (omega arith)
 
-each-all : (words : List (List ℕ)) → ((i : ℕ) → i < length words → Spells (getD words i [])) → all isContour words ≡ true
+each-all : (words : List (List ℕ)) → ((i : ℕ) → i < length words → Spells (getD words i []))
+    → all isContour words ≡ true
 each-all [] h = all-none isContour
 each-all (w ∷ words) h =
-    all-cons isContour w words ∙ rw (spells-contour w (h 0 (omega arith)), each-all words (λ i l. h (suc i) (omega arith))) refl
+    all-cons isContour w words
+    ∙ rw (spells-contour w (h 0 (omega arith)), each-all words (λ i l. h (suc i) (omega arith))) refl
 
-lines-at : (levels : List ℕ) (f : Frame) (words : List (List ℕ)) → all isContour words ≡ true → (i : ℕ) → i < length words
-    → getD (linesIn levels f (levelsIn words)) i [] ≡ getD words i [] ++ (59 ∷ networkText levels f (wordLevel (getD words i [])))
+lines-at : (levels : List ℕ) (f : Frame) (words : List (List ℕ)) → all isContour words ≡ true → (i : ℕ)
+    → i < length words
+    → getD (linesIn levels f (levelsIn words)) i [] ≡ getD words i [] ++
+    (59 ∷ networkText levels f (wordLevel (getD words i [])))
 lines-at levels f [] h i l = absurd (omega arith)
 lines-at levels f (w ∷ words) h zero l =
-    ap (λ (t : List ℕ). t ++ (59 ∷ networkText levels f (wordLevel w))) (sym (word-spelled w (and-left (isContour w) (all isContour words) (sym (all-cons isContour w words) ∙ h))))
+    ap (λ (t : List ℕ). t ++ (59 ∷ networkText levels f (wordLevel w)))
+    (sym (word-spelled w (and-left (isContour w) (all isContour words) (sym (all-cons isContour w words) ∙ h))))
 lines-at levels f (w ∷ words) h (suc i) l =
-    lines-at levels f words (and-right (isContour w) (all isContour words) (sym (all-cons isContour w words) ∙ h)) i (omega arith)
+    lines-at levels f words (and-right (isContour w) (all isContour words) (sym (all-cons isContour w words) ∙ h)) i
+    (omega arith)
 
 pub each-word : (text : List ℕ) (words : List (List ℕ)) → refusalOf text words ≡ 0 → EachWord text words
 unfolding writtenOf
@@ -184,7 +222,8 @@ each-word text words fine =
     let levels = textLevels text in
     let f = textFrame text in
     let fits = words-fine words (fine-both text words fine .1) .1 .0 in
-    let e : linesOf (writtenOf text words) ≡ headingText ∷ linesIn levels f (levelsIn words) = rw fine (sheet-lines levels f (levelsIn words)) in
+    let e : linesOf (writtenOf text words) ≡ headingText ∷ linesIn levels f (levelsIn words) =
+    rw fine (sheet-lines levels f (levelsIn words)) in
     record {
       many = ap length e ∙ omega (arith, length-map (levelsIn words) (λ (v : ℕ). showLevel v ++ (59 ∷ networkText levels f v)), length-map words wordLevel);
       heading = ap (λ (ls : List (List ℕ)). getD ls 0 []) e;
@@ -198,10 +237,15 @@ later : (text : List ℕ) → faultLine (linesOf text) ≡ 0 → textRefusal tex
 unfolding linesRefusal
 later text z e =
     let ls = linesOf text in
-    none (rowsFit (frameOf ls) (rowsOf ls)) (sided (frameOf ls) && placed (frameOf ls) && filled (levelsOf (rowsOf ls)) (frameOf ls)) (allWithin maxNetworkLevel (levelsOf (rowsOf ls)))
-    (all (rowGiven (noDataOf ls)) (rowsOf ls)) (leb headerSize headerSize && leb (length (levelsOf (rowsOf ls))) maxPointsDrawn) (rw (eq-eqb (faultLine ls) 0 z) at e)
+    none (rowsFit (frameOf ls) (rowsOf ls))
+    (sided (frameOf ls) && placed (frameOf ls) && filled (levelsOf (rowsOf ls)) (frameOf ls))
+    (allWithin maxNetworkLevel (levelsOf (rowsOf ls)))
+    (all (rowGiven (noDataOf ls)) (rowsOf ls))
+    (leb headerSize headerSize && leb (length (levelsOf (rowsOf ls))) maxPointsDrawn)
+    (rw (eq-eqb (faultLine ls) 0 z) at e)
   where
-    none : (a b c d g : Bool) → _≡_ {A = ℕ} (cond a (cond b (cond c (cond d (cond g 0 14) 13) 13) 12) 12) 17 → ⊥
+    none : (a b c d g : Bool) → _≡_ {A = ℕ} (cond a (cond b (cond c (cond d (cond g 0 14) 13) 13) 12) 12) 17
+        → ⊥
     none true true true true true h = omega arith
     none true true true true false h = omega arith
     none true true true false g h = omega arith
@@ -222,7 +266,8 @@ module _ (text : List ℕ) (words : List (List ℕ)) where
   unfolding refusalOf
   words-next z = rw z refl
 
-  written-as : (n : ℕ) → refusalOf text words ≡ n → (n ≡ 0 → ⊥) → writtenOf text words ≡ refusedLine n (refusedAt text n)
+  written-as : (n : ℕ) → refusalOf text words ≡ n → (n ≡ 0 → ⊥)
+      → writtenOf text words ≡ refusedLine n (refusedAt text n)
   unfolding writtenOf
   written-as n e ne = rw (e, ne-eqb n 0 ne) refl
 

@@ -13,20 +13,24 @@ use lib.Seq.{take-add}
 use Rattle.io.specs.Counts.{clamped}
 use Rattle.text.proofs.Digits.{either}
 use Rattle.contours_steps.specs.declared.core.intake.Turn.{Turn}
-use Rattle.contours_steps.specs.Intake.{reading, whole, failed, turnOf, joinedOf, Turned, TextRead}
+use Rattle.contours_steps.specs.Intake.{reading, complete, failed, joinedOf, TextRead}
+use Rattle.contours_steps.specs.InnerIntake.{turnOf, Turned}
 
-pub turn-failed : (z : ℤ) (n room : ℕ) → ltZ z (pos 0) ≡ true → _≡_ {A = Turn} (record { size = n; state = failed }) (turnOf z n room)
+pub turn-failed : (z : ℤ) (n room : ℕ) → ltZ z (pos 0) ≡ true
+    → _≡_ {A = Turn} (record { size = n; state = failed }) (turnOf z n room)
 unfolding turnOf
 turn-failed (pos k) n room e = absurd (omega (arith, ltb-true k 0 e))
 turn-failed (negsuc k) n room e = refl
 
-pub turn-whole : (z : ℤ) (n room more : ℕ) → ltZ z (pos 0) ≡ false → more ≡ clamped z (room - n) → more ≡ 0
-    → _≡_ {A = Turn} (record { size = n; state = whole }) (turnOf z n room)
+pub turn-complete : (z : ℤ) (n room more : ℕ) → ltZ z (pos 0) ≡ false → more ≡ clamped z (room - n)
+    → more ≡ 0
+    → _≡_ {A = Turn} (record { size = n; state = complete }) (turnOf z n room)
 unfolding turnOf
-turn-whole (pos k) n room more e q none = rw (← q, none) refl
-turn-whole (negsuc k) n room more e q none = let never : _≡_ {A = ℕ} 0 1 = cc in absurd (omega arith)
+turn-complete (pos k) n room more e q none = rw (← q, none) refl
+turn-complete (negsuc k) n room more e q none = let never : _≡_ {A = ℕ} 0 1 = cc in absurd (omega arith)
 
-pub turn-more : (z : ℤ) (n room more : ℕ) → ltZ z (pos 0) ≡ false → more ≡ clamped z (room - n) → (more ≡ 0 → ⊥)
+pub turn-more : (z : ℤ) (n room more : ℕ) → ltZ z (pos 0) ≡ false → more ≡ clamped z (room - n)
+    → (more ≡ 0 → ⊥)
     → _≡_ {A = Turn} (record { size = n + more; state = reading }) (turnOf z n room)
 unfolding turnOf
 turn-more (pos k) n room more e q some = rw (← q, ne-eqb more 0 some) refl
@@ -35,7 +39,8 @@ turn-more (negsuc k) n room more e q some = let never : _≡_ {A = ℕ} 0 1 = cc
 -- ---- what a turn says
 
 -- bytes came, and they have room
-turn-came : (z : ℤ) (n room : ℕ) → n ≤ room → turnOf z n room .state ≡ reading → (n < turnOf z n room .size) × (turnOf z n room .size ≤ room)
+turn-came : (z : ℤ) (n room : ℕ) → n ≤ room → turnOf z n room .state ≡ reading
+    → (n < turnOf z n room .size) × (turnOf z n room .size ≤ room)
 unfolding turnOf
 turn-came (pos k) n room h e =
     either (eqb (min k (room - n)) 0)
@@ -45,7 +50,8 @@ turn-came (negsuc k) n room h e = absurd (omega arith)
 
 -- none came: the end is one only where the read answered 0, though there was room, and a failure where it answered less
 turn-none : (z : ℤ) (n room : ℕ) → n < room → (turnOf z n room .state ≡ reading → ⊥)
-    → (turnOf z n room .size ≡ n) × (turnOf z n room .state ≡ whole → z ≡ pos 0) × (turnOf z n room .state ≡ failed → ltZ z (pos 0) ≡ true)
+    → (turnOf z n room .size ≡ n) × (turnOf z n room .state ≡ complete → z ≡ pos 0)
+    × (turnOf z n room .state ≡ failed → ltZ z (pos 0) ≡ true)
 unfolding turnOf
 turn-none (pos k) n room h ne =
     either (eqb (min k (room - n)) 0)
@@ -116,7 +122,8 @@ module _ {text text′ : List ℕ} {n : ℕ} {t : Turn} (k : Standing text n) (u
         known = omega (arith, state-is, turn-known (u .answer) n (length text));
       }
 
-pub standing-full : {text : List ℕ} {n : ℕ} → Standing text n → length text ≤ n → TextRead (record { size = n; state = reading }) text
+pub standing-full : {text : List ℕ} {n : ℕ} → Standing text n → length text ≤ n
+    → TextRead (record { size = n; state = reading }) text
 standing-full {text} {n} k h =
     record {
       pieces = k .pieces;

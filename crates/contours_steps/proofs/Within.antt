@@ -1,4 +1,5 @@
--- How a refusal is spelled, and which line is told of bytes that can't be read on, and of bytes that fill the room. Assumes nothing.
+-- How a refusal is spelled, and which line is told of bytes that can't be read on, and of bytes that fill the room.
+-- Assumes nothing.
 use Prim.Native.Nat.{ℕ, zero, suc, _+_, _≤_, _<_}
 use mathlib.Core.Path.{_≡_, refl, sym, ap, _∙_}
 use mathlib.Core.Bool.{Bool, true, false, cond, _&&_, and-false}
@@ -48,7 +49,8 @@ fails-past front = record { begun = begun-past front; told = ap (refusedLine 17)
 -- ---- a full room
 
 module _ (front : List ℕ) where
-  told-within : (u : List ℕ) → 1 ≤ faultLine (linesOf (front ++ u)) → faultLine (linesOf (front ++ u)) ≤ lineEnds front
+  told-within : (u : List ℕ) → 1 ≤ faultLine (linesOf (front ++ u))
+      → faultLine (linesOf (front ++ u)) ≤ lineEnds front
       → overlongLine front ≡ faultLine (linesOf (front ++ u))
   told-within u some ended =
       let f = faultLine (linesOf (front ++ u)) in

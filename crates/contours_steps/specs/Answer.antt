@@ -6,7 +6,7 @@ use mathlib.Core.List.{List}
 use lib.ListN.{length, take}
 use Rattle.contours_steps.specs.declared.core.intake.Turn.{Turn}
 use Rattle.contours_steps.specs.declared.words.Given.{Given}
-use Rattle.contours_steps.specs.Intake.{reading, whole, failed, TextRead}
+use Rattle.contours_steps.specs.Intake.{reading, complete, failed, TextRead}
 use Rattle.contours_steps.specs.Words.{Gathered}
 use Rattle.contours_steps.specs.Sheet.{maxText, writtenOf, failedOf, overlongOf}
 
@@ -20,7 +20,7 @@ pub record Came (state : ℕ) (t : Turn) (bytes : List ℕ) : Type 0 where
 
 -- they were read to their end, they can't be read on, or they fill the room
 abbrev pub ReadWhole : Turn → List ℕ → Type 0
-ReadWhole t bytes = Came whole t bytes
+ReadWhole t bytes = Came complete t bytes
 
 abbrev pub ReadFailed : Turn → List ℕ → Type 0
 ReadFailed t bytes = Came failed t bytes
@@ -34,6 +34,6 @@ pub record Answered (t : Turn) (bytes : List ℕ) (g : Given) (asked : List ℕ)
   pub came : Came (t .state) t bytes
   pub given : Gathered g asked
   pub known : t .state ≤ 2
-  pub ended : t .state ≡ whole → out ≡ writtenOf bytes (given .words)
+  pub ended : t .state ≡ complete → out ≡ writtenOf bytes (given .words)
   pub fails : t .state ≡ failed → out ≡ failedOf bytes
   pub full : t .state ≡ reading → out ≡ overlongOf bytes

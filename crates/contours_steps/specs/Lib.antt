@@ -5,3 +5,5 @@ pub mod Intake
 pub mod Drawing
 pub mod Answer
 pub mod Told
+pub mod InnerIntake
+pub mod InnerDrawing

@@ -6,6 +6,7 @@ use mathlib.Core.List.{List, [], _∷_, _++_}
 use lib.ListN.{length}
 use lib.Dec.{eqb, leb, ltb}
 use Rattle.text.specs.Number.{shown, showLevel}
+use Rattle.text.specs.Spelled.{bytes}
 use Rattle.text.specs.Line.{linesOf}
 use Rattle.network.specs.declared.Frame.{Frame}
 use Rattle.network.specs.Limits.{maxSide}
@@ -17,13 +18,12 @@ use Rattle.contours_steps.specs.Words.{wordsRefusal, levelsIn}
 abbrev pub lineEnd : List ℕ
 lineEnd = 13 ∷ 10 ∷ []
 
--- `level;wkt`
 abbrev pub heading : List ℕ
-heading = 108 ∷ 101 ∷ 118 ∷ 101 ∷ 108 ∷ 59 ∷ 119 ∷ 107 ∷ 116 ∷ lineEnd
+heading = bytes "level;wkt" ++ lineEnd
 
 -- the line of a level: the level with two decimals, a semicolon, and the text of its contours
 abbrev pub lineStart : ℕ → List ℕ
-lineStart v = showLevel v ++ (59 ∷ [])
+lineStart v = showLevel v ++ bytes ";"
 
 abbrev pub levelLine : List ℕ → Frame → ℕ → List ℕ
 levelLine levels f v = lineStart v ++ (networkText levels f v ++ lineEnd)
@@ -41,10 +41,9 @@ abbrev pub showCount : ℕ → List ℕ
 showCount n = shown 20 n
 
 -- `refused,number,line`
-unfoldable pub refusedLine : ℕ → ℕ → List ℕ
+unfoldable pub refusedLine : (number line : ℕ) → List ℕ
 refusedLine number line =
-    (114 ∷ 101 ∷ 102 ∷ 117 ∷ 115 ∷ 101 ∷ 100 ∷ 44 ∷ [])
-    ++ (showCount number ++ ((44 ∷ []) ++ (showCount line ++ lineEnd)))
+    bytes "refused," ++ (showCount number ++ (bytes "," ++ (showCount line ++ lineEnd)))
 
 -- the network is judged whole, 17, 12 and 13, and then the words
 abbrev pub maxPointsDrawn : ℕ

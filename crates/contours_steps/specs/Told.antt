@@ -15,9 +15,8 @@ use Rattle.contours_steps.specs.Words.{wordLevel}
 use Rattle.contours_steps.specs.Sheet.{textRefusal, refusalOf, refusedLine, writtenOf}
 use Rattle.contours_steps.specs.Sheet.{lineBegun, failedOf, overlongLine, overlongOf}
 
--- `level;wkt`
 abbrev pub headingText : List ℕ
-headingText = 108 ∷ 101 ∷ 118 ∷ 101 ∷ 108 ∷ 59 ∷ 119 ∷ 107 ∷ 116 ∷ []
+headingText = bytes "level;wkt"
 
 -- a word that spells a contour level: from 0.01 to 150.00, with two decimals and no needless zero
 pub record Spells (w : List ℕ) : Type 0 where
@@ -33,7 +32,7 @@ pub record EachWord (text : List ℕ) (words : List (List ℕ)) : Type 0 where
   pub heading : getD (linesOf (writtenOf text words)) 0 [] ≡ headingText
   pub line : (i : ℕ) → i < length words
       → getD (linesOf (writtenOf text words)) (suc i) []
-      ≡ getD words i [] ++ (59 ∷ networkText (textLevels text) (textFrame text) (wordLevel (getD words i [])))
+      ≡ getD words i [] ++ (bytes ";" ++ networkText (textLevels text) (textFrame text) (wordLevel (getD words i [])))
 
 -- each word spells a level
 abbrev pub AllSpell : List (List ℕ) → Type 0
@@ -54,7 +53,8 @@ pub record Judged (text : List ℕ) (words : List (List ℕ)) : Type 0 where
   pub drawn : textRefusal text ≡ 0 → AllSpell words → 1 ≤ length words → length words ≤ 15000
       → refusalOf text words ≡ 0
 
--- The line of a refusal: `refused,`, the number, a comma and the line, each in as many digits as it needs, and a line end
+-- The line of a refusal: `refused,`, the number, a comma and the line, each in as many digits as it needs, and a line
+-- end
 pub record RefusalSpelled : Type 0 where
   pub each : (number line : ℕ)
       → refusedLine number line
@@ -84,7 +84,8 @@ pub record FillsRoom (front : List ℕ) : Type 0 where
 -- told; so is one of the header's five, ended or not. A line past the header is told only if it is ended, and a line
 -- that is told is the first at fault of the bytes in the room. What is told is one line and nothing else
 pub record TellsWithin (front : List ℕ) : Type 0 where
-  pub within : (u : List ℕ) → 1 ≤ faultLine (linesOf (front ++ u)) → faultLine (linesOf (front ++ u)) ≤ lineEnds front
+  pub within : (u : List ℕ) → 1 ≤ faultLine (linesOf (front ++ u))
+      → faultLine (linesOf (front ++ u)) ≤ lineEnds front
       → overlongLine front ≡ faultLine (linesOf (front ++ u))
   pub header : faultLine (linesOf front) ≤ 5 → overlongLine front ≡ faultLine (linesOf front)
   pub ended : 5 < overlongLine front → overlongLine front ≤ lineEnds front

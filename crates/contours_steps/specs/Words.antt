@@ -1,6 +1,6 @@
 -- The arguments of the program contours: one contour level or more, each as the rules write a level.
 -- Assumes nothing.
-use Prim.Native.Nat.{ℕ, _-_, _≤_, _<_}
+use Prim.Native.Nat.{ℕ, _≤_, _<_}
 use mathlib.Core.Path.{_≡_}
 use mathlib.Core.Bool.{Bool, true, _&&_}
 use mathlib.Core.List.{List, map}
@@ -50,8 +50,3 @@ pub record Gathered (g : Given) (asked : List ℕ) : Type 0 where
   pub count : g .count ≡ length words
   pub fit : g .fit ≡ all isContour words
   pub stored : g .fit ≡ true → length words ≤ length asked → take (length words) asked ≡ levelsIn words
-
--- argument number i, counted from 1: `word` is what was handed over
-pub record ArgumentTaken (asked : List ℕ) (i : ℕ) (r : Bool) (asked′ : List ℕ) : Type 0 where
-  pub word : List ℕ
-  pub taken : WordTaken asked (i - 1) word r asked′

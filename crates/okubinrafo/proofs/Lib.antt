@@ -1,4 +1,3 @@
-pub mod Answers
 pub mod Lines
 pub mod Written
 pub mod Numbers

@@ -11,7 +11,7 @@ use lib.Seq.{length-take-le}
 use Rattle.text.proofs.Digits.{either}
 use Rattle.text.proofs.Indices.{length-listing}
 use Rattle.text.specs.Line.{bareLine}
-use Rattle.mapping.specs.Many.{over}
+use Rattle.room.specs.Room.{front, fitsIn, thenRoom, WritesTwo}
 use Rattle.register.specs.declared.cell.Cells.{Cells}
 use Rattle.register.specs.declared.cell.Table.the-variants.{Register}
 use Rattle.register.specs.Cell.{cellsOf}
@@ -21,12 +21,12 @@ use Rattle.register.specs.declared.row.Answer.{Answer}
 use Rattle.register.specs.declared.row.Answer.the-variants.{Row, Refused}
 use Rattle.register.specs.Row.{pointsFit, layoutOf, cellsLayout, rowLayout, eightFrom, offLayout, fieldList, rowRefusal, RowRead}
 use Rattle.register.proofs.Rows.{layout-points}
-use Rattle.okubinrafo.specs.Rooms.{fitsIn, thenRoom, WritesTwo}
 use Rattle.okubinrafo.specs.Rows.{rowFault}
-use Rattle.okubinrafo.proofs.Answers.{front-put, short-of, fine-but-short, refuse-two, write-two}
+use Rattle.room.proofs.Answers.{front-put, short-of, fine-but-short, refuse-two, write-two}
 
 -- a row has eight levels, zero past its points
-either-eight : (b : Bool) (x y : Layout) → length (x .levels) ≡ 8 → length (y .levels) ≡ 8 → length (cond b x y .levels) ≡ 8
+either-eight : (b : Bool) (x y : Layout) → length (x .levels) ≡ 8 → length (y .levels) ≡ 8
+    → length (cond b x y .levels) ≡ 8
 either-eight true x y p q = p
 either-eight false x y p q = q
 
@@ -50,29 +50,34 @@ eight points line =
     either-eight (pointsFit points) (cellsLayout points cells) offLayout (cells-eight points cells) refl
 
 -- the library's refusal of a row that was read is its fault, and then the room for its levels
-row-then : (points : ℕ) (l : Layout) (room : ℕ) → rowRefusal points l room ≡ thenRoom (rowFault l) (leb points room)
+row-then : (points : ℕ) (l : Layout) (room : ℕ)
+    → rowRefusal points l room ≡ thenRoom (rowFault l) (leb points room)
 unfolding rowRefusal rowFault
 row-then points l room = either (eqb (l .refusal) 0) (λ e. rw e refl) (λ e. rw e refl)
 
 -- with room for the fields, the room that is looked at is that for the levels
 row-room : (points : ℕ) (line fields levels : List ℕ) → 6 ≤ length fields
-    → thenRoom (rowFault (layoutOf points line)) (fitsIn (fieldList (layoutOf points line .fields)) fields && fitsIn (take points (layoutOf points line .levels)) levels)
+    → thenRoom (rowFault (layoutOf points line))
+    (fitsIn (fieldList (layoutOf points line .fields)) fields && fitsIn (take points (layoutOf points line .levels)) levels)
     ≡ thenRoom (rowFault (layoutOf points line)) (leb points (length levels))
 unfolding rowFault
 row-room points line fields levels h =
     let l = layoutOf points line in
     either (eqb (l .refusal) 0)
     (λ e.
-    let few : points ≤ length (l .levels) = omega (arith, layout-points points line (eqb-true (l .refusal) 0 e) .1, eight points line) in
+    let few : points ≤ length (l .levels) =
+    omega (arith, layout-points points line (eqb-true (l .refusal) 0 e) .1, eight points line) in
     rw (le-leb 6 (length fields) h, length-take-le points (l .levels) few) refl)
     (λ e. rw e refl)
 
-module _ (points : ℕ) (line levels : List ℕ) {answer : Answer} {levels' : List ℕ} (read : RowRead points line levels answer levels') where
+module _ (points : ℕ) (line levels : List ℕ) {answer : Answer} {levels' : List ℕ}
+    (read : RowRead points line levels answer levels') where
   abbrev layout : Layout
   layout = layoutOf points line
 
   -- what was answered
-  refusal-of : {k : ℕ} → answer ≡ Refused k → (k ≡ rowRefusal points layout (length levels)) × (k ≡ 0 → ⊥)
+  refusal-of : {k : ℕ} → answer ≡ Refused k
+      → (k ≡ rowRefusal points layout (length levels)) × (k ≡ 0 → ⊥)
   refusal-of {k} e = (
     rw e at (read .number),
     λ z.
@@ -92,22 +97,29 @@ module _ (points : ℕ) (line levels : List ℕ) {answer : Answer} {levels' : Li
       short-of (rowFault layout) k (leb points (length levels)) (w .0 ∙ row-then points layout (length levels)) (w .1)
 
   pub row-fine : {f : Fields} → answer ≡ Row f → 14 ≡ thenRoom (rowFault layout) false
-  row-fine e = fine-but-short (rowFault layout) (leb points (length levels)) (fine-of e ∙ row-then points layout (length levels))
+  row-fine e =
+      fine-but-short (rowFault layout) (leb points (length levels))
+      (fine-of e ∙ row-then points layout (length levels))
 
   -- where there is
   pub row-refused : {k : ℕ} (fields : List ℕ) → 6 ≤ length fields → answer ≡ Refused k
-      → WritesTwo (rowFault layout) (fieldList (layout .fields)) (take points (layout .levels)) fields levels k fields levels'
+      → WritesTwo (rowFault layout) (fieldList (layout .fields)) (take points (layout .levels))
+      fields levels k fields levels'
   row-refused {k} fields h e =
       let w = refusal-of e in
       let same : levels' ≡ levels = rw (sym (w .0), ne-eqb k 0 (w .1)) at (read .levels) in
-      rw same (refuse-two (row-room points line fields levels h ∙ sym (row-then points layout (length levels)) ∙ sym (w .0)) (w .1))
+      let refused =
+      row-room points line fields levels h ∙ sym (row-then points layout (length levels)) ∙ sym (w .0) in
+      rw same (refuse-two refused (w .1))
 
-  pub row-read : {f : Fields} {fields' : List ℕ} (fields : List ℕ) → 6 ≤ length fields → answer ≡ Row f → fields' ≡ over fields (fieldList f)
-      → WritesTwo (rowFault layout) (fieldList (layout .fields)) (take points (layout .levels)) fields levels 0 fields' levels'
+  pub row-read : {f : Fields} {fields' : List ℕ} (fields : List ℕ) → 6 ≤ length fields → answer ≡ Row f
+      → fields' ≡ front (fieldList f) fields
+      → WritesTwo (rowFault layout) (fieldList (layout .fields)) (take points (layout .levels))
+      fields levels 0 fields' levels'
   row-read {f} fields h e p =
       let none = sym (fine-of e) in
       let got : fieldList f ≡ fieldList (layout .fields) = rw (e, none) at (read .values) in
       let put-in = rw none at (read .levels) in
       write-two (row-room points line fields levels h ∙ sym (row-then points layout (length levels)) ∙ none)
-      (p ∙ ap (over fields) got)
+      (p ∙ ap (λ t. front t fields) got)
       (put-in ∙ front-put levels (take points (layout .levels)))

@@ -1,4 +1,3 @@
-pub mod Rooms
 pub mod Loads
 pub mod Rows
 pub mod Networks

@@ -1,6 +1,7 @@
 -- A load and a verdict as numbers: RULES, "Energy and load". Assumes nothing.
-use Prim.Native.Nat.{ℕ}
+use Prim.Native.Nat.{ℕ, _+_}
 use mathlib.Core.List.{List, [], _∷_, _++_, map}
+use Rattle.movement.specs.Limits.{groupCount}
 use Rattle.level.specs.declared.Level.{Level}
 use Rattle.level.specs.Level.{levelGiven, levelValue, verdictNumber}
 use Rattle.load_rules.specs.declared.Counts.{Counts}
@@ -22,8 +23,15 @@ numbersFrom total level counts =
 abbrev pub loadNumbers : Load → List ℕ
 loadNumbers a = numbersFrom (a .total) (a .level) (a .counts)
 
+-- V begins past the first three numbers, and U past V
+abbrev pub computedFrom : ℕ
+computedFrom = 3
+
+abbrev pub missingFrom : ℕ
+missingFrom = computedFrom + groupCount
+
 abbrev pub loadSize : ℕ
-loadSize = 39
+loadSize = missingFrom + groupCount
 
 -- the number of a verdict: 1 over, 0 within
 abbrev pub verdictNumbers : Judged → List ℕ

@@ -17,7 +17,14 @@ fieldCount = 6
 -- the fields of six numbers: identity, type, mass, kind, time, 1 if computed
 abbrev pub fieldsFrom : List ℕ → Fields
 fieldsFrom ns =
-    record { identity = getD ns 0 0; ty = getD ns 1 0; mass = getD ns 2 0; kind = getD ns 3 0; time = getD ns 4 0; computed = getD ns 5 0 }
+    record {
+      identity = getD ns 0 0;
+      ty = getD ns 1 0;
+      mass = getD ns 2 0;
+      kind = getD ns 3 0;
+      time = getD ns 4 0;
+      computed = getD ns 5 0;
+    }
 
 -- a row that was read: 16, 1, 3, 7
 unfoldable pub rowFault : Layout → ℕ
@@ -25,4 +32,5 @@ rowFault l = refuse 16 (eqb (l .refusal) 0) (faultOf (l .fields) (allWithin maxL
 
 -- a row to be written: 9 (also for a number of fields other than 6), 1, 3, 7
 unfoldable pub numbersFault : (points : ℕ) (fields levels : List ℕ) → ℕ
-numbersFault points fields levels = refuse 9 (eqb (length fields) fieldCount) (writeFault points (fieldsFrom fields) levels)
+numbersFault points fields levels =
+    refuse 9 (eqb (length fields) fieldCount) (writeFault points (fieldsFrom fields) levels)

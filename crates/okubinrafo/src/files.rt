@@ -13,7 +13,8 @@ pub extern "C" fn okubinrafo_read_network(
     header: &mut [u32],
     levels: &mut [u32],
 ) -> u32
-    ensures { λ r. ⌜ (r ≡ readRefusal (now (text .entry)) (length (now (header .entry))) (length (now (levels .entry))))
+    ensures { λ r. ⌜ (r ≡ readRefusal (now (text .entry))
+        (length (now (header .entry))) (length (now (levels .entry))))
         × (now (header .exit) ≡ headerAfter (now (text .entry)) (now (header .entry)) (now (levels .entry)))
         × (now (levels .exit) ≡ levelsAfter (now (text .entry)) (now (header .entry)) (now (levels .entry))) ⌝ }
 {
@@ -32,9 +33,12 @@ pub extern "C" fn okubinrafo_write_network(
     text: &mut [u8],
     size: &mut [u32],
 ) -> u32
-    ensures { λ r. ⌜ (r ≡ writeRefusal (now (levels .entry)) (frameOf columns rows spacing west south) (length (now (text .entry))) (length (now (size .entry))))
-        × (now (text .exit) ≡ textAfter (now (levels .entry)) (frameOf columns rows spacing west south) (now (text .entry)) (now (size .entry)))
-        × (now (size .exit) ≡ sizeAfter (now (levels .entry)) (frameOf columns rows spacing west south) (now (text .entry)) (now (size .entry))) ⌝ }
+    ensures { λ r. ⌜ (r ≡ writeRefusal (now (levels .entry)) (frameOf columns rows spacing west south)
+        (length (now (text .entry))) (length (now (size .entry))))
+        × (now (text .exit) ≡ textAfter (now (levels .entry)) (frameOf columns rows spacing west south)
+        (now (text .entry)) (now (size .entry)))
+        × (now (size .exit) ≡ sizeAfter (now (levels .entry)) (frameOf columns rows spacing west south)
+        (now (text .entry)) (now (size .entry))) ⌝ }
 {
     let frame = Frame {
         columns: columns,

@@ -2,6 +2,7 @@
 use level::Level;
 use load_rules::Counts;
 use load_rules::Judged;
+use movement::limits::GROUPS;
 ghost use mathlib.Core.Path.{_≡_};
 ghost use mathlib.Core.List.{_∷_, []};
 ghost use Prim.Native.Nat.{_≤_, _<_};
@@ -9,11 +10,17 @@ ghost use lib.ListN.{length, getD};
 ghost use Rattle.book_rules.specs.Columns.{bookOf};
 ghost use Rattle.load_rules.specs.Load.{bookLoad};
 ghost use Rattle.load_rules.specs.Verdict.{refusalNumber, bookVerdict};
-ghost use Rattle.mapping.specs.Many.{over};
-ghost use Rattle.okubinrafo.specs.Rooms.{Writes};
+ghost use Rattle.room.specs.Room.{front, Writes};
 ghost use Rattle.okubinrafo.specs.Loads.{loadSize, numbersFrom, loadNumbers, verdictNumbers};
 
-// Number `k` of the 39 of a load: total, whether a level is given, the level, V of the 18 groups from 3 on, U from 21 on.
+// Where V and U of the groups begin among the numbers of a load, and how many numbers there are.
+const COMPUTED_FROM: usize = 3;
+
+const MISSING_FROM: usize = COMPUTED_FROM + GROUPS as usize;
+
+const LOAD_NUMBERS: usize = MISSING_FROM + GROUPS as usize;
+
+// Number `k` of a load: total, whether a level is given, the level, V of the groups, U of the groups.
 fn number_at(total: u64, level: Level, counts: [Counts; 18], k: usize) -> u64
     requires { ⌜ k < loadSize ⌝ }
     ensures { λ r. ⌜ r ≡ getD (numbersFrom total level counts) k 0 ⌝ }
@@ -27,27 +34,27 @@ fn number_at(total: u64, level: Level, counts: [Counts; 18], k: usize) -> u64
     if k == 2 {
         return level.value() as u64;
     }
-    if k < 21 {
-        let c = counts[k - 3];
+    if k < MISSING_FROM {
+        let c = counts[k - COMPUTED_FROM];
         return c.computed as u64;
     }
-    let c = counts[k - 21];
+    let c = counts[k - MISSING_FROM];
     c.missing as u64
 }
 
-// Writes the 39 numbers of a load to the front of a buffer.
+// Writes the numbers of a load to the front of a buffer.
 fn put_numbers(total: u64, level: Level, counts: [Counts; 18], answer: &mut [u64])
     requires { ⌜ loadSize ≤ length (now answer) ⌝ }
-    ensures { λ _. ⌜ now (answer .exit) ≡ over (now (answer .entry)) (numbersFrom total level counts) ⌝ }
+    ensures { λ _. ⌜ now (answer .exit) ≡ front (numbersFrom total level counts) (now (answer .entry)) ⌝ }
 {
     let mut k = 0;
-    while k < 39 {
+    while k < LOAD_NUMBERS {
         answer[k] = number_at(total, level, counts, k);
         k += 1;
     }
 }
 
-// The load at a point, as 39 numbers.
+// The load at a point, as its numbers.
 #[no_mangle]
 pub extern "C" fn okubinrafo_load(
     identities: &[u32],
@@ -75,7 +82,7 @@ pub extern "C" fn okubinrafo_load(
     if refused != 0 {
         return refused;
     }
-    if answer.len() < 39 {
+    if answer.len() < LOAD_NUMBERS {
         return 14;
     }
     let level = load.level;

@@ -19,7 +19,8 @@ pub extern "C" fn okubinrafo_crossing(
     which: &mut [u32],
     fraction: &mut [f64],
 ) -> u32
-    ensures { λ r. ⌜ Lent (now (levels .entry)) (frameOf columns rows spacing west south) level edge (now (which .entry)) (now (fraction .entry)) r (now (which .exit)) (now (fraction .exit)) ⌝ }
+    ensures { λ r. ⌜ Lent (now (levels .entry)) (frameOf columns rows spacing west south) level edge
+        (now (which .entry)) (now (fraction .entry)) r (now (which .exit)) (now (fraction .exit)) ⌝ }
 {
     let frame = Frame {
         columns: columns,
@@ -45,7 +46,8 @@ pub extern "C" fn okubinrafo_map_point(
     which: &mut [u32],
     place: &mut [f64],
 ) -> u32
-    ensures { λ r. ⌜ Many (now (levels .entry)) (frameOf columns rows spacing west south) level (edge ∷ []) (now (which .entry)) (now (place .entry)) r (now (which .exit)) (now (place .exit)) ⌝ }
+    ensures { λ r. ⌜ Many (now (levels .entry)) (frameOf columns rows spacing west south) level (edge ∷ [])
+        (now (which .entry)) (now (place .entry)) r (now (which .exit)) (now (place .exit)) ⌝ }
 {
     let frame = Frame {
         columns: columns,
@@ -71,7 +73,8 @@ pub extern "C" fn okubinrafo_map_points(
     which: &mut [u32],
     places: &mut [f64],
 ) -> u32
-    ensures { λ r. ⌜ Many (now (levels .entry)) (frameOf columns rows spacing west south) level (now (edges .entry)) (now (which .entry)) (now (places .entry)) r (now (which .exit)) (now (places .exit)) ⌝ }
+    ensures { λ r. ⌜ Many (now (levels .entry)) (frameOf columns rows spacing west south) level (now (edges .entry))
+        (now (which .entry)) (now (places .entry)) r (now (which .exit)) (now (places .exit)) ⌝ }
 {
     let frame = Frame {
         columns: columns,

@@ -19,7 +19,8 @@ pub extern "C" fn okubinrafo_contours(
     closed: &mut [u32],
     sizes: &mut [u32],
 ) -> u32
-    ensures { λ r. ⌜ Leaves (outcome (now (levels .entry)) (frameOf columns rows spacing west south) level (now (edges .entry)) (now (counts .entry)) (now (closed .entry)) (now (sizes .entry)))
+    ensures { λ r. ⌜ Leaves (outcome (now (levels .entry)) (frameOf columns rows spacing west south) level
+        (now (edges .entry)) (now (counts .entry)) (now (closed .entry)) (now (sizes .entry)))
         r (now (edges .exit)) (now (counts .exit)) (now (closed .exit)) (now (sizes .exit)) ⌝ }
 {
     let frame = Frame {
@@ -45,8 +46,10 @@ pub extern "C" fn okubinrafo_print_contours(
     text: &mut [u8],
     size: &mut [u32],
 ) -> u32
-    ensures { λ r. ⌜ Prints (printRefusal (now (levels .entry)) (frameOf columns rows spacing west south) level (now (text .entry)) (now (size .entry)))
-        (networkText (now (levels .entry)) (frameOf columns rows spacing west south) level) (now (text .entry)) (now (size .entry)) r (now (text .exit)) (now (size .exit)) ⌝ }
+    ensures { λ r. ⌜ Prints (printRefusal (now (levels .entry)) (frameOf columns rows spacing west south) level
+        (now (text .entry)) (now (size .entry)))
+        (networkText (now (levels .entry)) (frameOf columns rows spacing west south) level)
+        (now (text .entry)) (now (size .entry)) r (now (text .exit)) (now (size .exit)) ⌝ }
 {
     let frame = Frame {
         columns: columns,

@@ -1,4 +1,5 @@
 // Register rows, read and written.
+use movement::limits::MAX_POINTS;
 use register::row::Answer;
 use register::row::Fields;
 use register::row::read_row;
@@ -9,17 +10,19 @@ ghost use mathlib.Core.Bool.{false};
 ghost use mathlib.Core.List.{_∷_, []};
 ghost use Prim.Native.Nat.{_≤_};
 ghost use lib.ListN.{length, take};
-ghost use Rattle.mapping.specs.Many.{over};
+ghost use Rattle.room.specs.Room.{front, thenRoom, WritesTwo};
 ghost use Rattle.register.specs.Row.{layoutOf, fieldList};
 ghost use Rattle.register.specs.Write.{writeFault, showRow};
-ghost use Rattle.okubinrafo.specs.Rooms.{thenRoom, WritesTwo};
 ghost use Rattle.okubinrafo.specs.Rows.{fieldCount, fieldsFrom, rowFault, numbersFault};
+
+// A row as numbers: identity, type, mass, kind, time, 1 if computed.
+const FIELDS: usize = 6;
 
 // Why a row can't be read where there is no room for its fields: 16, 1, 3, 7 or 14.
 fn row_fault(line: &[u8], points: u32) -> u32
     ensures { λ r. ⌜ r ≡ thenRoom (rowFault (layoutOf points (now (line .entry)))) false ⌝ }
 {
-    let mut levels = [0u32; 8];
+    let mut levels = [0u32; MAX_POINTS];
     let read = read_row(line, points, &mut levels);
     match read {
         Answer::Refused(n) => n,
@@ -30,7 +33,7 @@ fn row_fault(line: &[u8], points: u32) -> u32
 // Writes the six fields of a row.
 fn put_fields(f: Fields, fields: &mut [u32])
     requires { ⌜ fieldCount ≤ length (now fields) ⌝ }
-    ensures { λ _. ⌜ now (fields .exit) ≡ over (now (fields .entry)) (fieldList f) ⌝ }
+    ensures { λ _. ⌜ now (fields .exit) ≡ front (fieldList f) (now (fields .entry)) ⌝ }
 {
     fields[0] = f.identity;
     fields[1] = f.ty;
@@ -49,10 +52,11 @@ pub extern "C" fn okubinrafo_read_row(
     levels: &mut [u32],
 ) -> u32
     ensures { λ r. ⌜ WritesTwo (rowFault (layoutOf points (now (line .entry))))
-        (fieldList (layoutOf points (now (line .entry)) .fields)) (take points (layoutOf points (now (line .entry)) .levels))
+        (fieldList (layoutOf points (now (line .entry)) .fields))
+        (take points (layoutOf points (now (line .entry)) .levels))
         (now (fields .entry)) (now (levels .entry)) r (now (fields .exit)) (now (levels .exit)) ⌝ }
 {
-    if fields.len() < 6 {
+    if fields.len() < FIELDS {
         return row_fault(line, points);
     }
     let read = read_row(line, points, levels);
@@ -102,10 +106,11 @@ pub extern "C" fn okubinrafo_write_row(
     size: &mut [u32],
 ) -> u32
     ensures { λ r. ⌜ WritesTwo (numbersFault points (now (fields .entry)) (now (levels .entry)))
-        (showRow (fieldsFrom (now (fields .entry))) (now (levels .entry))) (length (showRow (fieldsFrom (now (fields .entry))) (now (levels .entry))) ∷ [])
+        (showRow (fieldsFrom (now (fields .entry))) (now (levels .entry)))
+        (length (showRow (fieldsFrom (now (fields .entry))) (now (levels .entry))) ∷ [])
         (now (text .entry)) (now (size .entry)) r (now (text .exit)) (now (size .exit)) ⌝ }
 {
-    if fields.len() != 6 {
+    if fields.len() != FIELDS {
         return 9;
     }
     let f = fields_from(fields);

@@ -10,7 +10,8 @@ use reference::network::{Frame, Network};
 use std::slice::{from_raw_parts, from_raw_parts_mut};
 
 macro_rules! lent_book {
-    ($ids:ident $ids_len:ident $groups:ident $groups_len:ident $marks:ident $marks_len:ident $levels:ident $levels_len:ident $points:ident) => {
+    ($ids:ident $ids_len:ident $groups:ident $groups_len:ident $marks:ident $marks_len:ident
+     $levels:ident $levels_len:ident $points:ident) => {
         Columns {
             identities: from_raw_parts_mut($ids, $ids_len),
             groups: from_raw_parts_mut($groups, $groups_len),
@@ -68,7 +69,8 @@ macro_rules! network_call {
     ($name:ident($($arg:ident: $kind:ty),*) $body:expr) => {
         #[no_mangle]
         pub unsafe extern "C" fn $name(
-            levels: *const u32, levels_len: usize, columns: u32, rows: u32, spacing: u32, west: u32, south: u32, $($arg: $kind),*
+            levels: *const u32, levels_len: usize, columns: u32, rows: u32, spacing: u32, west: u32, south: u32,
+            $($arg: $kind),*
         ) -> u32 {
             let frame = Frame { columns, rows, spacing, west, south };
             $body(Network { frame, levels: from_raw_parts(levels, levels_len) })
@@ -85,11 +87,22 @@ closed: *mut u32, closed_len: usize, sizes: *mut u32, sizes_len: usize)
     calls::contours(network, level, ContourRoom { edges, counts, closed, sizes })
 });
 network_call!(okubinrafo_print_contours(level: u32, text: *mut u8, text_len: usize, size: *mut u32, size_len: usize)
-    |network| calls::print_contours(network, level, from_raw_parts_mut(text, text_len), from_raw_parts_mut(size, size_len)));
-network_call!(okubinrafo_crossing(level: u32, edge: u32, which: *mut u32, which_len: usize, fraction: *mut f64, fraction_len: usize)
-    |network| calls::crossing(network, level, edge, from_raw_parts_mut(which, which_len), from_raw_parts_mut(fraction, fraction_len)));
-network_call!(okubinrafo_map_point(level: u32, edge: u32, which: *mut u32, which_len: usize, place: *mut f64, place_len: usize)
-    |network| calls::map_point(network, level, edge, from_raw_parts_mut(which, which_len), from_raw_parts_mut(place, place_len)));
+|network| {
+    let (text, size) = (from_raw_parts_mut(text, text_len), from_raw_parts_mut(size, size_len));
+    calls::print_contours(network, level, text, size)
+});
+network_call!(okubinrafo_crossing(
+level: u32, edge: u32, which: *mut u32, which_len: usize, fraction: *mut f64, fraction_len: usize)
+|network| {
+    let (which, fraction) = (from_raw_parts_mut(which, which_len), from_raw_parts_mut(fraction, fraction_len));
+    calls::crossing(network, level, edge, which, fraction)
+});
+network_call!(okubinrafo_map_point(
+level: u32, edge: u32, which: *mut u32, which_len: usize, place: *mut f64, place_len: usize)
+|network| {
+    let (which, place) = (from_raw_parts_mut(which, which_len), from_raw_parts_mut(place, place_len));
+    calls::map_point(network, level, edge, which, place)
+});
 network_call!(okubinrafo_map_points(
 level: u32, edges: *const u32, edges_len: usize, which: *mut u32, which_len: usize, places: *mut f64, places_len: usize)
 |network| {
@@ -127,6 +140,17 @@ pub unsafe extern "C" fn okubinrafo_write_row(
 ) -> u32 {
     let (fields, levels) = (from_raw_parts(fields, fields_len), from_raw_parts(levels, levels_len));
     calls::write_row(fields, levels, points, from_raw_parts_mut(text, text_len), from_raw_parts_mut(size, size_len))
+}
+
+#[no_mangle]
+pub unsafe extern "C" fn okubinrafo_sentence(
+    refusal: u32,
+    text: *mut u8,
+    text_len: usize,
+    size: *mut u32,
+    size_len: usize,
+) -> u32 {
+    calls::sentence(refusal, from_raw_parts_mut(text, text_len), from_raw_parts_mut(size, size_len))
 }
 
 #[no_mangle]

@@ -78,7 +78,9 @@ impl Made<'_> {
         }
         if let Some(place) = library.content().iter().zip(reference).position(|(own, other)| own != other) {
             let (own, other) = (library.content()[place], reference[place]);
-            self.fail(&format!("{name}[{place}] is {own:?} after the library's call and {other:?} after the reference's"));
+            self.fail(&format!(
+                "{name}[{place}] is {own:?} after the library's call and {other:?} after the reference's"
+            ));
         }
         self
     }

@@ -49,7 +49,8 @@ fn loaded(library: &Library, book: &Book, days: u32) -> (u64, Option<u64>) {
 
 #[test]
 fn both_edges_of_a_level() {
-    const TELLING: Telling = &[("load", 6_000, &["0", "under 30.00"]), ("load", 1, &["below zero"]), ("verdict", 6_000, &["0"])];
+    const TELLING: Telling =
+        &[("load", 6_000, &["0", "under 30.00"]), ("load", 1, &["below zero"]), ("verdict", 6_000, &["0"])];
     directed("both_edges_of_a_level", TELLING, || {
         let library = Library::from_environment();
         assert_eq!(loaded(&library, &a_book_of(total_of(999, 1)), 1).1, None, "M of 999 is below zero");

@@ -1,7 +1,5 @@
 //! The exported library, opened by path.
 
-use crate::random::Random;
-use crate::rounds::{rounds, Telling};
 use std::ffi::{c_char, c_int, c_void, CStr, CString};
 
 extern "C" {
@@ -29,7 +27,9 @@ macro_rules! exported {
             fn from_handle(handle: *mut c_void) -> Library {
                 Library {
                     // SAFETY: the symbol has the type that the header gives it, which is the field's.
-                    $($name: unsafe { std::mem::transmute(symbol(handle, concat!("okubinrafo_", stringify!($name)))) },)*
+                    $($name: unsafe {
+                        std::mem::transmute(symbol(handle, concat!("okubinrafo_", stringify!($name))))
+                    },)*
                 }
             }
         }
@@ -53,6 +53,7 @@ exported! {
     write_row(Numbers, usize, Numbers, usize, u32, Text, usize, Room, usize);
     read_network(Bytes, usize, Room, usize, Room, usize);
     write_network(Numbers, usize, u32, u32, u32, u32, u32, Text, usize, Room, usize);
+    sentence(u32, Text, usize, Room, usize);
 }
 
 fn symbol(handle: *mut c_void, name: &str) -> *mut c_void {
@@ -65,8 +66,8 @@ fn symbol(handle: *mut c_void, name: &str) -> *mut c_void {
 
 impl Library {
     pub fn from_environment() -> Library {
-        let path =
-            std::env::var("OKUBINRAFO_LIB").expect("OKUBINRAFO_LIB must name the shared library that is compared with the reference");
+        let path = std::env::var("OKUBINRAFO_LIB")
+            .expect("OKUBINRAFO_LIB must name the shared library that is compared with the reference");
         let name = CString::new(path.clone()).expect("a path has no zero byte");
         // SAFETY: dlopen and dlerror of the C library with a C string.
         let handle = unsafe { dlopen(name.as_ptr(), RTLD_NOW) };
@@ -76,10 +77,4 @@ impl Library {
         }
         Library::from_handle(handle)
     }
-}
-
-/// Rounds of a test that makes its calls on the library of the environment.
-pub fn compared_rounds(test: &'static str, usual: u64, telling: Telling, body: fn(&Library, &mut Random)) {
-    let library = Library::from_environment();
-    rounds(test, usual, telling, move |random| body(&library, random));
 }

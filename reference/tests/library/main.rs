@@ -9,6 +9,7 @@ mod compared;
 mod damage;
 #[path = "../shared/drawn.rs"]
 mod drawn;
+mod drawn_books;
 mod lent;
 mod levels;
 mod library;
@@ -19,4 +20,5 @@ mod random;
 mod ranges;
 #[path = "../shared/rounds.rs"]
 mod rounds;
+mod sentences;
 mod texts;

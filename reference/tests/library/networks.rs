@@ -1,8 +1,8 @@
 //! Random and adversarial networks: contours, their text, crossings and map points.
 
-use crate::compared::{ask, contours, write, Asked, Rooms, Written};
+use crate::compared::{ask, compared_rounds, contours, write, Asked, Rooms, Written};
 use crate::drawn::{a_frame, a_level, a_network};
-use crate::library::{compared_rounds, Library};
+use crate::library::Library;
 use crate::random::Random;
 use crate::rounds::Telling;
 use reference::network::Frame;
@@ -58,7 +58,15 @@ fn compare_places(library: &Library, random: &mut Random, frame: Frame, levels: 
     let short = random.once_in(4);
     let which = vec![5; if short { some.len().saturating_sub(1) } else { some.len() }];
     ask(library, frame, levels, level, Asked::MapPoints(&some), &which, &places(2 * some.len()));
-    ask(library, frame, levels, level, Asked::MapPoints(&some), &vec![5; some.len() + 1], &places((2 * some.len()).saturating_sub(1)));
+    ask(
+        library,
+        frame,
+        levels,
+        level,
+        Asked::MapPoints(&some),
+        &vec![5; some.len() + 1],
+        &places((2 * some.len()).saturating_sub(1)),
+    );
     for &edge in some.iter().take(6) {
         let (which, fraction, place) = random.pick(&[(1, 1, 2), (1, 1, 2), (2, 3, 3), (0, 1, 2), (1, 0, 1)]);
         ask(library, frame, levels, level, Asked::Crossing(edge), &vec![5; which], &places(fraction));
@@ -130,7 +138,8 @@ fn all_small_networks() {
             let frame = Frame { columns, rows, spacing, west: 1, south: 2 };
             let all = values.pow(columns * rows);
             for number in (random.within(0, 39)..all).step_by(40) {
-                let levels: Vec<u32> = (0..columns * rows).map(|point| 98 + number / values.pow(point) % values).collect();
+                let levels: Vec<u32> =
+                    (0..columns * rows).map(|point| 98 + number / values.pow(point) % values).collect();
                 compare_contours(library, random, frame, &levels, 99);
                 compare_text(library, random, Written::Contours { frame, levels: &levels, level: 99 }, 600);
             }
@@ -148,6 +157,14 @@ fn large_networks() {
         let levels = a_network(random, &frame, level);
         compare_all(library, random, frame, &levels, level);
         let every: Vec<u32> = (0..frame.edges() + 2).collect();
-        ask(library, frame, &levels, level, Asked::MapPoints(&every), &vec![5; every.len()], &vec![OLD_PLACE; 2 * every.len()]);
+        ask(
+            library,
+            frame,
+            &levels,
+            level,
+            Asked::MapPoints(&every),
+            &vec![5; every.len()],
+            &vec![OLD_PLACE; 2 * every.len()],
+        );
     });
 }

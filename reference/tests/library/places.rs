@@ -24,8 +24,24 @@ struct Crossed {
 /// On each of these every other order of operations gives other bits. Looked for; the bits are worked by hand.
 const CROSSED: [Crossed; 3] = [
     Crossed { index: 1, spacing: 3, origin: 7, from: 5_060, to: 5_278, level: 5_110, bits: 0x4025_604b_27ed_3604 },
-    Crossed { index: 6, spacing: 500, origin: 847_243, from: 13_489, to: 14_013, level: 13_774, bits: 0x4129_f4a5_e4a4_2716 },
-    Crossed { index: 9, spacing: 211, origin: 123_457, from: 7_618, to: 13_144, level: 8_619, bits: 0x40fe_9d23_8a84_1f80 },
+    Crossed {
+        index: 6,
+        spacing: 500,
+        origin: 847_243,
+        from: 13_489,
+        to: 14_013,
+        level: 13_774,
+        bits: 0x4129_f4a5_e4a4_2716,
+    },
+    Crossed {
+        index: 9,
+        spacing: 211,
+        origin: 123_457,
+        from: 7_618,
+        to: 13_144,
+        level: 8_619,
+        bits: 0x40fe_9d23_8a84_1f80,
+    },
 ];
 
 impl Crossed {
@@ -52,7 +68,10 @@ fn order_of_operations() {
         let library = Library::from_environment();
         for crossed in CROSSED {
             let Crossed { index, spacing, origin, from, to, level, bits } = crossed;
-            assert!(crossed.other_orders().iter().all(|place| place.to_bits() != bits), "the case tells the orders apart");
+            assert!(
+                crossed.other_orders().iter().all(|place| place.to_bits() != bits),
+                "the case tells the orders apart"
+            );
             let (length, other) = (index + 2, 41);
             let ends = |along: u32| if along == index { from } else { to };
             // Along the south row, and then up the west column.
@@ -65,7 +84,9 @@ fn order_of_operations() {
                 let (_, place) = map_point(&Network { frame, levels: &levels }, level, edge);
                 let (moving, exact) = if edge == index { (place.x, place.y) } else { (place.y, place.x) };
                 assert_eq!((moving.to_bits(), exact), (bits, f64::from(other)), "the reference's place");
-                let asked = |asked: Asked, places: usize| ask(&library, frame, &levels, level, asked, &[9], &vec![OLD_PLACE; places]);
+                let asked = |asked: Asked, places: usize| {
+                    ask(&library, frame, &levels, level, asked, &[9], &vec![OLD_PLACE; places])
+                };
                 assert_eq!(asked(Asked::Crossing(edge), 1), 0);
                 assert_eq!(asked(Asked::MapPoint(edge), 2), 0);
                 assert_eq!(asked(Asked::MapPoints(&[edge]), 2), 0);
@@ -88,12 +109,20 @@ fn printed_halves_on_two_lines() {
         let library = Library::from_environment();
         let frame = Frame { columns: 2, rows: 2, spacing: 1, west: 7, south: 900_000 };
         let saddle = [16, 0, 0, 16];
-        let around_the_out_corners = "MULTILINESTRING ((7.938 900000.000, 8.000 900000.063), (7.063 900001.000, 7.000 900000.938))";
+        let around_the_out_corners =
+            "MULTILINESTRING ((7.938 900000.000, 8.000 900000.063), (7.063 900001.000, 7.000 900000.938))";
         prints(&library, frame, &saddle, 1, around_the_out_corners);
-        let around_the_in_corners = "MULTILINESTRING ((7.063 900000.000, 7.000 900000.063), (7.938 900001.000, 8.000 900000.938))";
+        let around_the_in_corners =
+            "MULTILINESTRING ((7.063 900000.000, 7.000 900000.063), (7.938 900001.000, 8.000 900000.938))";
         prints(&library, frame, &saddle, 15, around_the_in_corners);
         // The sum is 4v itself: around the out corners.
-        prints(&library, frame, &saddle, 8, "MULTILINESTRING ((7.500 900000.000, 8.000 900000.500), (7.500 900001.000, 7.000 900000.500))");
+        prints(
+            &library,
+            frame,
+            &saddle,
+            8,
+            "MULTILINESTRING ((7.500 900000.000, 8.000 900000.500), (7.500 900001.000, 7.000 900000.500))",
+        );
     });
 }
 
@@ -116,7 +145,8 @@ fn open_lines_before_closed_ones() {
         assert_eq!((answer, sizes), (0, vec![13, 3]));
         assert_eq!(edges[..13], [26, 27, 28, 29, 30, 4, 17, 5, 22, 6, 19, 7, 24]);
         assert_eq!((&counts[..3], &closed[..3]), (&[5, 4, 4][..], &[0, 1, 1][..]));
-        let expected = "MULTILINESTRING ((100.000 30.000, 110.000 30.000, 120.000 30.000, 130.000 30.000, 140.000 30.000), \
+        let expected =
+            "MULTILINESTRING ((100.000 30.000, 110.000 30.000, 120.000 30.000, 130.000 30.000, 140.000 30.000), \
             (110.000 10.000, 110.000 10.000, 110.000 10.000, 110.000 10.000, 110.000 10.000), \
             (130.000 10.000, 130.000 10.000, 130.000 10.000, 130.000 10.000, 130.000 10.000))";
         prints(&library, frame, &levels, 9, expected);

@@ -1,9 +1,8 @@
 //! Valid and damaged texts: register rows and networks, read and written.
 
-use crate::compared::{read_network, read_row, write, Written};
+use crate::compared::{compared_rounds, read_network, read_row, write, Written};
 use crate::damage::damage;
 use crate::drawn::{a_frame, a_network};
-use crate::library::compared_rounds;
 use crate::random::Random;
 use crate::rounds::Telling;
 use reference::network::{Frame, Network};
@@ -13,8 +12,12 @@ fn a_row(random: &mut Random, points: u32) -> String {
     let identity = random.pick(&[0, 1, 381, 99_999, 100_000, 9_999_999]);
     let (aircraft, kind) = (random.pick(&['G', 'K', 'H']), random.pick(&['S', 'L']));
     let blank = random.once_in(4);
-    let mut line =
-        format!("{identity},{aircraft},{mass},{kind},{:02}:{:02}:{:02}", random.about(23) % 30, random.within(0, 60), random.within(0, 59));
+    let mut line = format!(
+        "{identity},{aircraft},{mass},{kind},{:02}:{:02}:{:02}",
+        random.about(23) % 30,
+        random.within(0, 60),
+        random.within(0, 59)
+    );
     for _ in 0..points {
         let level = random.pick(&[0, 5, 99, 100, 5_665, 12_000, 12_000, 12_001, 99_999]);
         let level = if random.once_in(3) { level } else { random.within(0, 12_000) };
@@ -33,8 +36,15 @@ fn rows_read() {
             damage(random, &mut line);
         }
         let asked = if random.once_in(10) { random.about(8) } else { points };
-        let (fields, levels) =
-            random.pick(&[(6, 8), (6, asked.min(9)), (6, asked.min(9)), (5, 8), (7, 12), (6, asked.clamp(1, 9) - 1), (0, 0)]);
+        let (fields, levels) = random.pick(&[
+            (6, 8),
+            (6, asked.min(9)),
+            (6, asked.min(9)),
+            (5, 8),
+            (7, 12),
+            (6, asked.clamp(1, 9) - 1),
+            (0, 0),
+        ]);
         read_row(library, &line, asked, &vec![77; fields], &vec![77; levels as usize]);
     });
 }
@@ -45,7 +55,8 @@ fn rows_written() {
     compared_rounds("rows_written", 100_000, TELLING, |library, random| {
         let points = random.about(8);
         let mass = random.pick(&[0, 100, 5_999, 6_000, 1_000_000, 1_000_001]);
-        let mut fields = vec![random.about(99_999), random.about(2), mass, random.about(1), random.about(86_399), random.about(1)];
+        let mut fields =
+            vec![random.about(99_999), random.about(2), mass, random.about(1), random.about(86_399), random.about(1)];
         match random.within(0, 15) {
             0 => drop(fields.pop()),
             1 => fields.push(0),
@@ -72,7 +83,8 @@ fn a_network_text(random: &mut Random) -> String {
     let levels = a_network(random, &frame, level);
     let mut text = reference::grid::write(&Network { frame, levels: &levels });
     if random.once_in(2) {
-        let spelling = random.pick(&["-9999", "0", "-0", "0.00", "-12.50", "9999999", "10000000", "-", "", "1.00", "--1", "01"]);
+        let spelling =
+            random.pick(&["-9999", "0", "-0", "0.00", "-12.50", "9999999", "10000000", "-", "", "1.00", "--1", "01"]);
         let values = text.match_indices("\r\n").nth(4).expect("five header lines").0 + 2;
         text.insert_str(values, &format!("NODATA_value {spelling}\r\n"));
         if random.once_in(2) {

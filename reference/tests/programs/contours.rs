@@ -89,8 +89,8 @@ fn misspell(random: &mut Random, lines: &mut [String]) {
     }
 }
 
-/// A network file for the aim, and the frame that it is made of; now and then it is wrong in a second way that the order
-/// puts later.
+/// A network file for the aim, and the frame that it is made of; now and then it is wrong in a second way that the
+/// order puts later.
 fn a_file(random: &mut Random, aim: Aim, level: u32) -> (Frame, Vec<u8>) {
     let mut frame = a_frame(random);
     if random.once_in(12) {
@@ -130,7 +130,10 @@ fn some_levels(random: &mut Random, level: u32) -> Vec<String> {
 
 /// No levels, or one among them that is none.
 fn spoil_levels(random: &mut Random, words: &mut Vec<String>) {
-    let wrong = ["0.00", "150.01", "999.99", "1000.00", "45", "45.0", "045.00", "45.000", "", " 45.00", "45.00 ", "-1.00", "x", "45,00"];
+    let wrong = [
+        "0.00", "150.01", "999.99", "1000.00", "45", "45.0", "045.00", "45.000", "", " 45.00", "45.00 ", "-1.00", "x",
+        "45,00",
+    ];
     let place = random.within(0, words.len() as u32) as usize;
     match random.within(0, 7) {
         0 => words.clear(),
@@ -184,7 +187,11 @@ fn contours_drawn() {
     const TELLING: Telling = &[
         ("contours", 150, &["answered"]),
         ("contours", 5, &["12", "13", "15", "17", "a header line at fault", "a later line at fault"]),
-        ("contours", 10, &["from a file", "in one piece", "cut between CR and LF", "cut between lines", "cut anywhere"]),
+        (
+            "contours",
+            10,
+            &["from a file", "in one piece", "cut between CR and LF", "cut between lines", "cut anywhere"],
+        ),
         ("contours", 5, &["byte by byte"]),
         ("drawn", 3, &["256 by 256", "no contour at a level", "a hundred lines and more at a level"]),
         ("drawn", 30, &["several levels", "two lines and more at a level", "west unlike south"]),
@@ -206,9 +213,13 @@ fn contours_drawn() {
 /// Where two answers part, and what they answer.
 fn difference(own: &[u8], expected: &[u8], text: &[u8], words: &[String]) -> String {
     let place = own.iter().zip(expected).take_while(|(one, other)| one == other).count();
-    let about = |bytes: &[u8]| String::from_utf8_lossy(&bytes[place.saturating_sub(60)..(place + 60).min(bytes.len())]).into_owned();
+    let about = |bytes: &[u8]| {
+        String::from_utf8_lossy(&bytes[place.saturating_sub(60)..(place + 60).min(bytes.len())]).into_owned()
+    };
     let (own, expected, text) = (about(own), about(expected), String::from_utf8_lossy(text));
-    format!("the program writes about byte {place} {own:?}\nthe reference {expected:?}\nlevels {words:?}\nnetwork {text:?}")
+    format!(
+        "the program writes about byte {place} {own:?}\nthe reference {expected:?}\nlevels {words:?}\nnetwork {text:?}"
+    )
 }
 
 /// The rules's hill, cut in two at every place, at levels with a contour and without.
@@ -219,7 +230,8 @@ fn the_documents_hill_in_two_pieces() {
     directed("the_documents_hill_in_two_pieces", &[("contours", 100, &["answered"])], move || {
         let rows = "40.00 40.00 40.00\r\n40.00 50.00 40.00\r\n40.00 40.00 40.00\r\n";
         let text = format!("ncols 3\r\nnrows 3\r\nxllcenter 0\r\nyllcenter 0\r\ncellsize 100\r\n{rows}");
-        let ring = "MULTILINESTRING ((50.000 100.000, 100.000 50.000, 150.000 100.000, 100.000 150.000, 50.000 100.000))";
+        let ring =
+            "MULTILINESTRING ((50.000 100.000, 100.000 50.000, 150.000 100.000, 100.000 150.000, 50.000 100.000))";
         let drawn = format!("level;wkt\r\n50.01;MULTILINESTRING EMPTY\r\n45.00;{ring}\r\n");
         for cut in 1..text.len() {
             let words = ["50.01", "45.00"].map(str::to_string);
@@ -265,7 +277,9 @@ fn ranges_of_the_contours_program() {
         for (highest, expected) in [(15_000, drawn), (15_001, "refused,13,0"), (99_999, "refused,13,0")] {
             runs(FRAME, highest, "0.01", expected);
         }
-        for (word, expected) in [("0.00", "refused,15,0"), ("0.01", drawn), ("150.00", drawn), ("150.01", "refused,15,0")] {
+        for (word, expected) in
+            [("0.00", "refused,15,0"), ("0.01", drawn), ("150.00", drawn), ("150.01", "refused,15,0")]
+        {
             runs(FRAME, 0, word, expected);
         }
     });

@@ -6,7 +6,7 @@ use crate::rounds::saw;
 /// The size of the buffer that the report reads through.
 pub const BUFFER: usize = 65_536;
 /// So many pieces at most: each waits until the one before is read.
-const MOST_PIECES: usize = 120;
+const MAX_PIECES: usize = 120;
 
 #[derive(Debug)]
 pub enum Delivery {
@@ -39,11 +39,16 @@ pub fn a_delivery(random: &mut Random, program: &str, input: &[u8]) -> Delivery 
 
 /// The places behind each such mark.
 fn places(input: &[u8], mark: &[u8]) -> Vec<usize> {
-    input.windows(mark.len()).enumerate().filter(|(_, bytes)| *bytes == mark).map(|(place, _)| place + mark.len()).collect()
+    input
+        .windows(mark.len())
+        .enumerate()
+        .filter(|(_, bytes)| *bytes == mark)
+        .map(|(place, _)| place + mark.len())
+        .collect()
 }
 
 /// All of them, or a stretch of so many as can be waited for.
 fn some(random: &mut Random, places: Vec<usize>) -> Vec<usize> {
-    let first = random.within(0, places.len().saturating_sub(MOST_PIECES) as u32) as usize;
-    places.into_iter().skip(first).take(MOST_PIECES).collect()
+    let first = random.within(0, places.len().saturating_sub(MAX_PIECES) as u32) as usize;
+    places.into_iter().skip(first).take(MAX_PIECES).collect()
 }

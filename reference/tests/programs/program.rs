@@ -19,7 +19,8 @@ pub struct Program {
 impl Program {
     /// The program whose shell command the variable holds, in a folder of its own.
     pub fn from_environment(variable: &str) -> Program {
-        let command = std::env::var(variable).unwrap_or_else(|_| panic!("{variable} must be the command of the program"));
+        let command =
+            std::env::var(variable).unwrap_or_else(|_| panic!("{variable} must be the command of the program"));
         static NUMBER: AtomicUsize = AtomicUsize::new(0);
         let (process, number) = (std::process::id(), NUMBER.fetch_add(1, Ordering::Relaxed));
         let folder = std::env::temp_dir().join(format!("{}-{process}-{number}", variable.to_lowercase()));

@@ -29,7 +29,8 @@ impl Aim {
     /// Mostly an answer.
     pub fn pick(random: &mut Random) -> Aim {
         use Aim::*;
-        let wrong = [Movement, Identity, Stands, NoRow, Levels, NoneComputed, Days, Limit, Layout, LimitsLayout, Damage];
+        let wrong =
+            [Movement, Identity, Stands, NoRow, Levels, NoneComputed, Days, Limit, Layout, LimitsLayout, Damage];
         if random.within(1, 20) <= 12 {
             Answer
         } else {
@@ -77,7 +78,8 @@ struct Style {
 
 impl Style {
     fn pick(random: &mut Random, points: u32) -> Style {
-        let (least, most) = random.pick(&[(0, 12_000), (9_000, 12_000), (2_000, 6_500), (5_000, 5_600), (0, 100), (0, 0)]);
+        let (least, most) =
+            random.pick(&[(0, 12_000), (9_000, 12_000), (2_000, 6_500), (5_000, 5_600), (0, 100), (0, 0)]);
         Style { points, least, most, missing: random.pick(&[2, 3, 10, 1_000]), no_helicopters: random.once_in(2) }
     }
 
@@ -184,7 +186,8 @@ pub fn a_register(random: &mut Random, aim: Aim, points: u32) -> Vec<u8> {
     let style = Style::pick(random, points);
     let full = aim == Aim::NoRow || (aim == Aim::Stands && random.once_in(2));
     let least = usize::from(aim != Aim::Answer);
-    let counted = if full { ROWS } else { random.pick(&[0, 1, 3, 10, 60, 300, 1_500, ROWS - 1, ROWS, ROWS]).max(least) };
+    let counted =
+        if full { ROWS } else { random.pick(&[0, 1, 3, 10, 60, 300, 1_500, ROWS - 1, ROWS, ROWS]).max(least) };
     let light = random.pick(&[0, 0, 1, 5, 50, 600, 4_000]);
     let mut rows = rows_of(random, &style, counted, light);
     match aim {
@@ -197,7 +200,9 @@ pub fn a_register(random: &mut Random, aim: Aim, points: u32) -> Vec<u8> {
     if aim == Aim::Layout {
         let place = random.within(0, lines.len() as u32 - 1) as usize;
         lines[place] = match place {
-            0 => random.pick(&["".to_string(), register_header(points % 8 + 1), register_header(9), register_header(0)]),
+            0 => {
+                random.pick(&["".to_string(), register_header(points % 8 + 1), register_header(9), register_header(0)])
+            }
             _ => off_layout(random, &lines[place]),
         };
     }

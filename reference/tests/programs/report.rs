@@ -36,7 +36,8 @@ fn count(answer: &str, register: &[u8]) {
     let lines: Vec<Vec<&str>> = answer.lines().skip(1).map(|line| line.split(',').collect()).collect();
     let number = |field: &str| field.parse::<usize>().expect("a count is a whole number");
     let (computed, missing) = (number(lines[0][4]), number(lines[0][5]));
-    let rows = register.windows(2).filter(|pair| pair == b"\r\n").count() + usize::from(!register.ends_with(b"\r\n")) - 1;
+    let rows =
+        register.windows(2).filter(|pair| pair == b"\r\n").count() + usize::from(!register.ends_with(b"\r\n")) - 1;
     let low = |line: &Vec<&str>| level(line[1].as_bytes()).is_some_and(|level| level < 3_000);
     let at_limit = |line: &Vec<&str>| line[1] == line[2];
     for (kind, holds) in [
@@ -87,8 +88,16 @@ fn reports() {
         ("report", 3, &["1", "3", "4", "6", "7", "10", "11", "15", "16"]),
         ("report", 20, &["from a file", "in one piece", "cut between CR and LF", "cut between lines", "cut anywhere"]),
         ("report", 4, &["byte by byte", "cut about a buffer's end"]),
-        ("answered", 20, &["over one buffer", "over two buffers", "a full book", "rows passed over", "movements missing"]),
-        ("answered", 5, &["an empty book", "without the last CRLF", "below zero", "under 30.00", "at its limit", "over its limit"]),
+        (
+            "answered",
+            20,
+            &["over one buffer", "over two buffers", "a full book", "rows passed over", "movements missing"],
+        ),
+        (
+            "answered",
+            5,
+            &["an empty book", "without the last CRLF", "below zero", "under 30.00", "at its limit", "over its limit"],
+        ),
         ("answered", 5, &["eight points"]),
     ];
     let program = Program::from_environment("OKUBINRAFO_REPORT");
@@ -106,7 +115,8 @@ fn reports() {
 
 const LIMITS: &[u8] = b"days,p1\r\n1,56.65\r\n";
 const HEADER: &str = "id,type,mtow,kind,time,l1\r\n";
-const MOVEMENTS: &str = "1,G,70000,S,07:00:00,100.00\r\n2,G,70000,S,18:59:59,100.00\r\n3,G,70000,S,12:00:00,\r\n4,H,3000,L,23:00:00,\r\n";
+const MOVEMENTS: &str =
+    "1,G,70000,S,07:00:00,100.00\r\n2,G,70000,S,18:59:59,100.00\r\n3,G,70000,S,12:00:00,\r\n4,H,3000,L,23:00:00,\r\n";
 const REPORT: &str = "point,level,limit,verdict,computed,missing\r\n1,56.66,56.65,over,2,2\r\n";
 
 /// The rules's file, cut in two at every place: whatever the pieces, every flight counts.
@@ -150,7 +160,8 @@ fn the_documents_file_about_a_buffers_end() {
 #[test]
 #[ignore = "needs OKUBINRAFO_REPORT, the command of the report program"]
 fn ranges_of_the_report_program() {
-    const TELLING: Telling = &[("report", 1, &["1", "3", "4", "6", "7", "10", "11", "15", "16"]), ("report", 8, &["answered"])];
+    const TELLING: Telling =
+        &[("report", 1, &["1", "3", "4", "6", "7", "10", "11", "15", "16"]), ("report", 8, &["answered"])];
     let program = Program::from_environment("OKUBINRAFO_REPORT");
     directed("ranges_of_the_report_program", TELLING, move || {
         let runs = |limits: &str, rows: &str, expected: &str| {

@@ -3,8 +3,8 @@
 use crate::random::Random;
 
 const FRAGMENTS: [&str; 30] = [
-    ",", ",,", "0", "00", "1", "9", ".", ".00", "-", "-0", " ", "  ", "\r\n", "\r", "\n", "\r\n\r\n", ":", "G", "K", "H", "S", "L", "24",
-    "60", "\"", "\t", "x", "\u{fc}", "-9999", "150.01",
+    ",", ",,", "0", "00", "1", "9", ".", ".00", "-", "-0", " ", "  ", "\r\n", "\r", "\n", "\r\n\r\n", ":", "G", "K",
+    "H", "S", "L", "24", "60", "\"", "\t", "x", "\u{fc}", "-9999", "150.01",
 ];
 
 /// Damages a text in one place: a byte changed, a piece put in, taken out, doubled or exchanged, or the end cut.

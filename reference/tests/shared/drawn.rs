@@ -39,9 +39,11 @@ fn on_spiral(row: u32, column: u32, frame: &Frame) -> bool {
 const PATTERNS: u32 = 10;
 
 pub fn a_network(random: &mut Random, frame: &Frame, level: u32) -> Vec<u32> {
-    let (pattern, high, low) = (random.within(0, PATTERNS - 1), random.within(level, 15_000), random.within(0, level - 1));
+    let (pattern, high, low) =
+        (random.within(0, PATTERNS - 1), random.within(level, 15_000), random.within(0, level - 1));
     let (width, tilt) = (random.within(1, 6), random.within(1, 40));
-    let near = |random: &mut Random, spread: u32| random.within(level.saturating_sub(spread), (level + spread).min(15_000));
+    let near =
+        |random: &mut Random, spread: u32| random.within(level.saturating_sub(spread), (level + spread).min(15_000));
     let place = |row: u32, column: u32| if row.abs_diff(column) % 2 == 0 { high } else { low };
     let mut point = |row: u32, column: u32| match pattern {
         0 => random.within(0, 15_000),
@@ -59,5 +61,8 @@ pub fn a_network(random: &mut Random, frame: &Frame, level: u32) -> Vec<u32> {
             .min(15_000),
         _ => random.pick(&[high, low]),
     };
-    (0..frame.rows).flat_map(|row| (0..frame.columns).map(move |column| (row, column))).map(|(row, column)| point(row, column)).collect()
+    (0..frame.rows)
+        .flat_map(|row| (0..frame.columns).map(move |column| (row, column)))
+        .map(|(row, column)| point(row, column))
+        .collect()
 }

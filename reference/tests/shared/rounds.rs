@@ -1,4 +1,5 @@
-//! Runs a test round by round from the environment's seed, counts what it met, and says how to repeat a round that fails.
+//! Runs a test round by round from the environment's seed, counts what it met, and says how to repeat a round that
+//! fails.
 
 use crate::random::Random;
 use std::cell::RefCell;
@@ -48,7 +49,8 @@ pub fn directed(test: &'static str, telling: Telling, body: impl Fn() + Send + '
 }
 
 fn in_thread(test: &str, run: impl FnOnce() + Send + 'static) {
-    let thread = std::thread::Builder::new().name(test.to_string()).stack_size(STACK).spawn(run).expect("a thread starts");
+    let thread =
+        std::thread::Builder::new().name(test.to_string()).stack_size(STACK).spawn(run).expect("a thread starts");
     if let Err(failure) = thread.join() {
         std::panic::resume_unwind(failure);
     }
@@ -96,7 +98,9 @@ impl Drop for Repeat {
     fn drop(&mut self) {
         if std::thread::panicking() {
             let Repeat { test, seed, round } = self;
-            eprintln!("to repeat: SEED={seed} FIRST={round} ROUNDS=1 cargo test --test '*' {test} -- --include-ignored");
+            eprintln!(
+                "to repeat: SEED={seed} FIRST={round} ROUNDS=1 cargo test --test '*' {test} -- --include-ignored"
+            );
         }
     }
 }

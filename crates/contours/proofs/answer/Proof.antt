@@ -6,11 +6,6 @@ use Rattle.contours_steps.proofs.Answers.{came, came-full}
 use borrow.Author.Needs.{needs}
 use Rattle.contours.proofs.answer.Statement.{statement}
 use Rattle.contours.proofs.answer.Tie as tie
-use Rattle.contours.proofs.answer.Reads as reads
-use Rattle.contours.proofs.answer.Lts as lts
-use Rattle.contours.proofs.failed.Reads as failed-reads
-use Rattle.contours.proofs.judged.Reads as judged-reads
-use Rattle.contours.proofs.overlong.Reads as overlong-reads
 
 slice-aggregate-judged : tie.Need-slice-aggregate-judged
 slice-aggregate-judged c = sym (length-take-le _ _ (omega arith))

@@ -1,4 +1,5 @@
--- `contours::draw`: the network that was stored is the text's, and the levels in front of their room are the words'. Assumes nothing.
+-- `contours::draw`: the network that was stored is the text's, and the levels in front of their room are the words'.
+-- Assumes nothing.
 use mathlib.Core.Path.{_≡_, sym}
 use mathlib.Core.List.{List}
 use Prim.Native.Nat.{ℕ, _*_, _≤_}
@@ -8,21 +9,22 @@ use lib.ListN.{length, getD}
 use lib.Seq.{length-take-le}
 use Rattle.grid.specs.Read.{textFrame, textLevels}
 use Rattle.contours_steps.specs.Sheet.{textRefusal}
-use Rattle.contours_steps.specs.Drawing.{Stored}
+use Rattle.contours_steps.specs.InnerDrawing.{Stored}
 use Rattle.contours_steps.proofs.Drawings.{given-fine, words-front, frame-back, points-are, accepted}
 use borrow.Author.Needs.{needs}
 use Rattle.contours.proofs.draw.Statement.{statement}
 use Rattle.contours.proofs.draw.Tie as tie
-use Rattle.contours.proofs.draw.Reads as reads
-use Rattle.contours.proofs.draw.Lts as lts
-use Rattle.contours.proofs.print.sheet.Reads as sheet-reads
 
 -- as many points as the text has levels
-points : {text header levels : List ℕ} → Stored text header levels → textRefusal text ≡ 0 → getD header 1 0 * getD header 0 0 ≡ length (textLevels text)
+points : {text header levels : List ℕ} → Stored text header levels → textRefusal text ≡ 0
+    → getD header 1 0 * getD header 0 0 ≡ length (textLevels text)
 points {text} {header} {levels} st z = rw (st .numbers) (sym (points-are text z))
 
-inside : (s : tie.Start) → getD (now (s .args .header)) 1 0 * getD (now (s .args .header)) 0 0 ≤ length (now (s .args .levels))
-inside s = omega (arith, points (s .pre .1 .1 .1 .1 .0) (s .pre .1 .1 .1 .0), s .pre .1 .1 .1 .1 .0 .fits)
+inside : (s : tie.Start)
+    → getD (now (s .args .header)) 1 0 * getD (now (s .args .header)) 0 0 ≤ length (now (s .args .levels))
+inside s =
+    let p = s .pre .1 .1 .1 in
+    omega (arith, points (p .1 .0) (p .0), p .1 .0 .fits)
 
 shared-slice-read-t11 : tie.Need-shared-slice-read-t11
 shared-slice-read-t11 c = search needs
@@ -46,20 +48,30 @@ cast-points-2 : tie.Need-cast-points-2
 cast-points-2 c = search needs
 
 mul-points : tie.Need-mul-points
-mul-points c = omega (arith, inside (c .before .before .before .before .before .before .before .before .before .before .before))
+mul-points c =
+    let read = c .before .before .before in
+    omega (arith, inside (read .before .before .before .before .before .before .before .before))
 
 slice-aggregate-sheet : tie.Need-slice-aggregate-sheet
-slice-aggregate-sheet c = sym (length-take-le _ _ (inside (c .before .before .before .before .before .before .before .before .before .before .before .before)))
+slice-aggregate-sheet c =
+    let read = c .before .before .before .before in
+    sym (length-take-le _ _ (inside (read .before .before .before .before .before .before .before .before)))
 
 slice-aggregate-sheet-2 : tie.Need-slice-aggregate-sheet-2
-slice-aggregate-sheet-2 c = let s = c .before .before .before .before .before .before .before .before .before .before .before .before .before in sym (length-take-le _ _ (omega (arith, given-fine (s .args .given) (s .pre .1 .1 .1 .1 .1) .1, s .pre .1 .1 .0)))
+slice-aggregate-sheet-2 c =
+    let read = c .before .before .before .before .before in
+    let s = read .before .before .before .before .before .before .before .before in
+    sym (length-take-le _ _ (omega (arith, given-fine (s .args .given) (s .pre .1 .1 .1 .1 .1) .1, s .pre .1 .1 .0)))
 
 sheet-requires : tie.Need-sheet-requires
 sheet-requires c κs =
-    let s = c .before .before .before .before .before .before .before .before .before .before .before .before .before in
+    let read = c .before .before .before .before .before in
+    let s = read .before .before .before .before .before .before .before .before in
     let p = s .pre .1 in
     let st = p .1 .1 .1 .0 in
-    (s .pre .0, accepted (p .0) (p .1 .1 .0) (p .1 .1 .1 .1) (rw (points st (p .1 .1 .0)) (st .front)) (frame-back (now (s .args .header)) (textFrame (now (s .args .text))) (st .numbers)) (words-front (p .0) (p .1 .1 .1 .1) (p .1 .0)))
+    let frame = frame-back (now (s .args .header)) (textFrame (now (s .args .text))) (st .numbers) in
+    let words = words-front (p .0) (p .1 .1 .1 .1) (p .1 .0) in
+    (s .pre .0, accepted (p .0) (p .1 .1 .0) (p .1 .1 .1 .1) (rw (points st (p .1 .1 .0)) (st .front)) frame words)
 
 returns : tie.Need-returns
 returns c = search needs

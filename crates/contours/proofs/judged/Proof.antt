@@ -9,11 +9,6 @@ use Rattle.contours_steps.proofs.Drawings.{stored}
 use borrow.Author.Needs.{needs}
 use Rattle.contours.proofs.judged.Statement.{statement}
 use Rattle.contours.proofs.judged.Tie as tie
-use Rattle.contours.proofs.judged.Reads as reads
-use Rattle.contours.proofs.judged.Lts as lts
-use Rattle.contours.proofs.refuse_network.Reads as refuse-network-reads
-use Rattle.contours.proofs.with_words.Reads as with-words-reads
-use Rattle.grid.proofs.read.read_network.Reads as read-network-reads
 
 slice-aggregate-read-network : tie.Need-slice-aggregate-read-network
 slice-aggregate-read-network c = search needs
@@ -26,8 +21,9 @@ read-network-requires c κs = search needs
 
 refuse-network-requires : tie.Need-refuse-network-requires
 refuse-network-requires c κs =
-    let s = c .before .before .before .before .before .before .before .before in
-    (s .pre .0, (s .pre .1 .0, (c .before .before .before .read-network .ensures .0, c .if1 .taken)))
+    let read = c .before .before .before in
+    let s = read .before .before .before .before .before in
+    (s .pre .0, (s .pre .1 .0, (read .read-network .ensures .0, c .if1 .taken)))
 
 returns : tie.Need-returns
 returns c = search needs
@@ -40,12 +36,14 @@ slice-aggregate-with-words-2 c = search needs
 
 with-words-requires : tie.Need-with-words-requires
 with-words-requires c κs =
-    let s = c .before .before .before .before .before .before .before .before .before .before in
-    let r = c .before .before .before .before .before .read-network in
+    let read = c .before .before .before .before .before in
+    let s = read .before .before .before .before .before in
+    let r = read .read-network in
     let e = r .ensures in
     let none : r .result ≡ 0 = omega arith in
     let z : textRefusal (now (s .args .text)) ≡ 0 = sym (e .0) ∙ none in
-    (s .pre .0, (s .pre .1 .0, (s .pre .1 .1, (z, stored (replicate 65536 0) z refl (length-replicate {A = ℕ} 65536 0) (e .1) (e .2)))))
+    let kept = stored (replicate 65536 0) z refl (length-replicate {A = ℕ} 65536 0) (e .1) (e .2) in
+    (s .pre .0, (s .pre .1 .0, (s .pre .1 .1, (z, kept))))
 
 returns-2 : tie.Need-returns-2
 returns-2 c = search needs

@@ -5,11 +5,6 @@ use lib.ListN.{length-replicate}
 use borrow.Author.Needs.{needs}
 use Rattle.contours.proofs.main.Statement.{statement}
 use Rattle.contours.proofs.main.Tie as tie
-use Rattle.contours.proofs.main.Reads as reads
-use Rattle.contours.proofs.main.Lts as lts
-use Rattle.contours.proofs.answer.Reads as answer-reads
-use Rattle.contours.proofs.input.gather.Reads as gather-reads
-use Rattle.contours.proofs.input.read_text.Reads as read-text-reads
 
 slice-aggregate-read-text : tie.Need-slice-aggregate-read-text
 slice-aggregate-read-text c = search needs

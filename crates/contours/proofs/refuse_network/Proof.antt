@@ -3,17 +3,14 @@ use Rattle.contours_steps.proofs.Drawings.{refused-text}
 use borrow.Author.Needs.{needs}
 use Rattle.contours.proofs.refuse_network.Statement.{statement}
 use Rattle.contours.proofs.refuse_network.Tie as tie
-use Rattle.contours.proofs.refuse_network.Reads as reads
-use Rattle.contours.proofs.refuse_network.Lts as lts
-use Rattle.contours.proofs.print.refusal.Reads as refusal-reads
-use Rattle.contours.proofs.refused_line.Reads as refused-line-reads
-use Rattle.contours.proofs.say.of_network.Reads as of-network-reads
 
 refused-line-requires : tie.Need-refused-line-requires
 refused-line-requires c κs = search needs
 
 refusal-requires : tie.Need-refusal-requires
-refusal-requires c κs = let s = c .before .before .before in (s .pre .0, refused-text (s .pre .1 .0) (s .pre .1 .1 .0) (s .pre .1 .1 .1) (c .refused-line .ensures))
+refusal-requires c κs =
+    let p = c .before .before .before .pre in
+    (p .0, refused-text (p .1 .0) (p .1 .1 .0) (p .1 .1 .1) (c .refused-line .ensures))
 
 of-network-requires : tie.Need-of-network-requires
 of-network-requires c κs = search needs

@@ -4,15 +4,14 @@ use borrow.Author.Tests.{eq-eqb, ne-eqb}
 use borrow.Author.Needs.{needs}
 use Rattle.contours.proofs.refused_line.Statement.{statement}
 use Rattle.contours.proofs.refused_line.Tie as tie
-use Rattle.contours.proofs.refused_line.Reads as reads
-use Rattle.contours.proofs.refused_line.Lts as lts
-use Rattle.grid.proofs.read.fault_line.Reads as fault-line-reads
 
 fault-line-requires : tie.Need-fault-line-requires
 fault-line-requires c κs = search needs
 
 returns : tie.Need-returns
-returns c = let a = c .before .before .before .args in rw (eq-eqb (a .why) 17 (c .before .if1 .taken)) (c .fault-line .ensures)
+returns c =
+    let a = c .before .before .before .args in
+    rw (eq-eqb (a .why) 17 (c .before .if1 .taken)) (c .fault-line .ensures)
 
 returns-2 : tie.Need-returns-2
 returns-2 c = rw (ne-eqb (c .before .before .args .why) 17 (c .if1 .left)) refl

@@ -2,7 +2,7 @@
 ghost use mathlib.Core.Path.{_≡_};
 ghost use Prim.Native.Nat.{_≤_};
 ghost use lib.ListN.{length};
-ghost use Rattle.contours_steps.specs.Intake.{turnOf};
+ghost use Rattle.contours_steps.specs.InnerIntake.{turnOf};
 ghost use Rattle.contours_steps.specs.Sheet.{lineBegun, overlongLine};
 
 // Where a reading stands: `size` bytes stand at the front of the buffer, and `state` says whether to read on.
@@ -14,7 +14,7 @@ pub struct Turn {
 // The states of a reading: to be read on, read to its end, and failed.
 pub const READING: u32 = 0;
 
-pub const WHOLE: u32 = 1;
+pub const COMPLETE: u32 = 1;
 
 pub const FAILED: u32 = 2;
 
@@ -33,7 +33,7 @@ pub fn next_turn(got: isize, text: &[u8], n: usize) -> Turn
     if more == 0 {
         return Turn {
             size: n,
-            state: WHOLE,
+            state: COMPLETE,
         };
     }
     Turn {

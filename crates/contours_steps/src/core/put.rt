@@ -14,7 +14,7 @@ pub fn put_start(out: &mut [u8], v: u32) -> usize
     ensures { λ r. ⌜ Wrote (now (out .entry)) 0 (lineStart v) (now (out .exit)) r ⌝ }
 {
     let next = put_level(out, 0, v);
-    put_byte(out, next, 59)
+    put_byte(out, next, b';')
 }
 
 // A count.
@@ -34,7 +34,7 @@ pub fn put_refused(out: &mut [u8], number: u32, line: u64) -> usize
 {
     let word = put_text(out, 0, b"refused,");
     let first = put_count(out, word, number as u64);
-    let comma = put_byte(out, first, 44);
+    let comma = put_byte(out, first, b',');
     let second = put_count(out, comma, line);
     put_text(out, second, b"\r\n")
 }

@@ -7,11 +7,6 @@ use borrow.Author.Needs.{needs}
 use Rattle.contours_steps.proofs.Gathering.{Gathering, gathering-none, gathering-next, gathered}
 use Rattle.contours.proofs.input.gather.Statement.{statement}
 use Rattle.contours.proofs.input.gather.Tie as tie
-use Rattle.contours.proofs.input.gather.Reads as reads
-use Rattle.contours.proofs.input.gather.Lts as lts
-use Rattle.contours.proofs.input.both.Reads as both-reads
-use Rattle.contours.proofs.input.word_at.Reads as word-at-reads
-use Rattle.os.proofs.arg_count.Reads as arg-count-reads
 
 abbrev Inv-loop : tie.InvT-loop
 Inv-loop asked₀ count fit₀ i₀ asked fit i = (Gathering asked fit i) × (length asked ≡ length asked₀)

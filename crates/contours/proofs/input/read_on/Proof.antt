@@ -1,4 +1,5 @@
--- `contours::input::read_on` meets its contract: a read leaves the bytes in front of its own as they were. Assumes nothing.
+-- `contours::input::read_on` meets its contract: a read leaves the bytes in front of its own as they were.
+-- Assumes nothing.
 use mathlib.Core.Path.{_≡_, refl}
 use Prim.Native.Nat.{_-_}
 use native.Mathlib.Omega.{arith}
@@ -7,10 +8,6 @@ use borrow.Rule.Slice.PartMut.{putMid, take-put}
 use borrow.Author.Needs.{needs}
 use Rattle.contours.proofs.input.read_on.Statement.{statement}
 use Rattle.contours.proofs.input.read_on.Tie as tie
-use Rattle.contours.proofs.input.read_on.Reads as reads
-use Rattle.contours.proofs.input.read_on.Lts as lts
-use Rattle.libc.proofs.read.Reads as read-reads
-use Rattle.contours_steps.proofs.core.intake.next_turn.Reads as next-turn-reads
 
 sub-read : tie.Need-sub-read
 sub-read c = search needs
@@ -32,12 +29,18 @@ same-length c = search needs
 
 returns : tie.Need-returns
 returns c =
-    let s = c .before .before .before .before .before .before .before in
+    let read = c .before .before .before .before in
+    let s = read .before .before .before in
     let xs = s .args .text .now in
     let n = s .args .n in
-    let ys = c .before .before .before .before .read .last .1 .0 in
+    let ys = read .read .last .1 .0 in
     let long : length (putMid n (length xs - n) xs ys) ≡ length xs = search needs in
-    record { answer = _; is = rw long at (c .next-turn .ensures); kept = take-put n (length xs - n) xs ys (omega arith); long = long }
+    record {
+      answer = _;
+      is = rw long at (c .next-turn .ensures);
+      kept = take-put n (length xs - n) xs ys (omega arith);
+      long = long;
+    }
 
 pub read-on-spec : {M : Type 1} → statement M
 read-on-spec =

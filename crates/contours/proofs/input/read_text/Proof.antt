@@ -7,9 +7,6 @@ use borrow.Author.Needs.{needs}
 use Rattle.contours_steps.proofs.Turns.{Standing, standing-none, standing-more, standing-next, standing-stops, standing-full}
 use Rattle.contours.proofs.input.read_text.Statement.{statement}
 use Rattle.contours.proofs.input.read_text.Tie as tie
-use Rattle.contours.proofs.input.read_text.Reads as reads
-use Rattle.contours.proofs.input.read_text.Lts as lts
-use Rattle.contours.proofs.input.read_on.Reads as read-on-reads
 
 abbrev Inv-loop : tie.InvT-loop
 Inv-loop text₀ n₀ text n = (Standing text n) × (length text ≡ length text₀)
@@ -24,21 +21,27 @@ read-on-requires : tie.Need-read-on-requires Inv-loop μ-loop
 read-on-requires c κs = omega arith
 
 same-length : tie.Need-same-length Inv-loop μ-loop
-same-length c = c .before .before .before .read-on .ensures .long ∙ c .before .before .before .before .before .before .loop .inv .1
+same-length c =
+    let read = c .before .before .before in
+    read .read-on .ensures .long ∙ read .before .before .before .loop .inv .1
 
 returns : tie.Need-returns Inv-loop μ-loop
-returns c = standing-stops (c .before .before .before .before .before .before .loop .inv .0) (c .before .before .before .read-on .ensures) (omega arith) (c .if1 .taken)
+returns c =
+    let read = c .before .before .before in
+    standing-stops (read .before .before .before .loop .inv .0) (read .read-on .ensures) (omega arith) (c .if1 .taken)
 
 loop-less : tie.Need-loop-less Inv-loop μ-loop
 loop-less c =
-    let e = c .before .before .before .read-on .ensures in
-    let m = standing-more (c .before .before .before .before .before .before .loop .inv .0) e (c .if1 .left) in
+    let read = c .before .before .before in
+    let e = read .read-on .ensures in
+    let m = standing-more (read .before .before .before .loop .inv .0) e (c .if1 .left) in
     omega (arith, m .0, m .1, e .long)
 
 loop-again : tie.Need-loop-again Inv-loop μ-loop
 loop-again c =
-    let e = c .before .before .before .read-on .ensures in
-    let l = c .before .before .before .before .before .before .loop in
+    let read = c .before .before .before in
+    let e = read .read-on .ensures in
+    let l = read .before .before .before .loop in
     (standing-next (l .inv .0) e (c .if1 .left), e .long ∙ l .inv .1)
 
 same-length-2 : tie.Need-same-length-2 Inv-loop μ-loop

@@ -1,5 +1,5 @@
--- `contours::print::contours` meets its contract: the buffers have room for the edges of every network, and the listed contours are the network's.
--- Assumes nothing.
+-- `contours::print::contours` meets its contract: the buffers have room for the edges of every network, and the listed
+-- contours are the network's. Assumes nothing.
 use mathlib.Core.Path.{ap, _∙_}
 use mathlib.Core.List.{List}
 use Prim.Native.Nat.{ℕ, _+_, _≤_}
@@ -12,10 +12,6 @@ use Rattle.wkt.proofs.Contours.{printable, edges-front, counts-front, closed-fr
 use borrow.Author.Needs.{needs}
 use Rattle.contours.proofs.print.contours.Statement.{statement}
 use Rattle.contours.proofs.print.contours.Tie as tie
-use Rattle.contours.proofs.print.contours.Reads as reads
-use Rattle.contours.proofs.print.contours.Lts as lts
-use Rattle.contour.proofs.core.list_contours.Reads as list-contours-reads
-use Rattle.contours.proofs.print.fronts.Reads as fronts-reads
 
 -- a local buffer has room for the edges of every network
 long : (nx ny : ℕ) → nx ≤ 256 → ny ≤ 256 → edges nx ny ≤ length {A = ℕ} (replicate 130560 0)
@@ -54,20 +50,31 @@ slice-aggregate-fronts-3 c = search needs
 
 fronts-requires : tie.Need-fronts-requires
 fronts-requires c κs =
-    let s = c .before .before .before .before .before .before .before .before .before .before .before .before .before .before .before in
-    let t = c .before .before .before .before .before .before .before .list-contours in
-    let l = t .ensures in (
+    let listed = c .before .before .before .before .before .before .before in
+    let s = listed .before .before .before .before .before .before .before .before in
+    let t = listed .list-contours in
+    let l = t .ensures in
+    let long = t .kept .1 .1 .1 .1 in
+    let shown = printable (now (s .args .levels)) (s .args .frame) (s .args .v) (s .pre .0 .checked) in (
       s .pre .0,
       (
-        ((omega (arith, l .edges-fit, t .kept .1 .1 .1 .1 .0), (omega (arith, l .counts-fit, t .kept .1 .1 .1 .1 .1 .0), omega (arith, l .closed-fit, t .kept .1 .1 .1 .1 .1 .1 .0))), rw (edges-front l, counts-front l, closed-front l) (printable (now (s .args .levels)) (s .args .frame) (s .args .v) (s .pre .0 .checked))),
+        (
+          (
+            omega (arith, l .edges-fit, long .0),
+            (omega (arith, l .counts-fit, long .1 .0), omega (arith, l .closed-fit, long .1 .1 .0)),
+          ),
+          rw (edges-front l, counts-front l, closed-front l) shown,
+        ),
         rw (text-front l (now (s .args .levels)) (s .args .frame) (s .args .v)) (s .pre .1),
       ),
     )
 
 returns : tie.Need-returns
 returns c =
-    let a = c .before .before .before .before .before .before .before .before .before .before .before .before .before .before .before .before .args in
-    c .fronts .ensures ∙ ap (λ (t : List ℕ). a .sent .now + length t) (text-front (c .before .before .before .before .before .before .before .before .list-contours .ensures) (now (a .levels)) (a .frame) (a .v))
+    let listed = c .before .before .before .before .before .before .before .before in
+    let a = listed .before .before .before .before .before .before .before .before .args in
+    let same = text-front (listed .list-contours .ensures) (now (a .levels)) (a .frame) (a .v) in
+    c .fronts .ensures ∙ ap (λ (t : List ℕ). a .sent .now + length t) same
 
 pub contours-spec : {M : Type 1} → statement M
 contours-spec =

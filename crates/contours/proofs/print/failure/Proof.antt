@@ -3,9 +3,6 @@ use Rattle.contours_steps.proofs.Answers.{answered-failed}
 use borrow.Author.Needs.{needs}
 use Rattle.contours.proofs.print.failure.Statement.{statement}
 use Rattle.contours.proofs.print.failure.Tie as tie
-use Rattle.contours.proofs.print.failure.Reads as reads
-use Rattle.contours.proofs.print.failure.Lts as lts
-use Rattle.contours.proofs.print.refused.Reads as refused-reads
 
 refused-requires : tie.Need-refused-requires
 refused-requires c κs = let s = c .before .before in answered-failed (s .pre .0) (s .pre .1 .0) (s .pre .1 .1)

@@ -4,18 +4,19 @@ use lib.Seq.{length-take-le}
 use borrow.Author.Needs.{needs}
 use Rattle.contours.proofs.print.fronts.Statement.{statement}
 use Rattle.contours.proofs.print.fronts.Tie as tie
-use Rattle.contours.proofs.print.fronts.Reads as reads
-use Rattle.contours.proofs.print.fronts.Lts as lts
-use Rattle.contours.proofs.print.parts.Reads as parts-reads
 
 slice-aggregate-parts : tie.Need-slice-aggregate-parts
 slice-aggregate-parts c = sym (length-take-le _ _ (c .before .before .before .before .before .before .pre .1 .0 .0 .0))
 
 slice-aggregate-parts-2 : tie.Need-slice-aggregate-parts-2
-slice-aggregate-parts-2 c = sym (length-take-le _ _ (c .before .before .before .before .before .before .before .pre .1 .0 .0 .1 .0))
+slice-aggregate-parts-2 c =
+    let s = c .before .before .before .before .before .before .before in
+    sym (length-take-le _ _ (s .pre .1 .0 .0 .1 .0))
 
 slice-aggregate-parts-3 : tie.Need-slice-aggregate-parts-3
-slice-aggregate-parts-3 c = sym (length-take-le _ _ (c .before .before .before .before .before .before .before .before .pre .1 .0 .0 .1 .1))
+slice-aggregate-parts-3 c =
+    let s = c .before .before .before .before .before .before .before .before in
+    sym (length-take-le _ _ (s .pre .1 .0 .0 .1 .1))
 
 parts-requires : tie.Need-parts-requires
 parts-requires c κs = search needs

@@ -11,10 +11,6 @@ use Rattle.contours_steps.proofs.Dues.{due-front, due-rest}
 use Rattle.contours_steps.proofs.Order.{heading-due, lines-due, lines-long, lines-more, lines-none}
 use Rattle.contours.proofs.print.lines.Statement.{statement}
 use Rattle.contours.proofs.print.lines.Tie as tie
-use Rattle.contours.proofs.print.lines.Reads as reads
-use Rattle.contours.proofs.print.lines.Lts as lts
-use Rattle.contours.proofs.print.one_level.Reads as one-level-reads
-use Rattle.contours.proofs.print.written.Reads as written-reads
 
 abbrev Inv-loop : tie.InvT-loop
 Inv-loop levels frame asked sent₀ i₀ sent i =
@@ -28,7 +24,9 @@ slice-aggregate-written : tie.Need-slice-aggregate-written Inv-loop μ-loop
 slice-aggregate-written c = search needs
 
 written-requires : tie.Need-written-requires Inv-loop μ-loop
-written-requires c κs = let s = c .before .before .before .before in (s .pre, heading-due (now (s .args .levels)) (s .args .frame) (now (s .args .asked)))
+written-requires c κs =
+    let s = c .before .before .before .before in
+    (s .pre, heading-due (now (s .args .levels)) (s .args .frame) (now (s .args .asked)))
 
 loop-holds : tie.Need-loop-holds Inv-loop μ-loop
 loop-holds c =
@@ -40,10 +38,14 @@ loop-holds c =
 
 one-level-requires : tie.Need-one-level-requires Inv-loop μ-loop
 one-level-requires c κs =
-    let s = c .before .before .before .before .before .before .before .before in
+    let loop = c .before .before in
+    let s = loop .before .before .before .before .before .before in
     let a = s .args in
-    let l = c .before .before .loop in
-    (s .pre, (omega arith, due-front (levelLine (now (a .levels)) (a .frame) (getD (now (a .asked)) (l .i) 0)) (levelLines (now (a .levels)) (a .frame) (drop (l .i + 1) (now (a .asked)))) (rw (lines-more (now (a .levels)) (a .frame) (now (a .asked)) (l .i) (omega arith)) at (l .inv .1))))
+    let l = loop .loop in
+    let one = levelLine (now (a .levels)) (a .frame) (getD (now (a .asked)) (l .i) 0) in
+    let rest = levelLines (now (a .levels)) (a .frame) (drop (l .i + 1) (now (a .asked))) in
+    let e = lines-more (now (a .levels)) (a .frame) (now (a .asked)) (l .i) (omega arith) in
+    (s .pre, (omega arith, due-front one rest (rw e at (l .inv .1))))
 
 add-i : tie.Need-add-i Inv-loop μ-loop
 add-i c = search needs
@@ -53,8 +55,9 @@ loop-less c = omega arith
 
 loop-again : tie.Need-loop-again Inv-loop μ-loop
 loop-again c =
-    let a = c .before .before .before .before .before .before .before .before .before .args in
-    let l = c .before .before .before .loop in
+    let loop = c .before .before .before in
+    let a = loop .before .before .before .before .before .before .args in
+    let l = loop .loop in
     let one = levelLine (now (a .levels)) (a .frame) (getD (now (a .asked)) (l .i) 0) in
     let rest = levelLines (now (a .levels)) (a .frame) (drop (l .i + 1) (now (a .asked))) in
     let e = lines-more (now (a .levels)) (a .frame) (now (a .asked)) (l .i) (omega arith) in (
@@ -65,8 +68,10 @@ loop-again c =
 
 returns : tie.Need-returns Inv-loop μ-loop
 returns c =
-    let a = c .before .before .before .before .before .before .before .args in
-    omega (arith, c .before .loop .inv .2, ap length (lines-none (now (a .levels)) (a .frame) (now (a .asked)) (c .before .loop .i) (omega arith)))
+    let loop = c .before in
+    let a = loop .before .before .before .before .before .before .args in
+    let l = loop .loop in
+    omega (arith, l .inv .2, ap length (lines-none (now (a .levels)) (a .frame) (now (a .asked)) (l .i) (omega arith)))
 
 pub lines-spec : {M : Type 1} → statement M
 lines-spec =

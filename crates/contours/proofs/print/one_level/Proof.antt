@@ -1,4 +1,5 @@
--- `contours::print::one_level` meets its contract: the start, the text and the end are due one behind the other. Assumes nothing.
+-- `contours::print::one_level` meets its contract: the start, the text and the end are due one behind the other.
+-- Assumes nothing.
 use mathlib.Core.List.{List, _++_}
 use Prim.Native.Nat.{ℕ}
 use native.Mathlib.Omega.{arith}
@@ -12,11 +13,6 @@ use Rattle.contours_steps.proofs.Short.{line-length}
 use borrow.Author.Needs.{needs}
 use Rattle.contours.proofs.print.one_level.Statement.{statement}
 use Rattle.contours.proofs.print.one_level.Tie as tie
-use Rattle.contours.proofs.print.one_level.Reads as reads
-use Rattle.contours.proofs.print.one_level.Lts as lts
-use Rattle.contours.proofs.print.contours.Reads as contours-reads
-use Rattle.contours.proofs.print.start.Reads as start-reads
-use Rattle.contours.proofs.print.written.Reads as written-reads
 
 -- the level, and the text of its contours
 abbrev v : tie.Start → ℕ
@@ -38,21 +34,29 @@ start-requires c κs =
 
 contours-requires : tie.Need-contours-requires
 contours-requires c κs =
-    let s = c .before .before .before .before .before .before in
-    (s .pre .0, rw (c .before .start .ensures) (due-front (text s) lineEnd (due-rest (lineStart (v s)) (text s ++ lineEnd) (s .pre .1 .1))))
+    let started = c .before in
+    let s = started .before .before .before .before .before in
+    let rest = due-rest (lineStart (v s)) (text s ++ lineEnd) (s .pre .1 .1) in
+    (s .pre .0, rw (started .start .ensures) (due-front (text s) lineEnd rest))
 
 slice-aggregate-written : tie.Need-slice-aggregate-written
 slice-aggregate-written c = search needs
 
 written-requires : tie.Need-written-requires
 written-requires c κs =
-    let s = c .before .before .before .before .before .before .before .before .before in
-    (s .pre .0, rw (c .before .before .contours .ensures, c .before .before .before .before .start .ensures) (due-rest (text s) lineEnd (due-rest (lineStart (v s)) (text s ++ lineEnd) (s .pre .1 .1))))
+    let drawn = c .before .before in
+    let started = drawn .before .before in
+    let s = started .before .before .before .before .before in
+    let rest = due-rest (lineStart (v s)) (text s ++ lineEnd) (s .pre .1 .1) in
+    (s .pre .0, rw (drawn .contours .ensures, started .start .ensures) (due-rest (text s) lineEnd rest))
 
 returns : tie.Need-returns
 returns c =
-    let s = c .before .before .before .before .before .before .before .before .before .before in
-    omega (arith, c .written .ensures, c .before .before .before .contours .ensures, c .before .before .before .before .before .start .ensures, line-length (now (s .args .levels)) (s .args .frame) (v s))
+    let drawn = c .before .before .before in
+    let started = drawn .before .before in
+    let s = started .before .before .before .before .before in
+    let long = line-length (now (s .args .levels)) (s .args .frame) (v s) in
+    omega (arith, c .written .ensures, drawn .contours .ensures, started .start .ensures, long)
 
 pub one-level-spec : {M : Type 1} → statement M
 one-level-spec =

@@ -3,18 +3,17 @@ use Rattle.contours_steps.proofs.Answers.{answered-many, answered-line}
 use borrow.Author.Needs.{needs}
 use Rattle.contours.proofs.print.overlong.Statement.{statement}
 use Rattle.contours.proofs.print.overlong.Tie as tie
-use Rattle.contours.proofs.print.overlong.Reads as reads
-use Rattle.contours.proofs.print.overlong.Lts as lts
-use Rattle.contours.proofs.print.refused.Reads as refused-reads
 
 refused-requires : tie.Need-refused-requires
-refused-requires c κs = let s = c .before .before .before in answered-many (s .pre .0) (s .pre .1 .0) (s .pre .1 .1) (c .if1 .taken)
+refused-requires c κs =
+    let s = c .before .before .before in answered-many (s .pre .0) (s .pre .1 .0) (s .pre .1 .1) (c .if1 .taken)
 
 returns : tie.Need-returns
 returns c = search needs
 
 refused-requires-2 : tie.Need-refused-requires-2
-refused-requires-2 c κs = let s = c .before .before .before in answered-line (s .pre .0) (s .pre .1 .0) (s .pre .1 .1) (c .if1 .left)
+refused-requires-2 c κs =
+    let s = c .before .before .before in answered-line (s .pre .0) (s .pre .1 .0) (s .pre .1 .1) (c .if1 .left)
 
 returns-2 : tie.Need-returns-2
 returns-2 c = search needs

@@ -1,4 +1,5 @@
--- `contours::print::parts` meets its contract: what is left of the text is due where the last part ended. Assumes nothing.
+-- `contours::print::parts` meets its contract: what is left of the text is due where the last part ended.
+-- Assumes nothing.
 use mathlib.Core.Path.{_≡_, refl, sym, ap, _∙_}
 use mathlib.Core.Logic.{⊎-elim}
 use Prim.Native.Nat.{_+_, _-_, _≤_, min}
@@ -16,17 +17,13 @@ use Rattle.contours_steps.specs.Due.{Due}
 use Rattle.contours_steps.proofs.Dues.{due-front, due-rest}
 use Rattle.contours.proofs.print.parts.Statement.{statement}
 use Rattle.contours.proofs.print.parts.Tie as tie
-use Rattle.contours.proofs.print.parts.Reads as reads
-use Rattle.contours.proofs.print.parts.Lts as lts
-use Rattle.contours.proofs.print.written.Reads as written-reads
-use Rattle.io.proofs.buffer.Reads as buffer-reads
-use Rattle.wkt.proofs.core.first.Reads as first-reads
-use Rattle.wkt.proofs.core.print_part.Reads as print-part-reads
 
 abbrev Inv-loop : tie.InvT-loop
 Inv-loop levels frame asked v edges counts closed sent₀ room₀ at₀ sent room at =
-    (Reached edges counts closed at) × (length room ≡ 4096) × (Due (sheetOf levels frame asked) sent (leftOf levels frame v edges counts closed at))
-    × (sent + length (leftOf levels frame v edges counts closed at) ≡ sent₀ + length (textOf levels frame v (linesFrom edges counts closed)))
+    (Reached edges counts closed at) × (length room ≡ 4096)
+    × (Due (sheetOf levels frame asked) sent (leftOf levels frame v edges counts closed at))
+    × (sent + length (leftOf levels frame v edges counts closed at)
+    ≡ sent₀ + length (textOf levels frame v (linesFrom edges counts closed)))
 
 abbrev μ-loop : tie.MeasureT-loop
 μ-loop levels frame asked v edges counts closed sent₀ room₀ at₀ sent room at =
@@ -42,8 +39,14 @@ loop-holds : tie.Need-loop-holds Inv-loop μ-loop
 loop-holds c =
     let s = c .before .before .before .before .before .before .before in
     let a = s .args in
-    let e = left-first (now (a .levels)) (a .frame) (a .v) (now (a .edges)) (now (a .counts)) (now (a .closed)) (c .first .result) (c .first .ensures) in (
-      reached-first (now (a .levels)) (a .frame) (a .v) (now (a .edges)) (now (a .counts)) (now (a .closed)) (s .pre .1 .0 .summed) (c .first .result) (c .first .ensures),
+    let from = c .first in
+    let e =
+    left-first (now (a .levels)) (a .frame) (a .v) (now (a .edges)) (now (a .counts)) (now (a .closed)) (from .result)
+    (from .ensures) in (
+      reached-first (now (a .levels)) (a .frame) (a .v) (now (a .edges)) (now (a .counts)) (now (a .closed))
+          (s .pre .1 .0 .summed)
+          (from .result)
+          (from .ensures),
       sym (c .before .buffer .ensures),
       rw e (s .pre .1 .1),
       rw e refl,
@@ -53,31 +56,43 @@ slice-aggregate-print-part : tie.Need-slice-aggregate-print-part Inv-loop μ-loo
 slice-aggregate-print-part c = search needs
 
 print-part-requires : tie.Need-print-part-requires Inv-loop μ-loop
-print-part-requires c κs = (c .before .before .before .before .before .before .before .before .before .before .before .pre .1 .0, c .before .before .before .loop .inv .0)
+print-part-requires c κs =
+    let loop = c .before .before .before in
+    (loop .before .before .before .before .before .before .before .before .pre .1 .0, loop .loop .inv .0)
 
 array-share-prefix-room : tie.Need-array-share-prefix-room Inv-loop μ-loop
 array-share-prefix-room c = let e = c .before .before .print-part .ensures in omega (arith, e .fits, e .long)
 
 slice-aggregate-written : tie.Need-slice-aggregate-written Inv-loop μ-loop
-slice-aggregate-written c = let e = c .before .before .before .print-part .ensures in sym (length-take-le _ _ (omega (arith, e .fits, e .long)))
+slice-aggregate-written c =
+    let e = c .before .before .before .print-part .ensures in
+    sym (length-take-le _ _ (omega (arith, e .fits, e .long)))
 
 written-requires : tie.Need-written-requires Inv-loop μ-loop
 written-requires c κs =
-    let s = c .before .before .before .before .before .before .before .before .before .before .before .before .before .before .before in
+    let part = c .before .before .before in
+    let loop = part .before .before .before .before in
+    let s = loop .before .before .before .before .before .before .before .before in
     let a = s .args in
-    let p = c .before .before .before .print-part in
-    let e = p .ensures in
-    (s .pre .0, due-front (take (p .result .size) (p .last .1 .1 .1 .1 .1 .1 .1 .0)) (leftOf (now (a .levels)) (a .frame) (a .v) (now (a .edges)) (now (a .counts)) (now (a .closed)) (p .result .next)) (rw (e .joined) at (c .before .before .before .before .before .before .before .loop .inv .2)))
+    let p = part .print-part in
+    let bytes = take (p .result .size) (p .last .1 .1 .1 .1 .1 .1 .1 .0) in
+    let left =
+    leftOf (now (a .levels)) (a .frame) (a .v) (now (a .edges)) (now (a .counts)) (now (a .closed)) (p .result .next) in
+    (s .pre .0, due-front bytes left (rw (p .ensures .joined) at (loop .loop .inv .2)))
 
 loop-less : tie.Need-loop-less Inv-loop μ-loop
 loop-less c =
-    let a = c .before .before .before .before .before .before .before .before .before .before .before .before .before .before .before .before .before .args in
-    let p = c .before .before .before .before .before .print-part in
+    let part = c .before .before .before .before .before in
+    let loop = part .before .before .before .before in
+    let a = loop .before .before .before .before .before .before .before .before .args in
+    let p = part .print-part in
     let e = p .ensures in
-    let l = c .before .before .before .before .before .before .before .before .before .loop in
+    let l = loop .loop in
     let bytes = take (p .result .size) (p .last .1 .1 .1 .1 .1 .1 .1 .0) in
-    let left = leftOf (now (a .levels)) (a .frame) (a .v) (now (a .edges)) (now (a .counts)) (now (a .closed)) (p .result .next) in
-    let n : length bytes ≡ p .result .size = length-take-le (p .result .size) (p .last .1 .1 .1 .1 .1 .1 .1 .0) (omega (arith, e .fits, e .long)) in
+    let left =
+    leftOf (now (a .levels)) (a .frame) (a .v) (now (a .edges)) (now (a .counts)) (now (a .closed)) (p .result .next) in
+    let n : length bytes ≡ p .result .size =
+    length-take-le (p .result .size) (p .last .1 .1 .1 .1 .1 .1 .1 .0) (omega (arith, e .fits, e .long)) in
     ⊎-elim
     (λ ended. omega (arith, ap length (e .joined), length-append bytes left, n))
     (λ full. omega (
@@ -86,18 +101,23 @@ loop-less c =
       length-append bytes left,
       n,
       l .inv .1,
-      piece-short (now (a .levels)) (a .frame) (a .v) (now (a .edges)) (now (a .counts)) (now (a .closed)) (p .result .next),
+      piece-short (now (a .levels)) (a .frame) (a .v) (now (a .edges)) (now (a .counts)) (now (a .closed))
+          (p .result .next),
     ))
     (e .stopped)
 
 loop-again : tie.Need-loop-again Inv-loop μ-loop
 loop-again c =
-    let a = c .before .before .before .before .before .before .before .before .before .before .before .before .before .before .before .before .before .args in
-    let p = c .before .before .before .before .before .print-part in
+    let part = c .before .before .before .before .before in
+    let loop = part .before .before .before .before in
+    let a = loop .before .before .before .before .before .before .before .before .args in
+    let p = part .print-part in
     let e = p .ensures in
-    let l = c .before .before .before .before .before .before .before .before .before .loop in
+    let l = loop .loop in
     let bytes = take (p .result .size) (p .last .1 .1 .1 .1 .1 .1 .1 .0) in
-    let left = leftOf (now (a .levels)) (a .frame) (a .v) (now (a .edges)) (now (a .counts)) (now (a .closed)) (p .result .next) in (
+    let left =
+    leftOf (now (a .levels)) (a .frame) (a .v) (now (a .edges)) (now (a .counts)) (now (a .closed))
+    (p .result .next) in (
       e .reached,
       omega (arith, e .long, l .inv .1),
       rw (c .before .written .ensures) (due-rest bytes left (rw (e .joined) at (l .inv .2))),
@@ -106,9 +126,13 @@ loop-again c =
 
 returns : tie.Need-returns Inv-loop μ-loop
 returns c =
-    let a = c .before .before .before .before .before .before .before .before .before .before .args in
-    let l = c .before .before .loop in
-    omega (arith, l .inv .3, ap length (left-end (now (a .levels)) (a .frame) (a .v) (now (a .edges)) (now (a .counts)) (now (a .closed)) (l .at) (omega arith)))
+    let loop = c .before .before in
+    let a = loop .before .before .before .before .before .before .before .before .args in
+    let l = loop .loop in
+    let none =
+    left-end (now (a .levels)) (a .frame) (a .v) (now (a .edges)) (now (a .counts)) (now (a .closed)) (l .at)
+    (omega arith) in
+    omega (arith, l .inv .3, ap length none)
 
 pub parts-spec : {M : Type 1} → statement M
 parts-spec =

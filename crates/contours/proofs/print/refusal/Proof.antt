@@ -3,9 +3,6 @@ use Rattle.contours_steps.proofs.Answers.{answered-refusal}
 use borrow.Author.Needs.{needs}
 use Rattle.contours.proofs.print.refusal.Statement.{statement}
 use Rattle.contours.proofs.print.refusal.Tie as tie
-use Rattle.contours.proofs.print.refusal.Reads as reads
-use Rattle.contours.proofs.print.refusal.Lts as lts
-use Rattle.contours.proofs.print.refused.Reads as refused-reads
 
 refused-requires : tie.Need-refused-requires
 refused-requires c κs = let s = c .before .before in answered-refusal (s .pre .0) (s .pre .1)

@@ -1,4 +1,5 @@
--- `contours::print::refused` meets what its write asks for: the line stands at the front of the buffer. Assumes nothing.
+-- `contours::print::refused` meets what its write asks for: the line stands at the front of the buffer. Assumes
+-- nothing.
 use mathlib.Core.Path.{sym}
 use native.Mathlib.Omega.{arith}
 use lib.Seq.{length-take-le}
@@ -6,10 +7,6 @@ use Rattle.room.proofs.Laws.{wrote-front, wrote-fits}
 use borrow.Author.Needs.{needs}
 use Rattle.contours.proofs.print.refused.Statement.{statement}
 use Rattle.contours.proofs.print.refused.Tie as tie
-use Rattle.contours.proofs.print.refused.Reads as reads
-use Rattle.contours.proofs.print.refused.Lts as lts
-use Rattle.contours.proofs.print.write.Reads as write-reads
-use Rattle.contours_steps.proofs.core.put.put_refused.Reads as put-refused-reads
 
 slice-aggregate-put-refused : tie.Need-slice-aggregate-put-refused
 slice-aggregate-put-refused c = search needs
@@ -24,7 +21,9 @@ slice-aggregate-write : tie.Need-slice-aggregate-write
 slice-aggregate-write c = sym (length-take-le _ _ (wrote-fits (c .before .before .put-refused .ensures)))
 
 write-requires : tie.Need-write-requires
-write-requires c κs = rw (wrote-front (c .before .before .put-refused .ensures)) (c .before .before .before .before .before .before .pre)
+write-requires c κs =
+    rw (wrote-front (c .before .before .put-refused .ensures))
+    (c .before .before .before .before .before .before .pre)
 
 returns : tie.Need-returns
 returns c = search needs

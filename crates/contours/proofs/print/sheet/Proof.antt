@@ -3,10 +3,6 @@ use Rattle.contours_steps.proofs.Drawings.{drawable}
 use borrow.Author.Needs.{needs}
 use Rattle.contours.proofs.print.sheet.Statement.{statement}
 use Rattle.contours.proofs.print.sheet.Tie as tie
-use Rattle.contours.proofs.print.sheet.Reads as reads
-use Rattle.contours.proofs.print.sheet.Lts as lts
-use Rattle.contours.proofs.print.ended.Reads as ended-reads
-use Rattle.contours.proofs.print.lines.Reads as lines-reads
 
 lines-requires : tie.Need-lines-requires
 lines-requires c κs = drawable (c .before .before .before .before .pre .1)

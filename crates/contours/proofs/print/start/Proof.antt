@@ -9,10 +9,6 @@ use Rattle.room.proofs.Laws.{wrote-front, wrote-fits}
 use borrow.Author.Needs.{needs}
 use Rattle.contours.proofs.print.start.Statement.{statement}
 use Rattle.contours.proofs.print.start.Tie as tie
-use Rattle.contours.proofs.print.start.Reads as reads
-use Rattle.contours.proofs.print.start.Lts as lts
-use Rattle.contours.proofs.print.written.Reads as written-reads
-use Rattle.contours_steps.proofs.core.put.put_start.Reads as put-start-reads
 
 slice-aggregate-put-start : tie.Need-slice-aggregate-put-start
 slice-aggregate-put-start c = search needs
@@ -24,7 +20,9 @@ shared-slice-read-put-start : tie.Need-shared-slice-read-put-start
 shared-slice-read-put-start c = search needs
 
 put-start-requires : tie.Need-put-start-requires
-put-start-requires c κs = let s = c .before .before .before .before in (omega (arith, s .pre .0 .most (s .args .i) (s .pre .1 .0)), omega arith)
+put-start-requires c κs =
+    let s = c .before .before .before .before in
+    (omega (arith, s .pre .0 .most (s .args .i) (s .pre .1 .0)), omega arith)
 
 array-share-prefix-room : tie.Need-array-share-prefix-room
 array-share-prefix-room c = wrote-fits (c .before .before .put-start .ensures)
@@ -33,10 +31,17 @@ slice-aggregate-written : tie.Need-slice-aggregate-written
 slice-aggregate-written c = sym (length-take-le _ _ (wrote-fits (c .before .before .before .put-start .ensures)))
 
 written-requires : tie.Need-written-requires
-written-requires c κs = let s = c .before .before .before .before .before .before .before .before in (s .pre .0, rw (wrote-front (c .before .before .before .put-start .ensures)) (s .pre .1 .1))
+written-requires c κs =
+    let put = c .before .before .before in
+    let s = put .before .before .before .before .before in
+    (s .pre .0, rw (wrote-front (put .put-start .ensures)) (s .pre .1 .1))
 
 returns : tie.Need-returns
-returns c = let s = c .before .before .before .before .before .before .before .before .before in c .written .ensures ∙ ap (λ (t : List ℕ). s .args .sent .now + length t) (wrote-front (c .before .before .before .before .put-start .ensures))
+returns c =
+    let put = c .before .before .before .before in
+    let s = put .before .before .before .before .before in
+    c .written .ensures
+    ∙ ap (λ (t : List ℕ). s .args .sent .now + length t) (wrote-front (put .put-start .ensures))
 
 pub start-spec : {M : Type 1} → statement M
 start-spec =

@@ -5,15 +5,14 @@ use Rattle.contours_steps.proofs.Short.{sheet-short}
 use borrow.Author.Needs.{needs}
 use Rattle.contours.proofs.print.written.Statement.{statement}
 use Rattle.contours.proofs.print.written.Tie as tie
-use Rattle.contours.proofs.print.written.Reads as reads
-use Rattle.contours.proofs.print.written.Lts as lts
-use Rattle.io.proofs.write_all.Reads as write-all-reads
 
 write-all-requires : tie.Need-write-all-requires
 write-all-requires c κs = search needs
 
 add-sent : tie.Need-add-sent
-add-sent c = let s = c .before .before .before .before .before in omega (arith, due-within (s .pre .1), sheet-short (s .pre .0))
+add-sent c =
+    let s = c .before .before .before .before .before in
+    omega (arith, due-within (s .pre .1), sheet-short (s .pre .0))
 
 returns : tie.Need-returns
 returns c = search needs

@@ -1,40 +1,44 @@
--- `contours_steps::words::take_word` meets its contract: no level, one that is stored, or one past the room. Assumes nothing.
+-- `contours_steps::words::take_word` meets its contract: no level, one that is stored, or one past the room.
+-- Assumes nothing.
 use native.Mathlib.Omega.{arith}
 use Rattle.contours_steps.proofs.Gathering.{word-none, word-stored, word-passed}
 use borrow.Author.Needs.{needs}
 use Rattle.contours_steps.proofs.words.take_word.Statement.{statement}
 use Rattle.contours_steps.proofs.words.take_word.Tie as tie
-use Rattle.contours_steps.proofs.words.take_word.Reads as reads
-use Rattle.contours_steps.proofs.words.take_word.Lts as lts
-use Rattle.contours_steps.proofs.words.contour_of.Reads as contour-of-reads
 
--- src/words.rt:40:9
 contour-of-requires : tie.Need-contour-of-requires
 contour-of-requires c κs = search needs
 
--- src/words.rt:42:9
 returns : tie.Need-returns
-returns c = let a = c .before .before .before .before .args in word-none (a .asked .now) (a .place) (a .word .now) (c .before .contour-of .result) (c .before .contour-of .ensures) (c .if1 .taken)
+returns c =
+    let read = c .before in
+    let a = read .before .before .before .args in
+    word-none (a .asked .now) (a .place) (a .word .now) (read .contour-of .result) (read .contour-of .ensures)
+    (c .if1 .taken)
 
--- src/words.rt:45:9
 mul-asked : tie.Need-mul-asked
 mul-asked c = search needs
 
--- src/words.rt:45:9
 slice-write-asked : tie.Need-slice-write-asked
 slice-write-asked c = search needs
 
--- src/words.rt:37:1
 same-length : tie.Need-same-length
 same-length c = search needs
 
--- src/words.rt:37:1
 returns-2 : tie.Need-returns-2
-returns-2 c = let a = c .before .before .before .before .before .args in word-stored (a .asked .now) (a .place) (a .word .now) (c .before .before .contour-of .result) (c .before .before .contour-of .ensures) (c .before .if1 .left)
+returns-2 c =
+    let read = c .before .before in
+    let a = read .before .before .before .args in
+    word-stored (a .asked .now) (a .place) (a .word .now) (read .contour-of .result) (read .contour-of .ensures)
+    (c .before .if1 .left)
 
--- src/words.rt:37:1
 returns-3 : tie.Need-returns-3
-returns-3 c = let a = c .before .before .before .before .before .args in word-passed (a .asked .now) (a .place) (a .word .now) (c .before .before .contour-of .result) (c .before .before .contour-of .ensures) (c .before .if1 .left) (omega arith)
+returns-3 c =
+    let read = c .before .before in
+    let a = read .before .before .before .args in
+    word-passed (a .asked .now) (a .place) (a .word .now) (read .contour-of .result) (read .contour-of .ensures)
+    (c .before .if1 .left)
+    (omega arith)
 
 pub take-word-spec : {M : Type 1} → statement M
 take-word-spec =

@@ -4,24 +4,22 @@ use borrow.Author.Tests.{not-true, not-false}
 use Rattle.contours_steps.proofs.Gathering.{refusal-none, refusal-unfit, refusal-many, refusal-fine}
 use Rattle.contours_steps.proofs.words.words_refusal.Statement.{statement}
 use Rattle.contours_steps.proofs.words.words_refusal.Tie as tie
-use Rattle.contours_steps.proofs.words.words_refusal.Reads as reads
-use Rattle.contours_steps.proofs.words.words_refusal.Lts as lts
 
--- src/words.rt:55:9
 returns : tie.Need-returns
 returns c = refusal-none (c .before .before .args .given) (omega arith)
 
--- src/words.rt:59:9
 returns-2 : tie.Need-returns-2
 returns-2 c = refusal-unfit (c .before .before .before .args .given) (omega arith) (not-true _ (c .if2 .taken))
 
--- src/words.rt:62:9
 returns-3 : tie.Need-returns-3
-returns-3 c = refusal-many (c .before .before .before .before .before .args .given) (omega arith) (not-false _ (c .before .before .if2 .left)) (omega arith)
+returns-3 c =
+    let fit = c .before .before in
+    refusal-many (fit .before .before .before .args .given) (omega arith) (not-false _ (fit .if2 .left)) (omega arith)
 
--- src/words.rt:51:1
 returns-4 : tie.Need-returns-4
-returns-4 c = refusal-fine (c .before .before .before .before .before .args .given) (omega arith) (not-false _ (c .before .before .if2 .left)) (omega arith)
+returns-4 c =
+    let fit = c .before .before in
+    refusal-fine (fit .before .before .before .args .given) (omega arith) (not-false _ (fit .if2 .left)) (omega arith)
 
 pub words-refusal-spec : {M : Type 1} → statement M
 words-refusal-spec = tie.close (tie.spec returns returns-2 returns-3 returns-4)

@@ -1,13 +1,13 @@
--- `okubinrafo::loads::okubinrafo_load` meets its contract: a refusal, no room, or the 39 numbers. Assumes nothing.
+-- `okubinrafo::loads::okubinrafo_load` meets its contract: a refusal, no room, or the numbers. Assumes nothing.
 use mathlib.Core.Path.{_≡_, sym, ap, _∙_}
 use native.Mathlib.Omega.{arith}
 use lib.ListN.{length}
 use Rattle.book_rules.specs.Columns.{bookOf}
 use Rattle.load_rules.specs.declared.Load.{Load}
 use Rattle.load_rules.specs.Load.{bookLoad}
-use Rattle.mapping.specs.Many.{over}
-use Rattle.okubinrafo.specs.Loads.{loadNumbers}
-use Rattle.okubinrafo.proofs.Answers.{refuse, lack, write}
+use Rattle.room.specs.Room.{front}
+use Rattle.okubinrafo.specs.Loads.{loadNumbers, loadSize}
+use Rattle.room.proofs.Answers.{refuse, lack, write}
 use Rattle.okubinrafo.proofs.Numbers.{length-load}
 use borrow.Author.Needs.{needs}
 use Rattle.okubinrafo.proofs.loads.okubinrafo_load.Statement.{statement}
@@ -16,11 +16,11 @@ use Rattle.okubinrafo.proofs.loads.okubinrafo_load.Tie as tie
 abbrev start : tie.After-load-at → tie.Start
 start c = c .before .before .before .before .before .before
 
--- the load of the book, and its 39 numbers
+-- the load of the book, and its numbers
 abbrev the-load : tie.Start → Load
 the-load s = bookLoad (s .args .points) (s .args .point) (bookOf (s .args .identities .now) (s .args .groups .now) (s .args .marks .now) (s .args .levels .now)) (s .args .days)
 
-long : (s : tie.Start) → length (loadNumbers (the-load s)) ≡ 39
+long : (s : tie.Start) → length (loadNumbers (the-load s)) ≡ loadSize
 long s = length-load (s .args .points) (s .args .point) (bookOf (s .args .identities .now) (s .args .groups .now) (s .args .marks .now) (s .args .levels .now)) (s .args .days)
 
 -- past the first test it is not refused
@@ -48,7 +48,7 @@ returns-3 c =
     let tested = put .before .before .before in
     let s = start (tested .before .before) in
     write (fine (tested .before)) (omega (arith, long s, tested .if2 .left))
-    (put .put-numbers .ensures ∙ ap (λ (l : Load). over (s .args .answer .now) (loadNumbers l)) (tested .before .before .load-at .ensures))
+    (put .put-numbers .ensures ∙ ap (λ (l : Load). front (loadNumbers l) (s .args .answer .now)) (tested .before .before .load-at .ensures))
 
 pub okubinrafo-load-spec : {M : Type 1} → statement M
 okubinrafo-load-spec =

@@ -1,7 +1,7 @@
 -- `okubinrafo::loads::put_number` meets its contract. Assumes nothing.
 use mathlib.Core.Path.{refl}
 use mathlib.Core.List.{[], _∷_}
-use Rattle.okubinrafo.proofs.Answers.{front-sets, lack, write}
+use Rattle.room.proofs.Answers.{front-sets, lack, write}
 use borrow.Author.Needs.{needs}
 use Rattle.okubinrafo.proofs.loads.put_number.Statement.{statement}
 use Rattle.okubinrafo.proofs.loads.put_number.Tie as tie
@@ -16,7 +16,9 @@ same-length : tie.Need-same-length
 same-length c = search needs
 
 returns-2 : tie.Need-returns-2
-returns-2 c = write refl (c .if1 .left) (front-sets (c .before .args .n ∷ []) (c .before .args .room .now) (c .if1 .left))
+returns-2 c =
+    let a = c .before .args in
+    write refl (c .if1 .left) (front-sets (a .n ∷ []) (a .room .now) (c .if1 .left))
 
 pub put-number-spec : {M : Type 1} → statement M
 put-number-spec = tie.close (tie.spec returns slice-write-room same-length returns-2)

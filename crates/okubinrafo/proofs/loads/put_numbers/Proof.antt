@@ -1,22 +1,24 @@
--- `okubinrafo::loads::put_numbers` meets its contract. The invariant: the first k numbers stand at the front. Assumes nothing.
+-- `okubinrafo::loads::put_numbers` meets its contract. The invariant: the first k numbers stand at the front.
+-- Assumes nothing.
 use Prim.Native.Nat.{_-_, _≤_}
 use mathlib.Core.Path.{_≡_, refl, ap, _∙_}
 use mathlib.Core.List.{_++_}
 use native.Mathlib.Omega.{arith}
 use lib.ListN.{length, take, drop, length-set}
 use lib.Seq.{take-length}
-use Rattle.mapping.specs.Many.{over}
-use Rattle.okubinrafo.specs.Loads.{numbersFrom}
+use Rattle.okubinrafo.specs.Loads.{loadSize, numbersFrom}
 use Rattle.okubinrafo.proofs.Numbers.{copy-more, length-numbers}
 use borrow.Author.Needs.{needs}
 use Rattle.okubinrafo.proofs.loads.put_numbers.Statement.{statement}
 use Rattle.okubinrafo.proofs.loads.put_numbers.Tie as tie
 
 abbrev Inv-loop : tie.InvT-loop
-Inv-loop total level counts answer₀ k₀ answer k = (k ≤ 39) × ((length answer ≡ length answer₀) × (answer ≡ take k (numbersFrom total level counts) ++ drop k answer₀))
+Inv-loop total level counts answer₀ k₀ answer k =
+    (k ≤ loadSize)
+    × ((length answer ≡ length answer₀) × (answer ≡ take k (numbersFrom total level counts) ++ drop k answer₀))
 
 abbrev μ-loop : tie.MeasureT-loop
-μ-loop total level counts answer₀ k₀ answer k = 39 - k
+μ-loop total level counts answer₀ k₀ answer k = loadSize - k
 
 loop-holds : tie.Need-loop-holds Inv-loop μ-loop
 loop-holds c = (omega arith, (refl, refl))
@@ -45,7 +47,8 @@ loop-again c =
       omega arith,
       (
         length-set (l .answer) _ _ ∙ l .inv .1 .0,
-        rw (c .number-at .ensures, l .inv .1 .1) (copy-more (a .answer .now) numbers (l .k) (omega arith) (omega arith)),
+        rw (c .number-at .ensures, l .inv .1 .1)
+            (copy-more (a .answer .now) numbers (l .k) (omega arith) (omega arith)),
       ),
     )
 
@@ -53,14 +56,15 @@ same-length : tie.Need-same-length Inv-loop μ-loop
 same-length c = search needs
 
 returns : tie.Need-returns Inv-loop μ-loop
-unfolding over
 returns c =
     let l = c .before .loop in
     let a = c .before .before .before .args in
     let numbers = numbersFrom (a .total) (a .level) (a .counts) in
     let long = length-numbers (a .total) (a .level) (a .counts) (omega arith) in
     let last : l .k ≡ length numbers = omega arith in
-    l .inv .1 .1 ∙ ap (λ j. take j numbers ++ drop j (a .answer .now)) last ∙ ap (λ t. t ++ drop (length numbers) (a .answer .now)) (take-length numbers)
+    l .inv .1 .1
+    ∙ ap (λ j. take j numbers ++ drop j (a .answer .now)) last
+    ∙ ap (λ t. t ++ drop (length numbers) (a .answer .now)) (take-length numbers)
 
 pub put-numbers-spec : {M : Type 1} → statement M
 put-numbers-spec =

@@ -1,5 +1,6 @@
--- `okubinrafo::rows::okubinrafo_read_row` meets its contract: no room for the fields, a refusal, or a row. Assumes nothing.
-use Rattle.okubinrafo.proofs.Answers.{short-first}
+-- `okubinrafo::rows::okubinrafo_read_row` meets its contract: no room for the fields, a refusal, or a row.
+-- Assumes nothing.
+use Rattle.room.proofs.Answers.{short-first}
 use Rattle.okubinrafo.proofs.Lines.{row-refused, row-read}
 use borrow.Author.Needs.{needs}
 use Rattle.okubinrafo.proofs.rows.okubinrafo_read_row.Statement.{statement}
@@ -42,7 +43,8 @@ returns-3 c =
     let stored = c .before .before in
     let matched = stored .before .before .before in
     let read = matched .before .before .before .before in
-    row-read _ _ _ (read .read-row .ensures) _ (read .before .before .if1 .left) (matched .read2 .given .1) (stored .put-fields .ensures)
+    row-read _ _ _ (read .read-row .ensures) _ (read .before .before .if1 .left) (matched .read2 .given .1)
+    (stored .put-fields .ensures)
 
 pub okubinrafo-read-row-spec : {M : Type 1} → statement M
 okubinrafo-read-row-spec =

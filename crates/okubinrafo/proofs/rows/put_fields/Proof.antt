@@ -2,7 +2,7 @@
 use native.Mathlib.Omega.{arith}
 use lib.ListN.{length-set}
 use Rattle.register.specs.Row.{fieldList}
-use Rattle.okubinrafo.proofs.Answers.{front-sets}
+use Rattle.room.proofs.Answers.{front-sets}
 use borrow.Author.Needs.{needs}
 use Rattle.okubinrafo.proofs.rows.put_fields.Statement.{statement}
 use Rattle.okubinrafo.proofs.rows.put_fields.Tie as tie

@@ -1,0 +1,98 @@
+-- The sentences, tested one by one: each says what its number is about, is plain and is short. Assumes nothing.
+use Prim.Native.Nat.{ℕ, zero, suc, _+_, _≤_, _<_}
+use mathlib.Core.Path.{_≡_, refl, sym, ap}
+use mathlib.Core.Bool.{Bool, true, false, not, _&&_}
+use mathlib.Core.List.{List, []}
+use native.Mathlib.Omega.{arith}
+use borrow.Author.Tests.{not-true, ltb-true, ltb-false, leb-true}
+use lib.Dec.{eqb, leb, ltb}
+use lib.ListN.{length, getD, List·getD-eq-default}
+use Rattle.refusal.proofs.Laws.{and-left, and-right}
+use Rattle.text.specs.Index.{every}
+use Rattle.text.specs.Same.{sameText}
+use Rattle.text.proofs.Digits.{either}
+use Rattle.text.proofs.Indices.{every-each}
+use Rattle.sentence.specs.Sentence.{sentences, sentenceOf, maxSentence}
+use Rattle.sentence.specs.Told.{maxRefusal, subjects, says, EachSays}
+
+agree : Bool → Bool → Bool
+agree true b = b
+agree false b = not b
+
+agreed : (a b : Bool) → agree a b ≡ true → a ≡ b
+unfolding agree
+agreed true b e = sym e
+agreed false b e = sym (not-true b e)
+
+-- What each number is about
+
+said : (other number : ℕ) → Bool
+said other number = says (sentenceOf other) (getD subjects number [])
+
+subject-test : (other k : ℕ) → Bool
+subject-test other k = agree (said other (suc k)) (eqb (suc k) other)
+
+subjects-test : ℕ → Bool
+subjects-test other = every (subject-test other) 17
+
+all-subjects : every subjects-test 18 ≡ true
+unfolding every subjects-test subject-test said agree says sameText sentenceOf sentences subjects
+all-subjects = refl
+
+each-subject : (number other : ℕ) → 1 ≤ number → number ≤ maxRefusal → other ≤ maxRefusal
+    → says (sentenceOf other) (getD subjects number []) ≡ eqb number other
+unfolding subjects-test subject-test said
+each-subject zero other low high o = absurd (omega arith)
+each-subject (suc k) other low high o =
+    let tests = every-each subjects-test other 18 (omega arith) all-subjects in
+    agreed (said other (suc k)) (eqb (suc k) other) (every-each (subject-test other) k 17 (omega arith) tests)
+
+-- Plain and short
+
+plain-byte : ℕ → Bool
+plain-byte b = leb 32 b && leb b 126
+
+plain-test : ℕ → Bool
+plain-test number = every (λ i. plain-byte (getD (sentenceOf number) i 0)) (length (sentenceOf number))
+
+all-plain : every plain-test 18 ≡ true
+unfolding every plain-test plain-byte sentenceOf sentences
+all-plain = refl
+
+short-test : ℕ → Bool
+short-test number = leb (length (sentenceOf number)) maxSentence
+
+all-short : every short-test 18 ≡ true
+unfolding every short-test sentenceOf sentences
+all-short = refl
+
+pub past-all : (number : ℕ) → maxRefusal < number → sentenceOf number ≡ []
+unfolding sentenceOf sentences
+past-all number h =
+    let beyond : length sentences ≤ number = omega arith in
+    List·getD-eq-default sentences [] beyond
+
+pub each-short : (number : ℕ) → length (sentenceOf number) ≤ maxSentence
+unfolding short-test
+each-short number =
+    either (ltb number 18)
+    (λ h. leb-true (length (sentenceOf number)) maxSentence (every-each short-test number 18 (ltb-true number 18 h) all-short))
+    (λ h. let none = past-all number (omega (arith, ltb-false number 18 h)) in rw none (omega arith))
+
+each-plain : (number i : ℕ) → i < length (sentenceOf number)
+    → (32 ≤ getD (sentenceOf number) i 0) × (getD (sentenceOf number) i 0 ≤ 126)
+unfolding plain-test plain-byte
+each-plain number i h =
+    either (ltb number 18)
+    (λ low.
+    let b = getD (sentenceOf number) i 0 in
+    let tests = every-each plain-test number 18 (ltb-true number 18 low) all-plain in
+    let plain = every-each (λ j. plain-byte (getD (sentenceOf number) j 0)) i (length (sentenceOf number)) h tests in
+    (leb-true 32 b (and-left (leb 32 b) (leb b 126) plain), leb-true b 126 (and-right (leb 32 b) (leb b 126) plain)))
+    (λ high.
+    let none = ap length (past-all number (omega (arith, ltb-false number 18 high))) in
+    absurd (omega arith))
+
+pub each-says : EachSays
+unfolding sentenceOf sentences
+each-says = record { subject = each-subject; plain = each-plain; short = each-short; none = refl; past = past-all }

@@ -1,0 +1,53 @@
+-- What a person may count on in the sentences of refusals. Assumes nothing.
+use Prim.Native.Nat.{ℕ, _≤_, _<_}
+use mathlib.Core.Path.{_≡_}
+use mathlib.Core.Bool.{Bool, false, cond, true}
+use mathlib.Core.List.{List, [], _∷_}
+use lib.Dec.{eqb}
+use lib.ListN.{length, getD, take}
+use Rattle.text.specs.Same.{sameText}
+use Rattle.text.specs.Spelled.{bytes}
+use Rattle.sentence.specs.Sentence.{sentenceOf, maxSentence}
+
+-- the largest refusal number in use
+abbrev pub maxRefusal : ℕ
+maxRefusal = 17
+
+-- what each refusal is about, from 0, which is none
+unfoldable pub subjects : List (List ℕ)
+subjects =
+    []
+    ∷ bytes "type, kind, time or mass"
+    ∷ bytes "150 kg"
+    ∷ bytes "1 to 99,999"
+    ∷ bytes "already stands"
+    ∷ bytes "does not stand"
+    ∷ bytes "no unused row"
+    ∷ bytes "number of levels"
+    ∷ bytes "taken back"
+    ∷ bytes "not sound"
+    ∷ bytes "none of them has levels"
+    ∷ bytes "1 to 366"
+    ∷ bytes "spacing"
+    ∷ bytes "no-data value"
+    ∷ bytes "room lent"
+    ∷ bytes "a limit is over"
+    ∷ bytes "register"
+    ∷ bytes "CRLF"
+    ∷ []
+
+-- whether a word stands somewhere in a text
+unfoldable pub says : (text word : List ℕ) → Bool
+says [] word = false
+says (c ∷ s) word = cond (sameText (take (length word) (c ∷ s)) word) true (says s word)
+
+-- Each sentence says what its number is about, and no other number's sentence says that; so none can stand for another.
+-- It is plain: characters from the space to the tilde, no line end. Other numbers have none
+pub record EachSays : Type 0 where
+  pub subject : (number other : ℕ) → 1 ≤ number → number ≤ maxRefusal → other ≤ maxRefusal
+      → says (sentenceOf other) (getD subjects number []) ≡ eqb number other
+  pub plain : (number i : ℕ) → i < length (sentenceOf number)
+      → (32 ≤ getD (sentenceOf number) i 0) × (getD (sentenceOf number) i 0 ≤ 126)
+  pub short : (number : ℕ) → length (sentenceOf number) ≤ maxSentence
+  pub none : sentenceOf 0 ≡ []
+  pub past : (number : ℕ) → maxRefusal < number → sentenceOf number ≡ []
