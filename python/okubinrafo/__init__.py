@@ -8,7 +8,7 @@ number. The library is the file that OKUBINRAFO_LIB names, or libokubinrafo.so b
 from .books import DAY, EVENING, HELICOPTER, LANDING, LARGE, NIGHT, SMALL, START, Account, Book, Group, Load
 from .library import LibraryMissing
 from .networks import Contour, Crossing, Network, read_network
-from .refusals import Refused
+from .refusals import Refused, sentence
 from .registers import Limits, Row, read_limits, read_row, write_row
 
 __version__ = "0.2.0"
@@ -16,5 +16,5 @@ __all__ = [
     *("LARGE", "SMALL", "HELICOPTER", "START", "LANDING", "DAY", "EVENING", "NIGHT"),
     *("Account", "Book", "Contour", "Crossing", "Group", "Limits", "Load", "Network", "Row"),
     *("LibraryMissing", "Refused"),
-    *("read_limits", "read_network", "read_row", "write_row"),
+    *("read_limits", "read_network", "read_row", "sentence", "write_row"),
 ]
