@@ -85,6 +85,7 @@ exported! {
         levels: Numbers, levels_len: usize, columns: u32, rows: u32, spacing: u32, west: u32, south: u32,
         text: Text, text_len: usize, size: Room, size_len: usize,
     );
+    fn okubinrafo_sentence(refusal: u32, text: Text, text_len: usize, size: Room, size_len: usize);
 }
 
 #[cfg(test)]

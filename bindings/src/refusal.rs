@@ -1,6 +1,10 @@
 //! Refusals by their numbers and names.
 
+use crate::raw;
 use std::fmt;
+
+/// As long as any sentence.
+const SENTENCE_BYTES: usize = 120;
 
 /// Why a call was refused: a number of the rules (docs/RULES.md, Refusal numbers).
 #[derive(Clone, Copy, Debug, PartialEq, Eq, Hash)]
@@ -46,14 +50,21 @@ impl Refusal {
             number => Err(Refusal(number)),
         }
     }
+
+    /// The sentence for this refusal, in English; empty for a number that is none.
+    pub fn sentence(self) -> String {
+        let (mut text, mut size) = ([0; SENTENCE_BYTES], [0]);
+        let (room, many) = (text.as_mut_ptr(), text.len());
+        // SAFETY: each slice is lent with its own length, and those that are written to are borrowed for that alone.
+        let answer = unsafe { raw::okubinrafo_sentence(self.0, room, many, size.as_mut_ptr(), size.len()) };
+        assert_eq!(answer, 0, "a sentence has {SENTENCE_BYTES} bytes at most");
+        String::from_utf8_lossy(&text[..size[0] as usize]).into_owned()
+    }
 }
 
 impl fmt::Display for Refusal {
     fn fmt(&self, to: &mut fmt::Formatter<'_>) -> fmt::Result {
-        match Refusal::ALL.iter().find(|(_, refusal)| refusal == self) {
-            Some((name, _)) => write!(to, "refused ({}): {}", self.0, name.to_lowercase().replace('_', " ")),
-            None => write!(to, "refused ({})", self.0),
-        }
+        write!(to, "refused ({}): {}", self.0, self.sentence())
     }
 }
 
@@ -77,8 +88,9 @@ mod tests {
     }
 
     #[test]
-    fn a_refusal_says_its_number_and_name() {
-        assert_eq!(Refusal::ALREADY_STANDS.to_string(), "refused (4): already stands");
-        assert_eq!(Refusal(99).to_string(), "refused (99)");
+    fn a_refusal_says_its_number_and_sentence() {
+        assert_eq!(Refusal::ALREADY_STANDS.to_string(), "refused (4): the identity already stands");
+        assert!(Refusal::ALL.iter().all(|(_, refusal)| !refusal.sentence().is_empty()));
+        assert_eq!(Refusal(99).sentence(), "");
     }
 }

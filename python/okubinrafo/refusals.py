@@ -2,6 +2,7 @@
 
 from .library import U8, U32, call
 
+# As long as any sentence.
 _SENTENCE_BYTES = 120
 
 
@@ -26,5 +27,5 @@ def ask(name, *arguments):
 def sentence(number):
     """The sentence for a refusal's number, in English; empty for a number that is no refusal."""
     text, size = (U8 * _SENTENCE_BYTES)(), (U32 * 1)()
-    ask("sentence", number, text, size)
+    call("sentence", number, text, size)
     return bytes(text[: size[0]]).decode("ascii")
