@@ -5,3 +5,4 @@ pub mod Intake
 pub mod Drawing
 pub mod Answer
 pub mod Told
+pub mod Ends
