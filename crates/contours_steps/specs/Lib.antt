@@ -7,3 +7,4 @@ pub mod Answer
 pub mod Told
 pub mod InnerIntake
 pub mod InnerDrawing
+pub mod Ends
