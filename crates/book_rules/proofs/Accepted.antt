@@ -52,7 +52,8 @@ fields-in t k s m e =
 
 pub identity-in : (x : ℕ) → identityFits x ≡ true → (1 ≤ x) × (x ≤ maxIdentity)
 unfolding identityFits
-identity-in x e = (leb-true 1 x (and-left (leb 1 x) (leb x maxIdentity) e), leb-true x maxIdentity (and-right (leb 1 x) (leb x maxIdentity) e))
+identity-in x e =
+    (leb-true 1 x (and-left (leb 1 x) (leb x maxIdentity) e), leb-true x maxIdentity (and-right (leb 1 x) (leb x maxIdentity) e))
 
 pub levels-length : (p : ℕ) (ls : List ℕ) → levelsFit p ls ≡ true → length ls ≡ p
 unfolding levelsFit
@@ -77,7 +78,8 @@ taken-back ids ms x e =
     let r₅ = refuse-none 5 (stands x ids) _ (omega arith) (r₃ .1) in
     record { identity= = r₃ .0; stands= = r₅ .0 }
 
-pub supplied : (p : ℕ) (ids : List ℕ) (x : ℕ) (ls : List ℕ) → supplyRefusal p ids x ls ≡ 0 → Stood ids x × (levelsFit p ls ≡ true)
+pub supplied : (p : ℕ) (ids : List ℕ) (x : ℕ) (ls : List ℕ) → supplyRefusal p ids x ls ≡ 0
+    → Stood ids x × (levelsFit p ls ≡ true)
 unfolding supplyRefusal
 supplied p ids x ls e =
     let r₃ = refuse-none 3 (identityFits x) _ (omega arith) e in
@@ -88,7 +90,8 @@ supplied p ids x ls e =
 -- What a refusal goes by
 
 -- rules 1 and 2 refuse an entry as they refuse its movement
-pub enter-refused : (ids : List ℕ) (x t k s m : ℕ) → (movementRefusal t k s m ≡ 0 → ⊥) → movementRefusal t k s m ≡ enterRefusal ids x t k s m
+pub enter-refused : (ids : List ℕ) (x t k s m : ℕ) → (movementRefusal t k s m ≡ 0 → ⊥)
+    → movementRefusal t k s m ≡ enterRefusal ids x t k s m
 unfolding enterRefusal
 enter-refused ids x t k s m h = rw (ne-eqb (movementRefusal t k s m) 0 h) refl
 
@@ -98,15 +101,18 @@ unfolding enterRefusal
 enter-allowed ids x t k s m e = rw e refl
 
 -- a take back is refused as a withdrawal is, and then for the mark
-pub take-back-mark : (ids ms : List ℕ) (x : ℕ) → withdrawRefusal ids x ≡ 0 → takeBackRefusal ids ms x ≡ refuse 8 (eqb (getD ms (indexOf x ids) 0) 1) 0
+pub take-back-mark : (ids ms : List ℕ) (x : ℕ) → withdrawRefusal ids x ≡ 0
+    → takeBackRefusal ids ms x ≡ refuse 8 (eqb (getD ms (indexOf x ids) 0) 1) 0
 unfolding takeBackRefusal
 take-back-mark ids ms x e = let w = withdrawn ids x e in rw (w .identity=, w .stands=) refl
 
-pub take-back-refused : (ids ms : List ℕ) (x : ℕ) → (withdrawRefusal ids x ≡ 0 → ⊥) → withdrawRefusal ids x ≡ takeBackRefusal ids ms x
+pub take-back-refused : (ids ms : List ℕ) (x : ℕ) → (withdrawRefusal ids x ≡ 0 → ⊥)
+    → withdrawRefusal ids x ≡ takeBackRefusal ids ms x
 unfolding withdrawRefusal takeBackRefusal
 take-back-refused ids ms x h = by (identityFits x) (stands x ids) (refuse 8 (eqb (getD ms (indexOf x ids) 0) 1) 0) h
   where
-    by : (i t : Bool) (rest : ℕ) → (refuse 3 i (refuse 5 t 0) ≡ 0 → ⊥) → refuse 3 i (refuse 5 t 0) ≡ refuse 3 i (refuse 5 t rest)
+    by : (i t : Bool) (rest : ℕ) → (refuse 3 i (refuse 5 t 0) ≡ 0 → ⊥)
+        → refuse 3 i (refuse 5 t 0) ≡ refuse 3 i (refuse 5 t rest)
     by false t rest h = refl
     by true false rest h = refl
     by true true rest h = absurd (h refl)
@@ -144,7 +150,8 @@ keeps {p} {r} {b} {c} s e h =
     record { answer = a; book = sym (after-refused p b c (λ z. h (a ∙ z))) }
 
 -- and one that it accepts if it makes the change
-pub meets : {p : ℕ} {b b′ : Book} {c : Call} → sound p b ≡ true → soundRefusal p b c ≡ 0 → b′ ≡ changed p b c → Called p b c 0 b′
+pub meets : {p : ℕ} {b b′ : Book} {c : Call} → sound p b ≡ true → soundRefusal p b c ≡ 0 → b′ ≡ changed p b c
+    → Called p b c 0 b′
 meets {p} {b} {b′} {c} s e h =
     let a : refusal p b c ≡ 0 = refusal-sound p b c s ∙ e in
     record { answer = sym a; book = h ∙ sym (after-accepted p b c a) }

@@ -1,4 +1,5 @@
--- A column of a list of movements, w values each: what a change at a row does to it. One law for every column. Assumes nothing.
+-- A column of a list of movements, w values each: what a change at a row does to it. One law for every column. Assumes
+-- nothing.
 use mathlib.Core.Path.{_≡_, refl, sym, ap, _∙_}
 use mathlib.Core.List.{List, [], _∷_, _++_, append-assoc}
 use Prim.Native.Nat.{ℕ, zero, suc, _+_, _*_, _≤_, _<_}
@@ -45,15 +46,18 @@ pub without-this : (x : ℕ) (a : Movement) (ms : List Movement) → a .identity
 unfolding without
 without-this x a ms e = rw (eq-eqb (a .identity) x e) refl
 
-pub without-later : (x : ℕ) (a : Movement) (ms : List Movement) → (a .identity ≡ x → ⊥) → without x (a ∷ ms) ≡ a ∷ without x ms
+pub without-later : (x : ℕ) (a : Movement) (ms : List Movement) → (a .identity ≡ x → ⊥)
+    → without x (a ∷ ms) ≡ a ∷ without x ms
 unfolding without
 without-later x a ms e = rw (ne-eqb (a .identity) x e) refl
 
-pub holding-this : (x : ℕ) (h : Held) (a : Movement) (ms : List Movement) → a .identity ≡ x → holding x h (a ∷ ms) ≡ movement (a .identity) (a .group) h ∷ ms
+pub holding-this : (x : ℕ) (h : Held) (a : Movement) (ms : List Movement) → a .identity ≡ x
+    → holding x h (a ∷ ms) ≡ movement (a .identity) (a .group) h ∷ ms
 unfolding holding
 holding-this x h a ms e = rw (eq-eqb (a .identity) x e) refl
 
-pub holding-later : (x : ℕ) (h : Held) (a : Movement) (ms : List Movement) → (a .identity ≡ x → ⊥) → holding x h (a ∷ ms) ≡ a ∷ holding x h ms
+pub holding-later : (x : ℕ) (h : Held) (a : Movement) (ms : List Movement) → (a .identity ≡ x → ⊥)
+    → holding x h (a ∷ ms) ≡ a ∷ holding x h ms
 unfolding holding
 holding-later x h a ms e = rw (ne-eqb (a .identity) x e) refl
 
@@ -84,14 +88,16 @@ module _ (f : Movement → List ℕ) (w : ℕ) where
   pub column-more : (u : ℕ) (ms : List Movement) → column f w (suc u) ms ≡ column f w u ms ++ replicate w 0
   unfolding column
   column-more u [] = ap (λ n. replicate n 0) (suc-mul u w) ∙ sym (replicate-append-replicate (u * w) w 0)
-  column-more u (a ∷ ms) = ap (λ (t : List ℕ). f a ++ t) (column-more u ms) ∙ sym (append-assoc (f a) (column f w u ms) (replicate w 0))
+  column-more u (a ∷ ms) =
+      ap (λ (t : List ℕ). f a ++ t) (column-more u ms) ∙ sym (append-assoc (f a) (column f w u ms) (replicate w 0))
 
 -- the values from n on are changed by r
 abbrev changeAt : ℕ → (List ℕ → List ℕ) → List ℕ → List ℕ
 changeAt n r xs = take n xs ++ r (drop n xs)
 
 -- a change in row k + 1 is one in row k of the rows after the first
-change-block : (r : List ℕ → List ℕ) (w k : ℕ) (v c : List ℕ) → length v ≡ w → changeAt (suc k * w) r (v ++ c) ≡ v ++ changeAt (k * w) r c
+change-block : (r : List ℕ → List ℕ) (w k : ℕ) (v c : List ℕ) → length v ≡ w
+    → changeAt (suc k * w) r (v ++ c) ≡ v ++ changeAt (k * w) r c
 change-block r w k v c e =
     let q : suc k * w ≡ length v + k * w = omega (arith, suc-mul k w) in
     ap (λ n. changeAt n r (v ++ c)) q
@@ -104,7 +110,8 @@ change-first r w c = ap (λ n. changeAt n r c) (zero-mul w)
 
 -- The three changes of a column as such a change
 
-opened-is : (n : ℕ) (vs xs zs : List ℕ) → n ≤ length xs → length zs ≡ length vs → opened n vs (xs ++ zs) ≡ changeAt n (λ t. vs ++ t) xs
+opened-is : (n : ℕ) (vs xs zs : List ℕ) → n ≤ length xs → length zs ≡ length vs
+    → opened n vs (xs ++ zs) ≡ changeAt n (λ t. vs ++ t) xs
 unfolding opened
 opened-is n vs xs zs h e =
     let l = length-take-le n xs h in
@@ -138,20 +145,23 @@ put-is n vs xs =
 
 module _ (f : Movement → List ℕ) (w : ℕ) where
   place-bound : {x k : ℕ} {ms : List Movement} (u : ℕ) → Sized f w ms → Place x ms k → k * w ≤ length (column f w u ms)
-  place-bound {x} {k} {ms} u s h = omega (arith, length-column f w u ms s, mul-le-mul-right w (place-length h), add-mul u (length ms) w)
+  place-bound {x} {k} {ms} u s h =
+      omega (arith, length-column f w u ms s, mul-le-mul-right w (place-length h), add-mul u (length ms) w)
 
   put-in : {k : ℕ} {ms : List Movement} (u : ℕ) (m : Movement) → Sized f w ms → Place (m .identity) ms k
       → changeAt (k * w) (λ t. f m ++ t) (column f w u ms) ≡ column f w u (added m ms)
   unfolding column
   put-in u m s last = change-first (λ t. f m ++ t) w (column f w u []) ∙ ap (column f w u) (sym (added-last m))
-  put-in u m s (here {a} {ms} h) = change-first (λ t. f m ++ t) w (column f w u (a ∷ ms)) ∙ ap (column f w u) (sym (added-here m a ms h))
+  put-in u m s (here {a} {ms} h) =
+      change-first (λ t. f m ++ t) w (column f w u (a ∷ ms)) ∙ ap (column f w u) (sym (added-here m a ms h))
   put-in u m s (there {a} {ms} {k} h r) =
       change-block (λ t. f m ++ t) w k (f a) (column f w u ms) (s .0)
       ∙ ap (λ (t : List ℕ). f a ++ t) (put-in u m (s .1) r)
       ∙ ap (column f w u) (sym (added-there m a ms h))
 
   -- a row goes in, and takes an unused one
-  pub column-in : {n k : ℕ} {ms : List Movement} (u : ℕ) (m : Movement) → n ≡ k * w → length (f m) ≡ w → Sized f w ms → Place (m .identity) ms k
+  pub column-in : {n k : ℕ} {ms : List Movement} (u : ℕ) (m : Movement) → n ≡ k * w → length (f m) ≡ w → Sized f w ms
+      → Place (m .identity) ms k
       → opened n (f m) (column f w (suc u) ms) ≡ column f w u (added m ms)
   column-in {n} {k} {ms} u m e g s h =
       ap (λ i. opened i (f m) (column f w (suc u) ms)) e
@@ -193,15 +203,19 @@ module _ (f : Movement → List ℕ) (w : ℕ) where
       ∙ ap (column f w u) (sym (holding-later x h a ms e))
 
   -- a row's values are replaced
-  pub column-held : {x n k : ℕ} {ms : List Movement} (vs : List ℕ) (u : ℕ) (h : Held) → n ≡ k * w → Sized f w ms → length vs ≡ w
+  pub column-held : {x n k : ℕ} {ms : List Movement} (vs : List ℕ) (u : ℕ) (h : Held) → n ≡ k * w → Sized f w ms
+      → length vs ≡ w
       → ((a : Movement) → f (movement (a .identity) (a .group) h) ≡ vs) → Found x ms k
       → put (column f w u ms) n vs ≡ column f w u (holding x h ms)
   column-held {x} {n} {k} {ms} vs u h e s l g r =
       ap (λ i. put (column f w u ms) i vs) e ∙ put-is (k * w) vs (column f w u ms) ∙ swap-held vs u h s l g r
 
   -- in a column that holds no levels nothing changes
-  pub column-kept : {x k : ℕ} {ms : List Movement} (u : ℕ) (h : Held) → ((a : Movement) → f (movement (a .identity) (a .group) h) ≡ f a) → Found x ms k
+  pub column-kept : {x k : ℕ} {ms : List Movement} (u : ℕ) (h : Held)
+      → ((a : Movement) → f (movement (a .identity) (a .group) h) ≡ f a) → Found x ms k
       → column f w u ms ≡ column f w u (holding x h ms)
   unfolding column
-  column-kept {x} u h g (this {a} {ms} e) = ap (λ (t : List ℕ). t ++ column f w u ms) (sym (g a)) ∙ ap (column f w u) (sym (holding-this x h a ms e))
-  column-kept {x} u h g (later {a} {ms} {k} e r) = ap (λ (t : List ℕ). f a ++ t) (column-kept u h g r) ∙ ap (column f w u) (sym (holding-later x h a ms e))
+  column-kept {x} u h g (this {a} {ms} e) =
+      ap (λ (t : List ℕ). t ++ column f w u ms) (sym (g a)) ∙ ap (column f w u) (sym (holding-this x h a ms e))
+  column-kept {x} u h g (later {a} {ms} {k} e r) =
+      ap (λ (t : List ℕ). f a ++ t) (column-kept u h g r) ∙ ap (column f w u) (sym (holding-later x h a ms e))

@@ -1,4 +1,5 @@
--- Demand 3 for the book: after any calls on an empty book, refused ones included, the columns are the rows of the list of movements that the
+-- Demand 3 for the book: after any calls on an empty book, refused ones included, the columns are the rows of the list
+-- of movements that the
 -- accepted calls define, each call is answered as that list says, and the book stays sound. Assumes nothing.
 use mathlib.Core.Path.{_≡_, refl, sym, ap, subst, _∙_}
 use mathlib.Core.Bool.{Bool, true, false, cond, not, _&&_, _||_, true≢false}
@@ -27,7 +28,8 @@ use Rattle.book_rules.proofs.Steps.{ids, none-zeros, first-cons, first-
 
 stands-is : (x u : ℕ) (ms : List Movement) → 1 ≤ x → stands x (ids u ms) ≡ standing x ms
 unfolding stands standing indexOf column
-stands-is x u [] l = le-ltb _ _ (le-of-eq (length-replicate {A = ℕ} (u * 1) 0 ∙ sym (none-zeros (λ y. eqb y x) (u * 1) (ne-eqb 0 x (omega arith)))))
+stands-is x u [] l =
+    le-ltb _ _ (le-of-eq (length-replicate {A = ℕ} (u * 1) 0 ∙ sym (none-zeros (λ y. eqb y x) (u * 1) (ne-eqb 0 x (omega arith)))))
 stands-is x u (a ∷ ms) l = by (eqb (a .identity) x) refl (stands-is x u ms l)
   where
     at : ℕ → Bool
@@ -47,7 +49,8 @@ unfolding markOf hasLevels
 mark-held none = refl
 mark-held (holds ls) = refl
 
-mark-is : {x k : ℕ} {ms : List Movement} (u : ℕ) → Found x ms k → eqb (getD (column markCell 1 u ms) k 0) 1 ≡ computed x ms
+mark-is : {x k : ℕ} {ms : List Movement} (u : ℕ) → Found x ms k
+    → eqb (getD (column markCell 1 u ms) k 0) 1 ≡ computed x ms
 unfolding column computed
 mark-is {x} u (this {a} {ms} e) = rw (eq-eqb (a .identity) x e) (mark-held (a .held))
 mark-is {x} u (later {a} {ms} e r) = rw (ne-eqb (a .identity) x e) (mark-is u r)
@@ -71,7 +74,8 @@ points-same p q u ms g s =
     let some : 0 < n = omega (arith, f .rows≥, length-ids u ms) in
     sym (mul-div-cancel-left q some) ∙ ap (λ k. k / n) e ∙ mul-div-cancel-left p some
 
-sound-points : (p q u : ℕ) (ms : List Movement) → AllGood p ms → Rising ms → sound q (rowsOf p u ms) ≡ (eqb q p && sizesFit p (u + length ms))
+sound-points : (p q u : ℕ) (ms : List Movement) → AllGood p ms → Rising ms
+    → sound q (rowsOf p u ms) ≡ (eqb q p && sizesFit p (u + length ms))
 sound-points p q u ms g r = by (eqb q p) refl
   where
     never : (t : Bool) → sound q (rowsOf p u ms) ≡ t → (q ≡ p → ⊥) → t ≡ false
@@ -82,7 +86,8 @@ sound-points p q u ms g r = by (eqb q p) refl
     by true e = ap (λ k. sound k (rowsOf p u ms)) (eqb-true q p e) ∙ book-sound p u ms g r
     by false e = never (sound q (rowsOf p u ms)) refl (eqb-false q p e)
 
-sound-by-list : (p u : ℕ) (ms : List Movement) (c : Call) → AllGood p ms → soundRefusal p (rowsOf p u ms) c ≡ standingRefusal p (u + length ms) ms c
+sound-by-list : (p u : ℕ) (ms : List Movement) (c : Call) → AllGood p ms
+    → soundRefusal p (rowsOf p u ms) c ≡ standingRefusal p (u + length ms) ms c
 unfolding soundRefusal enterRefusal supplyRefusal takeBackRefusal withdrawRefusal standingRefusal rowsOf
 sound-by-list p u ms (enter x t k s m) g =
     ap (refusedOr (movementRefusal t k s m))
@@ -107,7 +112,8 @@ pub refusal-by-list : (p u : ℕ) (ms : List Movement) (c : Made) → AllGood p 
 unfolding refusal listRefusal
 refusal-by-list p u ms c g r =
     refuse-same 9 (sound (c .points) (rowsOf p u ms)) (sound-points p (c .points) u ms g r) λ s.
-    ap (λ k. soundRefusal k (rowsOf p u ms) (c .call)) (points-same p (c .points) u ms g s) ∙ sound-by-list p u ms (c .call) g
+    ap (λ k. soundRefusal k (rowsOf p u ms) (c .call)) (points-same p (c .points) u ms g s)
+    ∙ sound-by-list p u ms (c .call) g
 
 -- Any calls
 
@@ -119,7 +125,8 @@ pub record Told (p n : ℕ) (b : Book) (ms : List Movement) : Type 0 where
   pub good : AllGood p ms
   pub rising : Rising ms
 
-pub refusal-told : (p n : ℕ) (b : Book) (ms : List Movement) (c : Made) → Told p n b ms → refusal (c .points) b (c .call) ≡ listRefusal p n ms c
+pub refusal-told : (p n : ℕ) (b : Book) (ms : List Movement) (c : Made) → Told p n b ms
+    → refusal (c .points) b (c .call) ≡ listRefusal p n ms c
 refusal-told p n b ms c t =
     ap (λ (k : Book). refusal (c .points) k (c .call)) (t .rows)
     ∙ refusal-by-list p (t .unused) ms c (t .good) (t .rising)
@@ -138,7 +145,8 @@ told-step p n b ms c t z =
     record {
       unused = s .unused;
       same = s .same ∙ t .same;
-      rows = after-accepted q b (c .call) z ∙ ap (λ i. changed i b (c .call)) k ∙ ap (λ (x : Book). changed p x (c .call)) (t .rows) ∙ s .rows;
+      rows =
+          after-accepted q b (c .call) z ∙ ap (λ i. changed i b (c .call)) k ∙ ap (λ (x : Book). changed p x (c .call)) (t .rows) ∙ s .rows;
       good = s .good;
       rising = s .rising;
     }
@@ -151,15 +159,18 @@ next p n b ms c t = by (eqb (listRefusal p n ms c) 0) refl
     same : refusal (c .points) b (c .call) ≡ listRefusal p n ms c
     same = refusal-told p n b ms c t
 
-    by : (a : Bool) → eqb (listRefusal p n ms c) 0 ≡ a → Told p n (after (c .points) b (c .call)) (cond a (step ms (c .call)) ms)
+    by : (a : Bool) → eqb (listRefusal p n ms c) 0 ≡ a
+        → Told p n (after (c .points) b (c .call)) (cond a (step ms (c .call)) ms)
     by true e = told-step p n b ms c t (same ∙ eqb-true (listRefusal p n ms c) 0 e)
     by false e =
         subst (λ (k : Book). Told p n k ms) (sym (after-refused (c .points) b (c .call) (λ z. eqb-false (listRefusal p n ms c) 0 e (sym same ∙ z)))) t
 
-pub told : (p n : ℕ) (cs : List Made) (b : Book) (ms : List Movement) → Told p n b ms → Told p n (booked b cs) (listOf ms (accepted p n ms cs))
+pub told : (p n : ℕ) (cs : List Made) (b : Book) (ms : List Movement) → Told p n b ms
+    → Told p n (booked b cs) (listOf ms (accepted p n ms cs))
 unfolding booked accepted listOf
 told p n [] b ms t = t
-told p n (c ∷ cs) b ms t = by (eqb (listRefusal p n ms c) 0) (next p n b ms c t) (told p n cs (after (c .points) b (c .call)))
+told p n (c ∷ cs) b ms t =
+    by (eqb (listRefusal p n ms c) 0) (next p n b ms c t) (told p n cs (after (c .points) b (c .call)))
   where
     by : (a : Bool) → Told p n (after (c .points) b (c .call)) (cond a (step ms (c .call)) ms)
         → ((ns : List Movement) → Told p n (after (c .points) b (c .call)) ns → Told p n (booked (after (c .points) b (c .call)) cs) (listOf ns (accepted p n ns cs)))
@@ -168,7 +179,8 @@ told p n (c ∷ cs) b ms t = by (eqb (listRefusal p n ms c) 0) (next p n b ms c 
     by false t ih = ih ms t
 
 -- each call is answered as the list alone says
-pub answers-by-list : (p n : ℕ) (cs : List Made) (b : Book) (ms : List Movement) → Told p n b ms → answered b cs ≡ listAnswered p n ms cs
+pub answers-by-list : (p n : ℕ) (cs : List Made) (b : Book) (ms : List Movement) → Told p n b ms
+    → answered b cs ≡ listAnswered p n ms cs
 unfolding answered listAnswered
 answers-by-list p n [] b ms t = refl
 answers-by-list p n (c ∷ cs) b ms t =
@@ -176,7 +188,8 @@ answers-by-list p n (c ∷ cs) b ms t =
     let rest = answers-by-list p n cs (after (c .points) b (c .call)) (cond (eqb (listRefusal p n ms c) 0) (step ms (c .call)) ms) (next p n b ms c t) in
     λ i. head i ∷ rest i
 
-pub accepted-by-list : (p n : ℕ) (cs : List Made) (b : Book) (ms : List Movement) → Told p n b ms → acceptedByRows b cs ≡ accepted p n ms cs
+pub accepted-by-list : (p n : ℕ) (cs : List Made) (b : Book) (ms : List Movement) → Told p n b ms
+    → acceptedByRows b cs ≡ accepted p n ms cs
 unfolding acceptedByRows accepted
 accepted-by-list p n [] b ms t = refl
 accepted-by-list p n (c ∷ cs) b ms t =
@@ -199,7 +212,8 @@ pub told-all : (p n : ℕ) (cs : List Made) → Told p n (booked (emptyBook p n)
 unfolding movements
 told-all p n cs = told p n cs (emptyBook p n) [] (told-empty p n)
 
-pub history-rows : (p n : ℕ) (cs : List Made) → booked (emptyBook p n) cs ≡ rowsOf p (n - length (movements p n cs)) (movements p n cs)
+pub history-rows : (p n : ℕ) (cs : List Made)
+    → booked (emptyBook p n) cs ≡ rowsOf p (n - length (movements p n cs)) (movements p n cs)
 history-rows p n cs =
     let t = told-all p n cs in
     let e : t .unused ≡ n - length (movements p n cs) = omega (arith, t .same) in
@@ -209,7 +223,9 @@ history-rows p n cs =
 pub history-sound : (p n : ℕ) (cs : List Made) → sound p (booked (emptyBook p n) cs) ≡ sizesFit p n
 history-sound p n cs =
     let t = told-all p n cs in
-    ap (sound p) (t .rows) ∙ book-sound p (t .unused) (movements p n cs) (t .good) (t .rising) ∙ ap (sizesFit p) (t .same)
+    ap (sound p) (t .rows)
+    ∙ book-sound p (t .unused) (movements p n cs) (t .good) (t .rising)
+    ∙ ap (sizesFit p) (t .same)
 
 -- after any calls, the next is refused as the movements left standing say
 pub history-refusal : (p n : ℕ) (cs : List Made) (c : Made)
@@ -260,7 +276,8 @@ history p n cs =
     record {
       rows = history-rows p n cs;
       order = order-of (movements p n cs) (t .rising);
-      once = λ x l. ap (λ (b : Book). howOften x (b .identities)) (t .rows) ∙ times-once x (t .unused) (movements p n cs) l (t .rising);
+      once =
+          λ x l. ap (λ (b : Book). howOften x (b .identities)) (t .rows) ∙ times-once x (t .unused) (movements p n cs) l (t .rising);
       room = omega (arith, t .same);
       answers = answers-by-list p n cs (emptyBook p n) [] (told-empty p n);
       same = accepted-by-list p n cs (emptyBook p n) [] (told-empty p n);

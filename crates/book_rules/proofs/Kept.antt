@@ -12,11 +12,13 @@ use Rattle.book_rules.proofs.Standing.{book-sound}
 use Rattle.book_rules.proofs.Reading.{Read, book-read}
 use Rattle.book_rules.proofs.Steps.{stepped}
 
-pub read-rows : {p : ℕ} {b : Book} (r : Read p (b .identities) (b .groups) (b .marks) (b .levels)) → b ≡ rowsOf p (r .unused) (r .list)
+pub read-rows : {p : ℕ} {b : Book} (r : Read p (b .identities) (b .groups) (b .marks) (b .levels))
+    → b ≡ rowsOf p (r .unused) (r .list)
 unfolding rowsOf
 read-rows r = λ i. bookOf (r .ids i) (r .groups i) (r .marks i) (r .levels i)
 
-changed-sound : (p : ℕ) (b : Book) (c : Call) → sound p b ≡ true → soundRefusal p b c ≡ 0 → sound p (changed p b c) ≡ true
+changed-sound : (p : ℕ) (b : Book) (c : Call) → sound p b ≡ true → soundRefusal p b c ≡ 0
+    → sound p (changed p b c) ≡ true
 changed-sound p b c s z =
     let r = book-read p b s in
     let e = read-rows r in
@@ -30,7 +32,8 @@ changed-sound p b c s z =
     ∙ s
 
 -- any call, also one made for another number of points
-pub after-sound : (p q : ℕ) (b : Book) (c : Call) → sound p b ≡ true → (sound q b ≡ true → q ≡ p) → sound p (after q b c) ≡ true
+pub after-sound : (p q : ℕ) (b : Book) (c : Call) → sound p b ≡ true → (sound q b ≡ true → q ≡ p)
+    → sound p (after q b c) ≡ true
 after-sound p q b c s k = by (eqb (refusal q b c) 0) refl
   where
     by : (t : Bool) → eqb (refusal q b c) 0 ≡ t → sound p (after q b c) ≡ true
@@ -38,7 +41,8 @@ after-sound p q b c s k = by (eqb (refusal q b c) 0) refl
     by true e =
         let z = eqb-true (refusal q b c) 0 e in
         let a = accepted-sound q b c z in
-        ap (sound p) (after-accepted q b c z) ∙ subst (λ n. sound n (changed q b c) ≡ true) (k (a .0)) (changed-sound q b c (a .0) (a .1))
+        ap (sound p) (after-accepted q b c z)
+        ∙ subst (λ n. sound n (changed q b c) ≡ true) (k (a .0)) (changed-sound q b c (a .0) (a .1))
 
 -- what a core promises keeps the book sound
 pub called-sound : {p r : ℕ} {b b′ : Book} {c : Call} → sound p b ≡ true → Called p b c r b′ → sound p b′ ≡ true

@@ -1,4 +1,5 @@
--- How a list of movements is found, by look-up: as the rows that it makes, and after each change of it. Assumes nothing.
+-- How a list of movements is found, by look-up: as the rows that it makes, and after each change of it. Assumes
+-- nothing.
 use mathlib.Core.Path.{_≡_, refl, sym, ap, subst, _∙_}
 use mathlib.Core.Bool.{cond}
 use mathlib.Core.List.{List, [], _∷_}
@@ -22,7 +23,8 @@ use Rattle.book_rules.proofs.Standing.{AllGood, Below, Rising}
 pub none-found : (x p n : ℕ) (gs ms ls : List ℕ) → 1 ≤ x → foundFrom x p (replicate n 0) gs ms ls ≡ nowhere
 unfolding foundFrom
 none-found x p zero gs ms ls l = refl
-none-found x p (suc n) gs ms ls l = rw (ne-eqb 0 x (omega arith)) (none-found x p n (drop 1 gs) (drop 1 ms) (drop p ls) l)
+none-found x p (suc n) gs ms ls l =
+    rw (ne-eqb 0 x (omega arith)) (none-found x p n (drop 1 gs) (drop 1 ms) (drop p ls) l)
 
 row-held : (p g : ℕ) (h : Held) → row g (markOf h) (levelsOf p h) ≡ rowHeld p g h
 unfolding markOf levelsOf rowHeld
@@ -53,31 +55,39 @@ unfolding listed
 listed-none x p = refl
 
 -- the first movement is looked at, then the others
-pub listed-this : (x p : ℕ) (a : Movement) (ms : List Movement) → a .identity ≡ x → listed x p (a ∷ ms) ≡ rowHeld p (a .group) (a .held)
+pub listed-this : (x p : ℕ) (a : Movement) (ms : List Movement) → a .identity ≡ x
+    → listed x p (a ∷ ms) ≡ rowHeld p (a .group) (a .held)
 unfolding listed
 listed-this x p a ms e = rw (eq-eqb (a .identity) x e) refl
 
-pub listed-later : (x p : ℕ) (a : Movement) (ms : List Movement) → (a .identity ≡ x → ⊥) → listed x p (a ∷ ms) ≡ listed x p ms
+pub listed-later : (x p : ℕ) (a : Movement) (ms : List Movement) → (a .identity ≡ x → ⊥)
+    → listed x p (a ∷ ms) ≡ listed x p ms
 unfolding listed
 listed-later x p a ms e = rw (ne-eqb (a .identity) x e) refl
 
 -- what two lists begin with alike changes nothing
-listed-cons : (y p : ℕ) (a : Movement) (ms ns : List Movement) → listed y p ms ≡ listed y p ns → listed y p (a ∷ ms) ≡ listed y p (a ∷ ns)
+listed-cons : (y p : ℕ) (a : Movement) (ms ns : List Movement) → listed y p ms ≡ listed y p ns
+    → listed y p (a ∷ ms) ≡ listed y p (a ∷ ns)
 unfolding listed
 listed-cons y p a ms ns e = ap (cond (eqb (a .identity) y) (rowHeld p (a .group) (a .held))) e
 
 pub added-found : (p : ℕ) (m : Movement) {ms : List Movement} {k : ℕ} → Place (m .identity) ms k
     → listed (m .identity) p (added m ms) ≡ rowHeld p (m .group) (m .held)
 added-found p m last = ap (listed (m .identity) p) (added-last m) ∙ listed-this (m .identity) p m [] refl
-added-found p m (here {a} {ms} h) = ap (listed (m .identity) p) (added-here m a ms h) ∙ listed-this (m .identity) p m (a ∷ ms) refl
+added-found p m (here {a} {ms} h) =
+    ap (listed (m .identity) p) (added-here m a ms h) ∙ listed-this (m .identity) p m (a ∷ ms) refl
 added-found p m (there {a} {ms} h r) =
-    ap (listed (m .identity) p) (added-there m a ms h) ∙ listed-later (m .identity) p a (added m ms) (omega arith) ∙ added-found p m r
+    ap (listed (m .identity) p) (added-there m a ms h)
+    ∙ listed-later (m .identity) p a (added m ms) (omega arith)
+    ∙ added-found p m r
 
-pub added-other : (y p : ℕ) (m : Movement) {ms : List Movement} {k : ℕ} → (m .identity ≡ y → ⊥) → Place (m .identity) ms k
+pub added-other : (y p : ℕ) (m : Movement) {ms : List Movement} {k : ℕ} → (m .identity ≡ y → ⊥)
+    → Place (m .identity) ms k
     → listed y p (added m ms) ≡ listed y p ms
 added-other y p m n last = ap (listed y p) (added-last m) ∙ listed-later y p m [] n
 added-other y p m n (here {a} {ms} h) = ap (listed y p) (added-here m a ms h) ∙ listed-later y p m (a ∷ ms) n
-added-other y p m n (there {a} {ms} h r) = ap (listed y p) (added-there m a ms h) ∙ listed-cons y p a (added m ms) ms (added-other y p m n r)
+added-other y p m n (there {a} {ms} h r) =
+    ap (listed y p) (added-there m a ms h) ∙ listed-cons y p a (added m ms) ms (added-other y p m n r)
 
 group-held : (p g : ℕ) (h : Held) → groupFound (rowHeld p g h) ≡ g
 unfolding rowHeld
@@ -96,10 +106,13 @@ holding-found p h {x} (later {a} {ms} e r) =
     ∙ holding-found p h r
     ∙ ap (λ (w : Row). rowHeld p (groupFound w) h) (sym (listed-later x p a ms e))
 
-pub holding-other : (y p : ℕ) (h : Held) {x k : ℕ} {ms : List Movement} → (y ≡ x → ⊥) → Found x ms k → listed y p (holding x h ms) ≡ listed y p ms
+pub holding-other : (y p : ℕ) (h : Held) {x k : ℕ} {ms : List Movement} → (y ≡ x → ⊥) → Found x ms k
+    → listed y p (holding x h ms) ≡ listed y p ms
 holding-other y p h {x} n (this {a} {ms} e) =
     let other : a .identity ≡ y → ⊥ = λ z. n (sym z ∙ e) in
-    ap (listed y p) (holding-this x h a ms e) ∙ listed-later y p (movement (a .identity) (a .group) h) ms other ∙ sym (listed-later y p a ms other)
+    ap (listed y p) (holding-this x h a ms e)
+    ∙ listed-later y p (movement (a .identity) (a .group) h) ms other
+    ∙ sym (listed-later y p a ms other)
 holding-other y p h {x} n (later {a} {ms} e r) =
     ap (listed y p) (holding-later x h a ms e) ∙ listed-cons y p a (holding x h ms) ms (holding-other y p h n r)
 
@@ -113,13 +126,15 @@ below-none x p (a ∷ ms) b r = rw (ne-eqb (a .identity) x (omega arith)) (below
     below [] h = tt
     below (c ∷ ns) h = omega (arith, b)
 
-pub without-found : (p : ℕ) {x k : ℕ} {ms : List Movement} → Rising ms → Found x ms k → listed x p (without x ms) ≡ nowhere
+pub without-found : (p : ℕ) {x k : ℕ} {ms : List Movement} → Rising ms → Found x ms k
+    → listed x p (without x ms) ≡ nowhere
 without-found p {x} r (this {a} {ms} e) =
     ap (listed x p) (without-this x a ms e) ∙ below-none x p ms (subst (λ n. Below n ms) e (r .0)) (r .1)
 without-found p {x} r (later {a} {ms} e f) =
     ap (listed x p) (without-later x a ms e) ∙ listed-later x p a (without x ms) e ∙ without-found p (r .1) f
 
-pub without-other : (y p : ℕ) {x k : ℕ} {ms : List Movement} → (y ≡ x → ⊥) → Found x ms k → listed y p (without x ms) ≡ listed y p ms
+pub without-other : (y p : ℕ) {x k : ℕ} {ms : List Movement} → (y ≡ x → ⊥) → Found x ms k
+    → listed y p (without x ms) ≡ listed y p ms
 without-other y p {x} n (this {a} {ms} e) =
     ap (listed y p) (without-this x a ms e) ∙ sym (listed-later y p a ms (λ z. n (sym z ∙ e)))
 without-other y p {x} n (later {a} {ms} e r) =

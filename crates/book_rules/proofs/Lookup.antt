@@ -84,7 +84,8 @@ module _ {p : ℕ} {b b′ : Book} {c : Call} (a : Acted p b c b′) where
       ∙ a .step= .same
       ∙ sym (ap (λ (v : Book). length (v .identities)) (a .before) ∙ length-ids (a .unused) (a .list))
 
-  keeps-others : (x : ℕ) → ((y : ℕ) → (y ≡ x → ⊥) → listed y p (step (a .list) c) ≡ listed y p (a .list)) → KeepsOthers p x b b′
+  keeps-others : (x : ℕ) → ((y : ℕ) → (y ≡ x → ⊥) → listed y p (step (a .list) c) ≡ listed y p (a .list))
+      → KeepsOthers p x b b′
   keeps-others x h =
       record {
         sound= = a .is-sound;
@@ -139,7 +140,8 @@ module _ {p : ℕ} {b b′ : Book} {c : Call} (a : Acted p b c b′) (x : ℕ) (
   unfolding rowsOf
   stood-before = standing-found x p b (subst (λ (w : Book). stands x (w .identities) ≡ true) (sym (a .before)) e)
 
-  held-after : (h : Held) → step (a .list) c ≡ holding x h (a .list) → found x p b′ ≡ rowHeld p (groupFound (found x p b)) h
+  held-after : (h : Held) → step (a .list) c ≡ holding x h (a .list)
+      → found x p b′ ≡ rowHeld p (groupFound (found x p b)) h
   held-after h s =
       found-after a x low
       ∙ ap (listed x p) s
@@ -200,7 +202,8 @@ take-back-does {p} {x} {b} {b′} q =
     let there = stands-index x (b .identities) (taken-back (b .identities) (b .marks) x y .stands=) in
     record {
       kept = held-others a x i e none refl;
-      held = sym (mark-found x p (b .identities) (b .groups) (b .marks) (b .levels) there) ∙ taken-mark (b .identities) (b .marks) x y;
+      held =
+          sym (mark-found x p (b .identities) (b .groups) (b .marks) (b .levels) there) ∙ taken-mark (b .identities) (b .marks) x y;
       found= = held-after a x i e none refl;
     }
 

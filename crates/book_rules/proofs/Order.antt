@@ -44,7 +44,8 @@ decides-not : {Holds : Type 0} (ok : Bool) → (ok ≡ true → Holds) → (Hold
 decides-not ok holds back = decides ok (λ e n. n (holds e)) (λ e h. true≢false (sym (back h) ∙ e))
 
 -- one number of the order
-pub given-by : {Reason Rest : Type 0} {r n rest : ℕ} (ok : Bool) → r ≡ refuse n ok rest → Decides ok Reason → (ok ≡ true → r ≡ rest → Rest)
+pub given-by : {Reason Rest : Type 0} {r n rest : ℕ} (ok : Bool) → r ≡ refuse n ok rest → Decides ok Reason
+    → (ok ≡ true → r ≡ rest → Rest)
     → Given r n Reason Rest
 given-by {Reason} {Rest} {r} {n} {rest} ok e d go =
     record {
@@ -79,7 +80,8 @@ fields-decide t k s m = decides-not (fieldsFit t k s m) holds back
           kind = omega (arith, ltb-true k kindCount (and-right (ltb t typeCount) _ d));
           time = omega (arith, ltb-true s secondsADay (and-left (ltb s secondsADay) _ c));
           mass = leb-true m maxMass (and-right (ltb s secondsADay) _ c);
-          small = small-fits t m (and-right ((ltb t typeCount && ltb k kindCount) && (ltb s secondsADay && leb m maxMass)) _ e);
+          small =
+              small-fits t m (and-right ((ltb t typeCount && ltb k kindCount) && (ltb s secondsADay && leb m maxMass)) _ e);
         }
 
     back : Fields t k s m → fieldsFit t k s m ≡ true
@@ -94,7 +96,8 @@ fields-decide t k s m = decides-not (fieldsFit t k s m) holds back
 
 counts-decide : (m : ℕ) → Decides (counts m) (m ≤ 150)
 unfolding counts
-counts-decide m = decides (ltb massNotCounted m) (λ e h. omega (arith, ltb-true massNotCounted m e)) (ltb-false massNotCounted m)
+counts-decide m =
+    decides (ltb massNotCounted m) (λ e h. omega (arith, ltb-true massNotCounted m e)) (ltb-false massNotCounted m)
 
 identity-decides : (x : ℕ) → Decides (identityFits x) (NoIdentity x)
 unfolding identityFits
@@ -156,7 +159,8 @@ stands-decides x p b =
     record { fails = λ h. e ∙ d .fails h; passes = λ n. e ∙ d .passes n }
 
 pub not-standing : (x p : ℕ) (b : Book) → stands x (b .identities) ≡ false → found x p b ≡ nowhere
-not-standing x p b e = found-none (found x p b) (sym (stands-found x p (b .identities) (b .groups) (b .marks) (b .levels)) ∙ e)
+not-standing x p b e =
+    found-none (found x p b) (sym (stands-found x p (b .identities) (b .groups) (b .marks) (b .levels)) ∙ e)
 
 pub standing-found : (x p : ℕ) (b : Book) → stands x (b .identities) ≡ true → found x p b ≡ nowhere → ⊥
 standing-found x p b e z = true≢false (sym e ∙ stands-decides x p b .fails z)
@@ -187,7 +191,8 @@ room-decides b = decides (stands 0 (b .identities)) never full
             absurd (omega (arith, index-before 0 (b .identities) i h z, ltb-false (indexOf 0 (b .identities)) (length (b .identities)) e))
 
 -- the mark of a row that stands
-pub mark-found : (x p : ℕ) (xs gs ms ls : List ℕ) → indexOf x xs < length xs → getD ms (indexOf x xs) 0 ≡ markFound (foundFrom x p xs gs ms ls)
+pub mark-found : (x p : ℕ) (xs gs ms ls : List ℕ) → indexOf x xs < length xs
+    → getD ms (indexOf x xs) 0 ≡ markFound (foundFrom x p xs gs ms ls)
 unfolding indexOf firstAt foundFrom
 mark-found x p [] gs ms ls h = absurd (not-suc-le-zero h)
 mark-found x p (y ∷ ys) gs ms ls h = by (eqb y x) h (mark-found x p ys (drop 1 gs) (drop 1 ms) (drop p ls))

@@ -91,12 +91,15 @@ lists-same p (a ∷ ms) (c ∷ ns) g k r s h =
         → (a .identity < c .identity → ⊥) → (c .identity < a .identity → ⊥) → a .identity ≡ c .identity
     order true u x y l m = absurd (l (ltb-true (a .identity) (c .identity) x))
     order false true x y l m = absurd (m (ltb-true (c .identity) (a .identity) y))
-    order false false x y l m = omega (arith, ltb-false (a .identity) (c .identity) x, ltb-false (c .identity) (a .identity) y)
+    order false false x y l m =
+        omega (arith, ltb-false (a .identity) (c .identity) x, ltb-false (c .identity) (a .identity) y)
 
-    later : (t : Bool) (x : ℕ) → eqb (a .identity) x ≡ t → 1 ≤ x → a .identity ≡ c .identity → listed x p ms ≡ listed x p ns
+    later : (t : Bool) (x : ℕ) → eqb (a .identity) x ≡ t → 1 ≤ x → a .identity ≡ c .identity
+        → listed x p ms ≡ listed x p ns
     later true x z l e =
         let q = eqb-true (a .identity) x z in
-        below-none x p ms (subst (λ n. Below n ms) q (r .0)) (r .1) ∙ sym (below-none x p ns (subst (λ n. Below n ns) (sym e ∙ q) (s .0)) (s .1))
+        below-none x p ms (subst (λ n. Below n ms) q (r .0)) (r .1)
+        ∙ sym (below-none x p ns (subst (λ n. Below n ns) (sym e ∙ q) (s .0)) (s .1))
     later false x z l e =
         let q = eqb-false (a .identity) x z in
         sym (listed-later x p a ms q) ∙ h x l ∙ listed-later x p c ns (λ y. q (e ∙ y))

@@ -134,7 +134,8 @@ kept p (suc zero) l h k e = record { mark = refl; part = refl; filled = record {
 kept p (suc (suc m)) l h k e = absurd (omega arith)
 
 -- the next identity is higher
-below-next : (p u x : ℕ) (list : List Movement) → AllGood p list → followed x (column identityCell 1 u list) ≡ true → Below x list
+below-next : (p u x : ℕ) (list : List Movement) → AllGood p list → followed x (column identityCell 1 u list) ≡ true
+    → Below x list
 unfolding column followed follows
 below-next p u x [] g e = tt
 below-next p u x (a ∷ list) g e =
@@ -142,7 +143,8 @@ below-next p u x (a ∷ list) g e =
     ltb-true x (a .identity) (and-right (ltb 0 x) _ f)
 
 -- a used row before rows that were read
-read-row : (p x g m : ℕ) (xs gs ms ls : List ℕ) → (x ≡ 0 → ⊥) → rowSound x g m (take p ls) ≡ true → length (take p ls) ≡ p → followed x xs ≡ true
+read-row : (p x g m : ℕ) (xs gs ms ls : List ℕ) → (x ≡ 0 → ⊥) → rowSound x g m (take p ls) ≡ true
+    → length (take p ls) ≡ p → followed x xs ≡ true
     → Read p xs gs ms (drop p ls) → Read p (x ∷ xs) (g ∷ gs) (m ∷ ms) ls
 unfolding column rowSound
 read-row p x g m xs gs ms ls n e w f r =
@@ -158,7 +160,8 @@ read-row p x g m xs gs ms ls n e w f r =
       marks = λ i. k .mark i ∷ r .marks i;
       levels = sym (take-append-drop p ls) ∙ (λ i. k .part i ++ r .levels i);
       good = (record { low = omega arith; high = head .0; group< = head .1; filled = k .filled }, r .good);
-      rising = (below-next p (r .unused) x (r .list) (r .good) (subst (λ (l : List ℕ). followed x l ≡ true) (r .ids) f), r .rising);
+      rising =
+          (below-next p (r .unused) x (r .list) (r .good) (subst (λ (l : List ℕ). followed x l ≡ true) (r .ids) f), r .rising);
     }
 
 rise-zero : (x : ℕ) (xs : List ℕ) → eqb x 0 ≡ true → rising (x ∷ xs) ≡ true → rising (0 ∷ (x ∷ xs)) ≡ true
@@ -180,7 +183,8 @@ read p (x ∷ xs) (g ∷ gs) (m ∷ ms) ls r e hg hm hl =
     (λ z. read-row p x g m xs gs ms ls z (and-left (rowSound x g m (take p ls)) _ e) (q .0) (and-left (followed x xs) _ r)
     (read p xs gs ms (drop p ls) (and-right (followed x xs) _ r) (and-right (rowSound x g m (take p ls)) _ e) (omega arith) (omega arith) (q .1)))
   where
-    by : (t : Bool) → eqb x 0 ≡ t → ((x ≡ 0 → ⊥) → Read p (x ∷ xs) (g ∷ gs) (m ∷ ms) ls) → Read p (x ∷ xs) (g ∷ gs) (m ∷ ms) ls
+    by : (t : Bool) → eqb x 0 ≡ t → ((x ≡ 0 → ⊥) → Read p (x ∷ xs) (g ∷ gs) (m ∷ ms) ls)
+        → Read p (x ∷ xs) (g ∷ gs) (m ∷ ms) ls
     by true z k = read-none (zero-rows p (x ∷ xs) (g ∷ gs) (m ∷ ms) ls (rise-zero x xs z r) e hg hm hl)
     by false z k = k (eqb-false x 0 z)
 

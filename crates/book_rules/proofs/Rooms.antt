@@ -1,4 +1,5 @@
--- What a sound book says of its rows where one goes in, goes out or is changed: where the zeros of unused rows begin, and that all fits. Assumes nothing.
+-- What a sound book says of its rows where one goes in, goes out or is changed: where the zeros of unused rows begin,
+-- and that all fits. Assumes nothing.
 use mathlib.Core.Path.{_≡_, refl, sym, ap, subst, _∙_}
 use mathlib.Core.Bool.{true, false}
 use mathlib.Core.List.{List, [], _∷_, _++_}
@@ -26,14 +27,18 @@ use Rattle.book_rules.proofs.Steps.{first-unused}
 
 -- The zeros of a sound book's unused rows
 
-column-end : (f : Movement → List ℕ) (w u : ℕ) (ms : List Movement) → Sized f w ms → drop (length ms * w) (column f w u ms) ≡ replicate (u * w) 0
+column-end : (f : Movement → List ℕ) (w u : ℕ) (ms : List Movement) → Sized f w ms
+    → drop (length ms * w) (column f w u ms) ≡ replicate (u * w) 0
 unfolding column
 column-end f w u [] s = ap (λ n. drop n (replicate (u * w) 0)) (zero-mul w)
 column-end f w u (a ∷ ms) s =
     let q : suc (length ms) * w ≡ length (f a) + length ms * w = omega (arith, suc-mul (length ms) w, s .0) in
-    ap (λ n. drop n (f a ++ column f w u ms)) q ∙ drop-append-add (f a) (column f w u ms) (length ms * w) ∙ column-end f w u ms (s .1)
+    ap (λ n. drop n (f a ++ column f w u ms)) q
+    ∙ drop-append-add (f a) (column f w u ms) (length ms * w)
+    ∙ column-end f w u ms (s .1)
 
-zero-column : (f : Movement → List ℕ) (w u n : ℕ) (ms : List Movement) (xs : List ℕ) → Sized f w ms → xs ≡ column f w u ms → n ≡ length ms * w → ZeroFrom n xs
+zero-column : (f : Movement → List ℕ) (w u n : ℕ) (ms : List Movement) (xs : List ℕ) → Sized f w ms
+    → xs ≡ column f w u ms → n ≡ length ms * w → ZeroFrom n xs
 zero-column f w u n ms xs s e k =
     let l = length-column f w u ms s in
     let m : length xs ≡ u * w + length ms * w = ap length e ∙ l ∙ add-mul u (length ms) w in
@@ -55,10 +60,14 @@ ends p b rows s e =
     let n : rows ≡ length (r .list) = e ∙ ap (indexOf 0) (r .ids) ∙ first-unused p (r .unused) (r .list) (r .good) in
     let one : rows ≡ length (r .list) * 1 = n ∙ sym (mul-one (length (r .list))) in
     record {
-      ids = zero-column identityCell 1 (r .unused) rows (r .list) (b .identities) (sized-one (λ a. a .identity) (r .list)) (r .ids) one;
-      groups = zero-column groupCell 1 (r .unused) rows (r .list) (b .groups) (sized-one (λ a. a .group) (r .list)) (r .groups) one;
-      marks = zero-column markCell 1 (r .unused) rows (r .list) (b .marks) (sized-one (λ a. markOf (a .held)) (r .list)) (r .marks) one;
-      levels = zero-column (levelCells p) p (r .unused) (rows * p) (r .list) (b .levels) (sized-levels p (r .list) (r .good)) (r .levels) (ap (λ i. i * p) n);
+      ids =
+          zero-column identityCell 1 (r .unused) rows (r .list) (b .identities) (sized-one (λ a. a .identity) (r .list)) (r .ids) one;
+      groups =
+          zero-column groupCell 1 (r .unused) rows (r .list) (b .groups) (sized-one (λ a. a .group) (r .list)) (r .groups) one;
+      marks =
+          zero-column markCell 1 (r .unused) rows (r .list) (b .marks) (sized-one (λ a. markOf (a .held)) (r .list)) (r .marks) one;
+      levels =
+          zero-column (levelCells p) p (r .unused) (rows * p) (r .list) (b .levels) (sized-levels p (r .list) (r .good)) (r .levels) (ap (λ i. i * p) n);
     }
 
 zero-at : {m n : ℕ} {xs : List ℕ} → m ≡ n → ZeroFrom n xs → ZeroFrom m xs
@@ -129,7 +138,8 @@ pub record RowOf (p : ℕ) (b : Book) (x at : ℕ) : Type 0 where
   pub fits : Fits w64 (at * p)
   pub used : at < indexOf 0 (b .identities)
 
-pub row-of : {p x at : ℕ} {b : Book} → sound p b ≡ true → Stood (b .identities) x → at ≡ placeOf x (b .identities) → RowOf p b x at
+pub row-of : {p x at : ℕ} {b : Book} → sound p b ≡ true → Stood (b .identities) x → at ≡ placeOf x (b .identities)
+    → RowOf p b x at
 row-of {p} {x} {at} {b} s w e =
     let xs = b .identities in
     let f = sound-fits p b s in

@@ -1,4 +1,5 @@
--- What a sound book says of one row and of one level: what a loop over the rows, as that of a load, needs at each index. Assumes nothing.
+-- What a sound book says of one row and of one level: what a loop over the rows, as that of a load, needs at each
+-- index. Assumes nothing.
 use mathlib.Core.Path.{_≡_, refl}
 use mathlib.Core.Bool.{Bool, true, false, cond}
 use mathlib.Core.List.{List, [], _∷_}
@@ -22,7 +23,8 @@ top-bound m = by (eqb m 0)
     by true = omega arith
     by false = omega arith
 
-pub row-at : (p : ℕ) (xs gs ms ls : List ℕ) (i : ℕ) → rowsSound p xs gs ms ls ≡ true → length gs ≡ length xs → length ms ≡ length xs → i < length xs
+pub row-at : (p : ℕ) (xs gs ms ls : List ℕ) (i : ℕ) → rowsSound p xs gs ms ls ≡ true → length gs ≡ length xs
+    → length ms ≡ length xs → i < length xs
     → rowSound (getD xs i 0) (getD gs i 0) (getD ms i 0) (take p (drop (i * p) ls)) ≡ true
 unfolding rowsSound
 row-at p [] gs ms ls i e hg hm h = absurd (not-suc-le-zero h)

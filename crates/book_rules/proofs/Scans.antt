@@ -1,4 +1,5 @@
--- Laws for the loops that read a column from its front: what the whole says, said of what is still to be read. Assumes nothing.
+-- Laws for the loops that read a column from its front: what the whole says, said of what is still to be read. Assumes
+-- nothing.
 use mathlib.Core.Path.{_≡_, refl, sym, ap, _∙_}
 use mathlib.Core.Bool.{Bool, true, false, _&&_}
 use mathlib.Core.List.{List, [], _∷_}
@@ -39,7 +40,8 @@ room p i at rows levels e h l = omega (arith, suc-mul i p, mul-le-mul-right p h)
 pub room-next : (p i at : ℕ) → at ≡ i * p → at + p ≡ (i + 1) * p
 room-next p i at e = rw add-one (omega (arith, suc-mul i p))
 
-pub rows-more : (p : ℕ) (xs gs ms ls : List ℕ) (i at : ℕ) {t : Bool} → i < length xs → length gs ≡ length xs → length ms ≡ length xs
+pub rows-more : (p : ℕ) (xs gs ms ls : List ℕ) (i at : ℕ) {t : Bool} → i < length xs → length gs ≡ length xs
+    → length ms ≡ length xs
     → t ≡ rowSound (getD xs i 0) (getD gs i 0) (getD ms i 0) (take (at + p - at) (drop at ls))
     → rowsSound p (drop i xs) (drop i gs) (drop i ms) (drop at ls)
     ≡ (t && rowsSound p (drop (i + 1) xs) (drop (i + 1) gs) (drop (i + 1) ms) (drop (at + p) ls))

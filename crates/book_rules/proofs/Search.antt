@@ -1,4 +1,5 @@
--- Laws for the binary search of a place: identities rise, so a row that the place is not after has the place at or before it. Assumes nothing.
+-- Laws for the binary search of a place: identities rise, so a row that the place is not after has the place at or
+-- before it. Assumes nothing.
 use mathlib.Core.Path.{_≡_, refl, sym, ap, _∙_}
 use mathlib.Core.Bool.{Bool, true, false, cond, _&&_, _||_, true≢false}
 use mathlib.Core.List.{List, [], _∷_}
@@ -35,7 +36,8 @@ unfolding firstAt
 first-passes f [] h = absurd (not-suc-le-zero h)
 first-passes f (y ∷ ys) h = by (f y) refl h (first-passes f ys)
   where
-    by : (t : Bool) → f y ≡ t → cond t 0 (suc (firstAt f ys)) < suc (length ys) → (firstAt f ys < length ys → f (getD ys (firstAt f ys) 0) ≡ true)
+    by : (t : Bool) → f y ≡ t → cond t 0 (suc (firstAt f ys)) < suc (length ys)
+        → (firstAt f ys < length ys → f (getD ys (firstAt f ys) 0) ≡ true)
         → f (getD (y ∷ ys) (cond t 0 (suc (firstAt f ys))) 0) ≡ true
     by true e h r = e
     by false e h r = r (omega arith)
@@ -46,7 +48,8 @@ unfolding firstAt
 first-earlier f g i [] = omega arith
 first-earlier f g i (y ∷ ys) = by (f y) (g y) refl refl (first-earlier f g i ys)
   where
-    by : (a b : Bool) → f y ≡ a → g y ≡ b → firstAt f ys ≤ firstAt g ys → cond a 0 (suc (firstAt f ys)) ≤ cond b 0 (suc (firstAt g ys))
+    by : (a b : Bool) → f y ≡ a → g y ≡ b → firstAt f ys ≤ firstAt g ys
+        → cond a 0 (suc (firstAt f ys)) ≤ cond b 0 (suc (firstAt g ys))
     by true b e k ih = omega arith
     by false false e k ih = omega arith
     by false true e k ih = let z : _≡_ {A = Bool} true false = sym (i y k) ∙ e in absurd (true≢false z)
@@ -78,7 +81,8 @@ reached-next x y z f e = by (eqb z 0) refl f
         le-leb x z (omega (arith, low (eqb y 0) refl e p))
 
 -- once reached, x is reached at every later row
-pub reached-on : (x y : ℕ) (ys : List ℕ) (i : ℕ) → rising (y ∷ ys) ≡ true → reached x y ≡ true → i ≤ length ys → reached x (getD (y ∷ ys) i 0) ≡ true
+pub reached-on : (x y : ℕ) (ys : List ℕ) (i : ℕ) → rising (y ∷ ys) ≡ true → reached x y ≡ true → i ≤ length ys
+    → reached x (getD (y ∷ ys) i 0) ≡ true
 unfolding rising followed
 reached-on x y ys zero r e h = e
 reached-on x y [] (suc i) r e h = absurd (not-suc-le-zero h)
@@ -86,7 +90,8 @@ reached-on x y (z ∷ zs) (suc i) r e h =
     reached-on x z zs i (and-right (follows y z) (rising (z ∷ zs)) r) (reached-next x y z (and-left (follows y z) (rising (z ∷ zs)) r) e) (le-of-suc-le-suc h)
 
 -- a row at which x is not reached comes before the place of x
-pub place-after : (x : ℕ) (xs : List ℕ) (i : ℕ) → rising xs ≡ true → i < length xs → reached x (getD xs i 0) ≡ false → i < placeOf x xs
+pub place-after : (x : ℕ) (xs : List ℕ) (i : ℕ) → rising xs ≡ true → i < length xs → reached x (getD xs i 0) ≡ false
+    → i < placeOf x xs
 unfolding placeOf firstAt rising
 place-after x [] i r h e = absurd (not-suc-le-zero h)
 place-after x (y ∷ ys) i r h e = by (reached x y) refl i h e (place-after x ys)
@@ -161,8 +166,10 @@ reached-over x y e n = by (eqb y 0) refl e
 not-reached : (x : ℕ) → 1 ≤ x → reached (x + 1) x ≡ false
 not-reached x l = rw (ne-eqb x 0 (omega arith), lt-leb (x + 1) x (omega arith)) refl
 
--- an identity that stands is at its place: were its place earlier, that row would be unused or higher, and so every later one
-pub place-index : (x : ℕ) (xs : List ℕ) → 1 ≤ x → rising xs ≡ true → indexOf x xs < length xs → indexOf x xs ≡ placeOf x xs
+-- an identity that stands is at its place: were its place earlier, that row would be unused or higher, and so every
+-- later one
+pub place-index : (x : ℕ) (xs : List ℕ) → 1 ≤ x → rising xs ≡ true → indexOf x xs < length xs
+    → indexOf x xs ≡ placeOf x xs
 place-index x xs l r h = by (leb (indexOf x xs) (placeOf x xs)) refl
   where
     earlier : placeOf x xs < indexOf x xs → ⊥
@@ -177,12 +184,14 @@ place-index x xs l r h = by (leb (indexOf x xs) (placeOf x xs)) refl
     by false e = absurd (earlier (leb-false (indexOf x xs) (placeOf x xs) e))
 
 -- x stands exactly if its place holds it
-pub stands-here : (x : ℕ) (xs : List ℕ) (at : ℕ) → 1 ≤ x → rising xs ≡ true → at ≡ placeOf x xs → at < length xs → eqb (getD xs at 0) x ≡ stands x xs
+pub stands-here : (x : ℕ) (xs : List ℕ) (at : ℕ) → 1 ≤ x → rising xs ≡ true → at ≡ placeOf x xs → at < length xs
+    → eqb (getD xs at 0) x ≡ stands x xs
 unfolding stands
 stands-here x xs at l r e h = by (eqb (getD xs at 0) x) refl
   where
     by : (t : Bool) → eqb (getD xs at 0) x ≡ t → t ≡ ltb (indexOf x xs) (length xs)
-    by true k = sym (lt-ltb (indexOf x xs) (length xs) (omega (arith, index-before x xs at h (eqb-true (getD xs at 0) x k))))
+    by true k =
+        sym (lt-ltb (indexOf x xs) (length xs) (omega (arith, index-before x xs at h (eqb-true (getD xs at 0) x k))))
     by false k = not (ltb (indexOf x xs) (length xs)) refl
       where
         not : (s : Bool) → ltb (indexOf x xs) (length xs) ≡ s → false ≡ s

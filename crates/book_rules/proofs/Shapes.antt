@@ -1,4 +1,5 @@
--- What a book that passed the test of soundness says of its columns: their lengths, their order and their identities. Assumes nothing.
+-- What a book that passed the test of soundness says of its columns: their lengths, their order and their identities.
+-- Assumes nothing.
 use mathlib.Core.Path.{_≡_, refl}
 use mathlib.Core.Bool.{Bool, true, false, cond, _&&_}
 use mathlib.Core.List.{List, [], _∷_}
@@ -22,7 +23,8 @@ pub record Fitting (p rows groups marks levels : ℕ) : Type 0 where
   pub marks= : marks ≡ rows
   pub levels= : levels ≡ rows * p
 
-pub fitting : (p rows groups marks levels : ℕ) → shapeFits p rows groups marks levels ≡ true → Fitting p rows groups marks levels
+pub fitting : (p rows groups marks levels : ℕ) → shapeFits p rows groups marks levels ≡ true
+    → Fitting p rows groups marks levels
 unfolding shapeFits
 fitting p rows groups marks levels e =
     let a = and-right (leb 1 p && leb p maxPoints) _ e in
@@ -41,7 +43,8 @@ fitting p rows groups marks levels e =
     }
 
 -- a sound book's columns fit
-pub sound-fits : (p : ℕ) (b : Book) → sound p b ≡ true → Fitting p (length (b .identities)) (length (b .groups)) (length (b .marks)) (length (b .levels))
+pub sound-fits : (p : ℕ) (b : Book) → sound p b ≡ true
+    → Fitting p (length (b .identities)) (length (b .groups)) (length (b .marks)) (length (b .levels))
 unfolding sound shaped
 sound-fits p b e = fitting p _ _ _ _ (and-left (shaped p b) _ e)
 
@@ -50,7 +53,8 @@ pub head-bounds : (x g m : ℕ) → headSound x g m ≡ true → (x ≤ maxIdent
 unfolding headSound
 head-bounds x g m e = by (eqb x 0) refl e
   where
-    by : (t : Bool) → eqb x 0 ≡ t → cond t (eqb g 0 && eqb m 0) (leb x maxIdentity && (ltb g groupCount && leb m 1)) ≡ true
+    by : (t : Bool) → eqb x 0 ≡ t
+        → cond t (eqb g 0 && eqb m 0) (leb x maxIdentity && (ltb g groupCount && leb m 1)) ≡ true
         → (x ≤ maxIdentity) × (g < groupCount) × (m ≤ 1)
     by true z e =
         let a = eqb-true x 0 z in
@@ -65,11 +69,13 @@ pub sound-rises : (p : ℕ) (b : Book) → sound p b ≡ true → rising (b .ide
 unfolding sound
 sound-rises p b e = and-left (rising (b .identities)) _ (and-right (shaped p b) _ e)
 
-pub sound-rows : (p : ℕ) (b : Book) → sound p b ≡ true → rowsSound p (b .identities) (b .groups) (b .marks) (b .levels) ≡ true
+pub sound-rows : (p : ℕ) (b : Book) → sound p b ≡ true
+    → rowsSound p (b .identities) (b .groups) (b .marks) (b .levels) ≡ true
 unfolding sound
 sound-rows p b e = and-right (rising (b .identities)) _ (and-right (shaped p b) _ e)
 
-ids-within : (p : ℕ) (xs gs ms ls : List ℕ) → rowsSound p xs gs ms ls ≡ true → length gs ≡ length xs → length ms ≡ length xs → allWithin maxIdentity xs ≡ true
+ids-within : (p : ℕ) (xs gs ms ls : List ℕ) → rowsSound p xs gs ms ls ≡ true → length gs ≡ length xs
+    → length ms ≡ length xs → allWithin maxIdentity xs ≡ true
 unfolding rowsSound rowSound allWithin
 ids-within p [] gs ms ls e hg hm = refl
 ids-within p (x ∷ xs) [] ms ls e hg hm = absurd (omega arith)

@@ -54,7 +54,8 @@ unfolding rising
 rise-pairs [] i j r l h = absurd (not-suc-le-zero h)
 rise-pairs (x ∷ xs) i zero r l h = absurd (not-suc-le-zero l)
 rise-pairs (x ∷ xs) zero (suc j) r l h = first-later x xs j r (le-of-suc-le-suc h)
-rise-pairs (x ∷ xs) (suc i) (suc j) r l h = rise-pairs xs i j (and-right (followed x xs) (rising xs) r) (le-of-suc-le-suc l) (le-of-suc-le-suc h)
+rise-pairs (x ∷ xs) (suc i) (suc j) r l h =
+    rise-pairs xs i j (and-right (followed x xs) (rising xs) r) (le-of-suc-le-suc l) (le-of-suc-le-suc h)
 
 pairs-rise : (xs : List ℕ) → ((i j : ℕ) → i < j → j < length xs → Later (getD xs i 0) (getD xs j 0)) → rising xs ≡ true
 unfolding rising followed
@@ -81,7 +82,8 @@ head-of : (x g m : ℕ) → x ≤ 99999 → g < 18 → m ≤ 1 → (x ≡ 0 → 
 unfolding headSound
 head-of x g m a b c u = by (eqb x 0) refl
   where
-    by : (t : Bool) → eqb x 0 ≡ t → cond t (eqb g 0 && eqb m 0) (leb x maxIdentity && (ltb g groupCount && leb m 1)) ≡ true
+    by : (t : Bool) → eqb x 0 ≡ t
+        → cond t (eqb g 0 && eqb m 0) (leb x maxIdentity && (ltb g groupCount && leb m 1)) ≡ true
     by true z = let n = u (eqb-true x 0 z) in rw (eq-eqb g 0 (n .0), eq-eqb m 0 (n .1)) refl
     by false z = rw (le-leb x maxIdentity a, lt-ltb g groupCount b, le-leb m 1 c) refl
 
@@ -91,7 +93,8 @@ level-at p i ls j h = getD-take p (drop (i * p) ls) j 0 h ∙ getD-drop (i * p) 
 
 bare-level : (m : ℕ) (ls : List ℕ) (j : ℕ) {l : ℕ} → allWithin (topLevel m) ls ≡ true → m ≡ 0 → getD ls j 0 ≡ l → l ≡ 0
 unfolding topLevel
-bare-level m ls j {l} w z e = let k : allWithin 0 ls ≡ true = rw (eq-eqb m 0 z) at w in omega (arith, within-at 0 ls j k)
+bare-level m ls j {l} w z e =
+    let k : allWithin 0 ls ≡ true = rw (eq-eqb m 0 z) at w in omega (arith, within-at 0 ls j k)
 
 row-words : (p : ℕ) (b : Book) (i : ℕ) → sound p b ≡ true → i < length (b .identities) → SoundRow p b i
 unfolding rowSound
@@ -147,7 +150,8 @@ rows-pass p (x ∷ xs) (g ∷ gs) (m ∷ ms) ls hg hm h =
     let first : rowSound x g m (take p ls) ≡ true = subst (λ n. rowSound x g m (take p (drop n ls)) ≡ true) (zero-mul p) (h 0 (omega arith)) in
     rw first (rows-pass p xs gs ms (drop p ls) (omega arith) (omega arith) rest)
   where
-    rest : (i : ℕ) → i < length xs → rowSound (getD xs i 0) (getD gs i 0) (getD ms i 0) (take p (drop (i * p) (drop p ls))) ≡ true
+    rest : (i : ℕ) → i < length xs
+        → rowSound (getD xs i 0) (getD gs i 0) (getD ms i 0) (take p (drop (i * p) (drop p ls))) ≡ true
     rest i k =
         let q : suc i * p ≡ p + i * p = omega (arith, suc-mul i p) in
         let row = h (suc i) (omega arith) in

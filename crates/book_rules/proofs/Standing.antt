@@ -1,4 +1,5 @@
--- Movements that stand: each in range, in rising identity. What each change keeps of that, and that their book is sound. Assumes nothing.
+-- Movements that stand: each in range, in rising identity. What each change keeps of that, and that their book is
+-- sound. Assumes nothing.
 use mathlib.Core.Path.{_≡_, refl, sym, ap, subst, _∙_}
 use mathlib.Core.Bool.{true, and-true, or-true}
 use mathlib.Core.List.{List, [], _∷_, _++_}
@@ -49,37 +50,45 @@ New x (a ∷ ms) = (a .identity ≡ x → ⊥) × New x ms
 
 -- A movement goes in
 
-pub good-added : {p k : ℕ} {ms : List Movement} (m : Movement) → Good p m → AllGood p ms → Place (m .identity) ms k → AllGood p (added m ms)
+pub good-added : {p k : ℕ} {ms : List Movement} (m : Movement) → Good p m → AllGood p ms → Place (m .identity) ms k
+    → AllGood p (added m ms)
 good-added {p} m g s last = subst (AllGood p) (sym (added-last m)) (g, tt)
 good-added {p} m g s (here {a} {ms} h) = subst (AllGood p) (sym (added-here m a ms h)) (g, s)
-good-added {p} m g s (there {a} {ms} h r) = subst (AllGood p) (sym (added-there m a ms h)) (s .0, good-added m g (s .1) r)
+good-added {p} m g s (there {a} {ms} h r) =
+    subst (AllGood p) (sym (added-there m a ms h)) (s .0, good-added m g (s .1) r)
 
-pub length-added : {k : ℕ} {ms : List Movement} (m : Movement) → Place (m .identity) ms k → length (added m ms) ≡ suc (length ms)
+pub length-added : {k : ℕ} {ms : List Movement} (m : Movement) → Place (m .identity) ms k
+    → length (added m ms) ≡ suc (length ms)
 length-added m last = ap length (added-last m)
 length-added m (here {a} {ms} h) = ap length (added-here m a ms h)
 length-added m (there {a} {ms} h r) = ap length (added-there m a ms h) ∙ ap suc (length-added m r)
 
-below-added : {x k : ℕ} {ms : List Movement} (m : Movement) → x < m .identity → Below x ms → Place (m .identity) ms k → Below x (added m ms)
+below-added : {x k : ℕ} {ms : List Movement} (m : Movement) → x < m .identity → Below x ms → Place (m .identity) ms k
+    → Below x (added m ms)
 below-added {x} m l s last = subst (Below x) (sym (added-last m)) l
 below-added {x} m l s (here {a} {ms} h) = subst (Below x) (sym (added-here m a ms h)) l
 below-added {x} m l s (there {a} {ms} h r) = subst (Below x) (sym (added-there m a ms h)) s
 
-pub rising-added : {k : ℕ} {ms : List Movement} (m : Movement) → New (m .identity) ms → Rising ms → Place (m .identity) ms k → Rising (added m ms)
+pub rising-added : {k : ℕ} {ms : List Movement} (m : Movement) → New (m .identity) ms → Rising ms
+    → Place (m .identity) ms k → Rising (added m ms)
 rising-added m n s last = subst Rising (sym (added-last m)) (tt, tt)
 rising-added m n s (here {a} {ms} h) =
     let l : m .identity < a .identity = omega (arith, n .0) in
     subst Rising (sym (added-here m a ms h)) (l, s)
-rising-added m n s (there {a} {ms} h r) = subst Rising (sym (added-there m a ms h)) (below-added m h (s .0) r, rising-added m (n .1) (s .1) r)
+rising-added m n s (there {a} {ms} h r) =
+    subst Rising (sym (added-there m a ms h)) (below-added m h (s .0) r, rising-added m (n .1) (s .1) r)
 
 -- A movement goes out
 
 pub good-without : (p : ℕ) {x k : ℕ} {ms : List Movement} → AllGood p ms → Found x ms k → AllGood p (without x ms)
 good-without p {x} s (this {a} {ms} e) = subst (AllGood p) (sym (without-this x a ms e)) (s .1)
-good-without p {x} s (later {a} {ms} e r) = subst (AllGood p) (sym (without-later x a ms e)) (s .0, good-without p (s .1) r)
+good-without p {x} s (later {a} {ms} e r) =
+    subst (AllGood p) (sym (without-later x a ms e)) (s .0, good-without p (s .1) r)
 
 pub length-without : {x k : ℕ} {ms : List Movement} → Found x ms k → suc (length (without x ms)) ≡ length ms
 length-without {x} (this {a} {ms} e) = ap (λ (l : List Movement). suc (length l)) (without-this x a ms e)
-length-without {x} (later {a} {ms} e r) = ap (λ (l : List Movement). suc (length l)) (without-later x a ms e) ∙ ap suc (length-without r)
+length-without {x} (later {a} {ms} e r) =
+    ap (λ (l : List Movement). suc (length l)) (without-later x a ms e) ∙ ap suc (length-without r)
 
 below-rest : (x : ℕ) (a : Movement) (ms : List Movement) → x < a .identity → Below (a .identity) ms → Below x ms
 below-rest x a [] h s = tt
@@ -91,14 +100,17 @@ below-without y {x} b s (later {a} {ms} e r) = subst (Below y) (sym (without-lat
 
 pub rising-without : {x k : ℕ} {ms : List Movement} → Rising ms → Found x ms k → Rising (without x ms)
 rising-without {x} s (this {a} {ms} e) = subst Rising (sym (without-this x a ms e)) (s .1)
-rising-without {x} s (later {a} {ms} e r) = subst Rising (sym (without-later x a ms e)) (below-without (a .identity) (s .0) (s .1) r, rising-without (s .1) r)
+rising-without {x} s (later {a} {ms} e r) =
+    subst Rising (sym (without-later x a ms e)) (below-without (a .identity) (s .0) (s .1) r, rising-without (s .1) r)
 
 -- A movement holds other levels
 
-pub good-holding : {p x k : ℕ} {ms : List Movement} (h : Held) → Filled p h → AllGood p ms → Found x ms k → AllGood p (holding x h ms)
+pub good-holding : {p x k : ℕ} {ms : List Movement} (h : Held) → Filled p h → AllGood p ms → Found x ms k
+    → AllGood p (holding x h ms)
 good-holding {p} {x} h f s (this {a} {ms} e) =
     subst (AllGood p) (sym (holding-this x h a ms e)) (record { low = s .0 .low; high = s .0 .high; group< = s .0 .group<; filled = f }, s .1)
-good-holding {p} {x} h f s (later {a} {ms} e r) = subst (AllGood p) (sym (holding-later x h a ms e)) (s .0, good-holding h f (s .1) r)
+good-holding {p} {x} h f s (later {a} {ms} e r) =
+    subst (AllGood p) (sym (holding-later x h a ms e)) (s .0, good-holding h f (s .1) r)
 
 pub length-holding : {x k : ℕ} {ms : List Movement} (h : Held) → Found x ms k → length (holding x h ms) ≡ length ms
 length-holding {x} h (this {a} {ms} e) = ap length (holding-this x h a ms e)
@@ -110,7 +122,8 @@ below-holding y {x} h b (later {a} {ms} e r) = subst (Below y) (sym (holding-lat
 
 pub rising-holding : {x k : ℕ} {ms : List Movement} (h : Held) → Rising ms → Found x ms k → Rising (holding x h ms)
 rising-holding {x} h s (this {a} {ms} e) = subst Rising (sym (holding-this x h a ms e)) s
-rising-holding {x} h s (later {a} {ms} e r) = subst Rising (sym (holding-later x h a ms e)) (below-holding (a .identity) h (s .0) r, rising-holding h (s .1) r)
+rising-holding {x} h s (later {a} {ms} e r) =
+    subst Rising (sym (holding-later x h a ms e)) (below-holding (a .identity) h (s .0) r, rising-holding h (s .1) r)
 
 -- The columns' widths
 
@@ -140,13 +153,15 @@ unfolding followed follows
 zeros-follow x zero = refl
 zeros-follow x (suc n) = refl
 
-followed-column : (p u : ℕ) (a : Movement) (ms : List Movement) → Good p a → AllGood p ms → Below (a .identity) ms → followed (a .identity) (column identityCell 1 u ms) ≡ true
+followed-column : (p u : ℕ) (a : Movement) (ms : List Movement) → Good p a → AllGood p ms → Below (a .identity) ms
+    → followed (a .identity) (column identityCell 1 u ms) ≡ true
 unfolding column followed follows
 followed-column p u a [] g s b = zeros-follow (a .identity) (u * 1)
 followed-column p u a (c ∷ ms) g s b =
     simp (lt-ltb 0 (a .identity) (g .low), lt-ltb (a .identity) (c .identity) b, or-true)
 
-pub column-rises : (p u : ℕ) (ms : List Movement) → AllGood p ms → Rising ms → rising (column identityCell 1 u ms) ≡ true
+pub column-rises : (p u : ℕ) (ms : List Movement) → AllGood p ms → Rising ms
+    → rising (column identityCell 1 u ms) ≡ true
 unfolding column rising
 column-rises p u [] s r = zeros-rise (u * 1)
 column-rises p u (a ∷ ms) s r = rw (followed-column p u a ms (s .0) (s .1) (r .0)) (column-rises p u ms (s .1) (r .1))
@@ -157,7 +172,8 @@ mark-le none = refl
 mark-le (holds ls) = refl
 
 -- a movement's row is sound
-row-good : (p : ℕ) (a : Movement) → Good p a → rowSound (a .identity) (a .group) (markOf (a .held)) (levelsOf p (a .held)) ≡ true
+row-good : (p : ℕ) (a : Movement) → Good p a
+    → rowSound (a .identity) (a .group) (markOf (a .held)) (levelsOf p (a .held)) ≡ true
 unfolding rowSound headSound
 row-good p a g =
     let n : a .identity ≡ 0 → ⊥ = omega (arith, g .low) in
@@ -190,7 +206,8 @@ rows-good p u (a ∷ ms) s =
     (rows-good p u ms (s .1))
 
 -- their book is sound exactly if its size is in range
-pub book-sound : (p u : ℕ) (ms : List Movement) → AllGood p ms → Rising ms → sound p (rowsOf p u ms) ≡ sizesFit p (u + length ms)
+pub book-sound : (p u : ℕ) (ms : List Movement) → AllGood p ms → Rising ms
+    → sound p (rowsOf p u ms) ≡ sizesFit p (u + length ms)
 unfolding sound shaped shapeFits rowsOf sizesFit
 book-sound p u ms g r =
     let n = u + length ms in

@@ -1,4 +1,5 @@
--- One accepted call: the book's change is the change of the list of movements, and the movements still stand. Assumes nothing.
+-- One accepted call: the book's change is the change of the list of movements, and the movements still stand. Assumes
+-- nothing.
 use mathlib.Core.Path.{_≡_, refl, sym, ap, subst, _∙_}
 use mathlib.Core.Bool.{Bool, true, false, cond, not, _||_}
 use mathlib.Core.List.{List, [], _∷_}
@@ -59,11 +60,15 @@ place-at p x u (a ∷ ms) s = by (leb x (a .identity)) refl (place-at p x u ms (
     used : (t : Bool) → leb x (a .identity) ≡ t → at (a .identity) ≡ t
     used t e = rw (ne-eqb (a .identity) 0 (omega (arith, s .0 .low))) e
 
-    by : (t : Bool) → leb x (a .identity) ≡ t → Place x ms (firstAt at (ids u ms)) → Place x (a ∷ ms) (firstAt at (ids u (a ∷ ms)))
-    by true e r = subst (Place x (a ∷ ms)) (sym (first-cons at u a ms (used true e))) (here (leb-true x (a .identity) e))
-    by false e r = subst (Place x (a ∷ ms)) (sym (first-cons at u a ms (used false e))) (there (leb-false x (a .identity) e) r)
+    by : (t : Bool) → leb x (a .identity) ≡ t → Place x ms (firstAt at (ids u ms))
+        → Place x (a ∷ ms) (firstAt at (ids u (a ∷ ms)))
+    by true e r =
+        subst (Place x (a ∷ ms)) (sym (first-cons at u a ms (used true e))) (here (leb-true x (a .identity) e))
+    by false e r =
+        subst (Place x (a ∷ ms)) (sym (first-cons at u a ms (used false e))) (there (leb-false x (a .identity) e) r)
 
-found-at : (x u : ℕ) (ms : List Movement) → 1 ≤ x → indexOf x (ids u ms) < length (ids u ms) → Found x ms (indexOf x (ids u ms))
+found-at : (x u : ℕ) (ms : List Movement) → 1 ≤ x → indexOf x (ids u ms) < length (ids u ms)
+    → Found x ms (indexOf x (ids u ms))
 unfolding indexOf column
 found-at x u [] l h =
     absurd (omega (arith, none-zeros (λ y. eqb y x) (u * 1) (ne-eqb 0 x (omega arith)), length-replicate {A = ℕ} (u * 1) 0))
@@ -72,7 +77,8 @@ found-at x u (a ∷ ms) l h = by (eqb (a .identity) x) refl (found-at x u ms l)
     at : ℕ → Bool
     at y = eqb y x
 
-    by : (t : Bool) → eqb (a .identity) x ≡ t → (firstAt at (ids u ms) < length (ids u ms) → Found x ms (firstAt at (ids u ms)))
+    by : (t : Bool) → eqb (a .identity) x ≡ t
+        → (firstAt at (ids u ms) < length (ids u ms) → Found x ms (firstAt at (ids u ms)))
         → Found x (a ∷ ms) (firstAt at (ids u (a ∷ ms)))
     by true e r = subst (Found x (a ∷ ms)) (sym (first-cons at u a ms e)) (this (eqb-true (a .identity) x e))
     by false e r =
@@ -95,14 +101,16 @@ pub first-unused : (p u : ℕ) (ms : List Movement) → AllGood p ms → indexOf
 unfolding indexOf column
 first-unused p u [] s = first-zeros (λ y. eqb y 0) (u * 1) refl
 first-unused p u (a ∷ ms) s =
-    first-cons (λ y. eqb y 0) u a ms (ne-eqb (a .identity) 0 (omega (arith, s .0 .low))) ∙ ap suc (first-unused p u ms (s .1))
+    first-cons (λ y. eqb y 0) u a ms (ne-eqb (a .identity) 0 (omega (arith, s .0 .low)))
+    ∙ ap suc (first-unused p u ms (s .1))
 
 pub length-ids : (u : ℕ) (ms : List Movement) → length (ids u ms) ≡ u + length ms
 length-ids u ms = length-column identityCell 1 u ms (sized-one (λ a. a .identity) ms) ∙ mul-one (u + length ms)
 
 -- A row goes in or out, or holds other levels: the book's change is the list's
 
-rows-in : (p x g k u : ℕ) (ms : List Movement) → AllGood p ms → Place x ms k → rowIn p (rowsOf p (suc u) ms) k x g ≡ rowsOf p u (added (movement x g none) ms)
+rows-in : (p x g k u : ℕ) (ms : List Movement) → AllGood p ms → Place x ms k
+    → rowIn p (rowsOf p (suc u) ms) k x g ≡ rowsOf p u (added (movement x g none) ms)
 unfolding rowIn rowsOf levelsOf markOf
 rows-in p x g k u ms s h =
     let m = movement x g none in
@@ -112,7 +120,8 @@ rows-in p x g k u ms s h =
     let d = column-in (levelCells p) p u m refl (length-replicate {A = ℕ} p 0) (sized-levels p ms s) h in
     λ i. bookOf (a i) (b i) (c i) (d i)
 
-rows-out : (p x k u : ℕ) (ms : List Movement) → AllGood p ms → Found x ms k → rowOut p (rowsOf p u ms) k ≡ rowsOf p (suc u) (without x ms)
+rows-out : (p x k u : ℕ) (ms : List Movement) → AllGood p ms → Found x ms k
+    → rowOut p (rowsOf p u ms) k ≡ rowsOf p (suc u) (without x ms)
 unfolding rowOut rowsOf
 rows-out p x k u ms s h =
     let a = column-out identityCell 1 u (sym (mul-one k)) (sized-one (λ a. a .identity) ms) h in
@@ -161,7 +170,8 @@ stands-not : (x u : ℕ) (ms : List Movement) → not (stands x (ids u ms)) ≡ 
 unfolding stands
 stands-not x u ms e = new-at x u ms (ltb-false (indexOf x (ids u ms)) (length (ids u ms)) (not-true _ e))
 
-enter-step : (p u : ℕ) (ms : List Movement) (x t k s m : ℕ) → AllGood p ms → Rising ms → enterRefusal (ids u ms) x t k s m ≡ 0
+enter-step : (p u : ℕ) (ms : List Movement) (x t k s m : ℕ) → AllGood p ms → Rising ms
+    → enterRefusal (ids u ms) x t k s m ≡ 0
     → Stepped p u ms (enter x t k s m)
 unfolding rowsOf step changed
 enter-step p zero ms x t k s m g r z =
@@ -180,7 +190,8 @@ enter-step p (suc u) ms x t k s m g r z =
       rising = rising-added v (stands-not x (suc u) ms (e .new)) r at;
     }
 
-pub stood-at : (p u x : ℕ) (ms : List Movement) → identityFits x ≡ true → stands x (ids u ms) ≡ true → Found x ms (indexOf x (ids u ms))
+pub stood-at : (p u x : ℕ) (ms : List Movement) → identityFits x ≡ true → stands x (ids u ms) ≡ true
+    → Found x ms (indexOf x (ids u ms))
 stood-at p u x ms i e = found-at x u ms (identity-in x i .0) (stands-below x u ms e)
 
 held-step : (p u x : ℕ) (h : Held) (ms : List Movement) (c : Call) → AllGood p ms → Rising ms → Filled p h
@@ -197,7 +208,8 @@ held-step p u x h ms c g r f i e l b =
       rising = subst Rising (sym l) (rising-holding h r at);
     }
 
-withdraw-step : (p u x : ℕ) (ms : List Movement) → AllGood p ms → Rising ms → withdrawRefusal (ids u ms) x ≡ 0 → Stepped p u ms (withdraw x)
+withdraw-step : (p u x : ℕ) (ms : List Movement) → AllGood p ms → Rising ms → withdrawRefusal (ids u ms) x ≡ 0
+    → Stepped p u ms (withdraw x)
 unfolding rowsOf step changed
 withdraw-step p u x ms g r z =
     let w = withdrawn (ids u ms) x z in
@@ -211,7 +223,8 @@ withdraw-step p u x ms g r z =
       rising = rising-without r at;
     }
 
-pub stepped : (p u : ℕ) (ms : List Movement) (c : Call) → AllGood p ms → Rising ms → soundRefusal p (rowsOf p u ms) c ≡ 0 → Stepped p u ms c
+pub stepped : (p u : ℕ) (ms : List Movement) (c : Call) → AllGood p ms → Rising ms
+    → soundRefusal p (rowsOf p u ms) c ≡ 0 → Stepped p u ms c
 unfolding rowsOf step changed markOf levelsOf soundRefusal
 stepped p u ms (enter x t k s m) g r z = enter-step p u ms x t k s m g r z
 stepped p u ms (supply x ls) g r z =

@@ -12,7 +12,8 @@ use Rattle.room.proofs.Laws.{frontTo}
 abbrev pub back : List ℕ → List ℕ → ℕ → ℕ → List ℕ
 back s d w i = take (i + w) d ++ drop i s
 
-back-suc : (s d : List ℕ) (w i : ℕ) → i < length s → i + w < length d → set (back s d w (suc i)) (i + w) (getD s i 0) ≡ back s d w i
+back-suc : (s d : List ℕ) (w i : ℕ) → i < length s → i + w < length d
+    → set (back s d w (suc i)) (i + w) (getD s i 0) ≡ back s d w i
 back-suc s d w i h k =
     let e : suc i + w ≡ suc (i + w) = omega arith in
     let l : length (take (i + w) d) ≡ i + w = length-take-le (i + w) d (omega arith) in
@@ -35,7 +36,8 @@ back-read d count w i h k l =
     ∙ sym (List·getD-append (take count d) _ 0 i (rw (length-take-le count d l) k) ∙ getD-take count d i 0 k)
 
 -- a turn of the loop that moves the first `count` values up by w, from their end on
-pub back-more : (d : List ℕ) (count w left : ℕ) {now : List ℕ} → now ≡ back (raised count w d) d w left → 0 < left → left ≤ count → count + w ≤ length d
+pub back-more : (d : List ℕ) (count w left : ℕ) {now : List ℕ} → now ≡ back (raised count w d) d w left → 0 < left
+    → left ≤ count → count + w ≤ length d
     → set now (left - 1 + w) (getD now (left - 1) 0) ≡ back (raised count w d) d w (left - 1)
 back-more d count w zero e p h k = absurd (not-suc-le-zero p)
 back-more d count w (suc i) {now} e p h k =
@@ -54,7 +56,8 @@ back-start d count w h =
     sym (ap (λ (t : List ℕ). take (count + w) d ++ t) (drop-at (take count d) (drop (count + w) d) count l) ∙ take-append-drop (count + w) d)
 
 -- in the loop that moves d down by w, what is read at i + w is still d's
-pub down-read : (d : List ℕ) (w i : ℕ) {now : List ℕ} → now ≡ frontTo (drop w d) d i → i + w ≤ length d → getD (drop w d) i 0 ≡ getD now (i + w) 0
+pub down-read : (d : List ℕ) (w i : ℕ) {now : List ℕ} → now ≡ frontTo (drop w d) d i → i + w ≤ length d
+    → getD (drop w d) i 0 ≡ getD now (i + w) 0
 down-read d w i {now} e h =
     let l : length (take i (drop w d)) ≡ i = length-take-le i (drop w d) (rw length-drop (omega arith)) in
     getD-drop w d i 0 ∙ ap (λ n. getD d n 0) (add-comm w i)

@@ -1,4 +1,5 @@
--- What a journal is good for: any sequence of calls can be kept as one, and a replay of it on an empty book gives the columns and answers that the
+-- What a journal is good for: any sequence of calls can be kept as one, and a replay of it on an empty book gives the
+-- columns and answers that the
 -- sequence's history means. Assumes nothing.
 use mathlib.Core.Path.{_≡_, refl, sym, ap, subst, _∙_}
 use mathlib.Core.Bool.{Bool, true, false, cond, _&&_, true≢false}
@@ -60,7 +61,8 @@ rest-spelled c rest = ap (λ n. drop n (spelled c ++ rest)) (width-spelled c res
 calls-spelled : (c : Call) (rest : List ℕ) → callsOf (spelled c ++ rest) ≡ c ∷ callsOf rest
 calls-spelled c rest =
     let n : 0 < length (spelled c ++ rest) = omega (arith, some-spelled c, length-append (spelled c) rest) in
-    calls-more (spelled c ++ rest) n (complete-spelled c rest) ∙ (λ i. call-spelled c rest i ∷ callsOf (rest-spelled c rest i))
+    calls-more (spelled c ++ rest) n (complete-spelled c rest)
+    ∙ (λ i. call-spelled c rest i ∷ callsOf (rest-spelled c rest i))
 
 -- the numbers of each call, one by one
 pub spelled-so : Spelled
@@ -95,7 +97,8 @@ unfolding booked answered
 made-chain b [] = done
 made-chain b (c ∷ cs) = called (record { answer = refl; book = refl }) (made-chain (after (c .points) b (c .call)) cs)
 
-pub replay-made : {p r : ℕ} {b b′ : Book} {j room room′ : List ℕ} → Replayed p b j room r b′ room′ → ReplayHolds p b j room r b′ room′
+pub replay-made : {p r : ℕ} {b b′ : Book} {j room room′ : List ℕ} → Replayed p b j room r b′ room′
+    → ReplayHolds p b j room r b′ room′
 unfolding replayRefusal
 replay-made {p} {r} {b} {b′} {j} {room} {room′} k =
     let calls = length (callsOf j) in
@@ -120,7 +123,8 @@ replay-made {p} {r} {b} {b′} {j} {room} {room′} k =
 
 -- A replay on an empty book
 
-pub replay-history : (p n : ℕ) {j room : List ℕ} {b′ : Book} {room′ : List ℕ} → Replayed p (emptyBook p n) j room 0 b′ room′
+pub replay-history : (p n : ℕ) {j room : List ℕ} {b′ : Book} {room′ : List ℕ}
+    → Replayed p (emptyBook p n) j room 0 b′ room′
     → (b′ ≡ rowsOf p (n - length (movements p n (callsFor p j))) (movements p n (callsFor p j)))
     × (room′ ≡ front (listAnswered p n [] (callsFor p j)) room)
 replay-history p n {j} {room} {b′} {room′} r =

@@ -34,7 +34,8 @@ rest-is (suc w) x j h = let e : suc w - 1 ≡ w = omega arith in ap (λ n. drop 
 
 pub complete-width : (j : List ℕ) → complete j ≡ true → (1 ≤ widthOf j) × (widthOf j ≤ length j)
 unfolding complete
-complete-width j e = (leb-true 1 (widthOf j) (and-left (leb 1 (widthOf j)) _ e), leb-true (widthOf j) (length j) (and-right (leb 1 (widthOf j)) _ e))
+complete-width j e =
+    (leb-true 1 (widthOf j) (and-left (leb 1 (widthOf j)) _ e), leb-true (widthOf j) (length j) (and-right (leb 1 (widthOf j)) _ e))
 
 -- the first call, and the rest
 
@@ -48,7 +49,8 @@ calls-more (x ∷ j) h e =
 pub laid-more : (j : List ℕ) → 0 < length j → complete j ≡ true → laidOut j ≡ laidOut (drop (widthOf j) j)
 unfolding laidOut laidOutFrom
 laid-more [] h e = absurd (omega arith)
-laid-more (x ∷ j) h e = rw e (skip-laid (widthOf (x ∷ j) - 1) j ∙ ap (laidOutFrom 0) (rest-is (widthOf (x ∷ j)) x j (complete-width (x ∷ j) e .0)))
+laid-more (x ∷ j) h e =
+    rw e (skip-laid (widthOf (x ∷ j) - 1) j ∙ ap (laidOutFrom 0) (rest-is (widthOf (x ∷ j)) x j (complete-width (x ∷ j) e .0)))
 
 pub laid-off : (j : List ℕ) → 0 < length j → complete j ≡ false → laidOut j ≡ false
 unfolding laidOut laidOutFrom
@@ -81,7 +83,8 @@ pub tail-is : (j : List ℕ) (at : ℕ) → tail j at ≡ drop at j
 tail-is j at = take-all (length j - at) (drop at j) (omega (arith, length-drop at j))
 
 -- a call that is not complete: of no known kind, or cut short
-pub laid-cut : (j : List ℕ) (at w : ℕ) → w ≡ widthOf (tail j at) → at < length j → (w < 1) ⊎ (length j - at < w) → laidOut (drop at j) ≡ false
+pub laid-cut : (j : List ℕ) (at w : ℕ) → w ≡ widthOf (tail j at) → at < length j → (w < 1) ⊎ (length j - at < w)
+    → laidOut (drop at j) ≡ false
 unfolding complete
 laid-cut j at w e h k =
     let v : w ≡ widthOf (drop at j) = e ∙ ap widthOf (tail-is j at) in
@@ -116,7 +119,8 @@ step-of j at w e h t =
     }
 
 -- by the tests of the check
-pub step-tested : (j : List ℕ) (at w : ℕ) → w ≡ widthOf (tail j at) → at < length j → 1 ≤ w → w ≤ length j - at → Step j at w
+pub step-tested : (j : List ℕ) (at w : ℕ) → w ≡ widthOf (tail j at) → at < length j → 1 ≤ w → w ≤ length j - at
+    → Step j at w
 unfolding complete
 step-tested j at w e h a b =
     let v : w ≡ widthOf (drop at j) = e ∙ ap widthOf (tail-is j at) in
@@ -124,7 +128,8 @@ step-tested j at w e h a b =
     step-of j at w e h (rw (le-leb 1 (widthOf (drop at j)) (omega arith), le-leb (widthOf (drop at j)) (length (drop at j)) (omega arith)) refl)
 
 -- or by the layout
-pub step-laid : (j : List ℕ) (at w : ℕ) → w ≡ widthOf (tail j at) → at < length j → laidOut (drop at j) ≡ true → Step j at w
+pub step-laid : (j : List ℕ) (at w : ℕ) → w ≡ widthOf (tail j at) → at < length j → laidOut (drop at j) ≡ true
+    → Step j at w
 step-laid j at w e h l = step-of j at w e h (laid-complete (drop at j) (omega (arith, length-drop at j)) l)
 
 -- What the first number says of the call
@@ -146,9 +151,11 @@ module _ (j : List ℕ) where
   unfolding widthOf
   width-withdraw e = rw e refl
 
-  pub width-none : (getD j 0 0 ≡ 1 → ⊥) → (getD j 0 0 ≡ 2 → ⊥) → (getD j 0 0 ≡ 3 → ⊥) → (getD j 0 0 ≡ 4 → ⊥) → widthOf j ≡ 0
+  pub width-none : (getD j 0 0 ≡ 1 → ⊥) → (getD j 0 0 ≡ 2 → ⊥) → (getD j 0 0 ≡ 3 → ⊥) → (getD j 0 0 ≡ 4 → ⊥)
+      → widthOf j ≡ 0
   unfolding widthOf
-  width-none a b d e = rw (ne-eqb (getD j 0 0) 1 a, ne-eqb (getD j 0 0) 2 b, ne-eqb (getD j 0 0) 3 d, ne-eqb (getD j 0 0) 4 e) refl
+  width-none a b d e =
+      rw (ne-eqb (getD j 0 0) 1 a, ne-eqb (getD j 0 0) 2 b, ne-eqb (getD j 0 0) 3 d, ne-eqb (getD j 0 0) 4 e) refl
 
   pub call-enter : getD j 0 0 ≡ 1 → callAt j ≡ enter (getD j 1 0) (getD j 2 0) (getD j 3 0) (getD j 4 0) (getD j 5 0)
   unfolding callAt
@@ -162,21 +169,25 @@ module _ (j : List ℕ) where
   unfolding callAt
   call-take-back e = rw e refl
 
-  pub call-withdraw : (getD j 0 0 ≡ 1 → ⊥) → (getD j 0 0 ≡ 2 → ⊥) → (getD j 0 0 ≡ 3 → ⊥) → callAt j ≡ withdraw (getD j 1 0)
+  pub call-withdraw : (getD j 0 0 ≡ 1 → ⊥) → (getD j 0 0 ≡ 2 → ⊥) → (getD j 0 0 ≡ 3 → ⊥)
+      → callAt j ≡ withdraw (getD j 1 0)
   unfolding callAt
   call-withdraw a b d = rw (ne-eqb (getD j 0 0) 1 a, ne-eqb (getD j 0 0) 2 b, ne-eqb (getD j 0 0) 3 d) refl
 
 -- the width by the three tests on the first number
-width-by : (j : List ℕ) (a b d : Bool) → eqb (getD j 0 0) 1 ≡ a → eqb (getD j 0 0) 2 ≡ b → (eqb (getD j 0 0) 3 || eqb (getD j 0 0) 4) ≡ d
+width-by : (j : List ℕ) (a b d : Bool) → eqb (getD j 0 0) 1 ≡ a → eqb (getD j 0 0) 2 ≡ b
+    → (eqb (getD j 0 0) 3 || eqb (getD j 0 0) 4) ≡ d
     → widthOf j ≡ cond a 6 (cond b (3 + getD j 2 0) (cond d 2 0))
 unfolding widthOf
 width-by j a b d p q r = rw (p, q, r) refl
 
 -- every complete call has at least two numbers
 pub complete-two : (j : List ℕ) → complete j ≡ true → 2 ≤ length j
-complete-two j e = by (eqb (getD j 0 0) 1) (eqb (getD j 0 0) 2) (eqb (getD j 0 0) 3 || eqb (getD j 0 0) 4) (width-by j _ _ _ refl refl refl) (complete-width j e)
+complete-two j e =
+    by (eqb (getD j 0 0) 1) (eqb (getD j 0 0) 2) (eqb (getD j 0 0) 3 || eqb (getD j 0 0) 4) (width-by j _ _ _ refl refl refl) (complete-width j e)
   where
-    by : (a b d : Bool) → widthOf j ≡ cond a 6 (cond b (3 + getD j 2 0) (cond d 2 0)) → (1 ≤ widthOf j) × (widthOf j ≤ length j) → 2 ≤ length j
+    by : (a b d : Bool) → widthOf j ≡ cond a 6 (cond b (3 + getD j 2 0) (cond d 2 0))
+        → (1 ≤ widthOf j) × (widthOf j ≤ length j) → 2 ≤ length j
     by true b d p w = omega (arith, p, w)
     by false true d p w = omega (arith, p, w)
     by false false true p w = omega (arith, p, w)

@@ -37,7 +37,8 @@ pub record Replaying (p : ℕ) (b₀ : Book) (j room₀ : List ℕ) (at made : �
   pub done : made ≤ length (all p b₀ j)
   pub answered= : room ≡ frontTo (all p b₀ j) room₀ made
 
-pub replay-starts : (p : ℕ) (b : Book) (j room : List ℕ) → sound p b ≡ true → laidOut j ≡ true → Replaying p b j room 0 0 b room
+pub replay-starts : (p : ℕ) (b : Book) (j room : List ℕ) → sound p b ≡ true → laidOut j ≡ true
+    → Replaying p b j room 0 0 b room
 replay-starts p b j room s l = record {
   within = omega arith;
   sound= = s;
@@ -58,7 +59,8 @@ pub record Next (p : ℕ) (b₀ : Book) (j : List ℕ) (at w made : ℕ) (b : Bo
   pub answer : getD (all p b₀ j) made 0 ≡ refusal p b (callAt (tail j at))
   pub later : drop (made + 1) (all p b₀ j) ≡ answered (after p b (callAt (tail j at))) (calls p j (at + w))
 
-pub next : {p : ℕ} {b₀ : Book} {j room₀ : List ℕ} {at w made : ℕ} {b : Book} {room : List ℕ} → Replaying p b₀ j room₀ at made b room → Step j at w
+pub next : {p : ℕ} {b₀ : Book} {j room₀ : List ℕ} {at w made : ℕ} {b : Book} {room : List ℕ}
+    → Replaying p b₀ j room₀ at made b room → Step j at w
     → Next p b₀ j at w made b
 unfolding answered
 next {p} {b₀} {j} {room₀} {at} {w} {made} {b} {room} r step =
@@ -67,11 +69,13 @@ next {p} {b₀} {j} {room₀} {at} {w} {made} {b} {room} r step =
     r .answers ∙ ap (answered b) (more p at w j step) in
     record {
       inside = omega (arith, ap length e, length-drop made s);
-      answer = sym (ap (λ n. getD s n 0) (add-zero made)) ∙ sym (getD-drop made s 0 0) ∙ ap (λ (t : List ℕ). getD t 0 0) e;
+      answer =
+          sym (ap (λ n. getD s n 0) (add-zero made)) ∙ sym (getD-drop made s 0 0) ∙ ap (λ (t : List ℕ). getD t 0 0) e;
       later = sym (drop-drop 1 made s) ∙ ap (drop 1) e;
     }
 
-pub replay-more : {p : ℕ} {b₀ : Book} {j room₀ : List ℕ} {at w made r : ℕ} {b b′ : Book} {room : List ℕ} → Replaying p b₀ j room₀ at made b room → Step j at w
+pub replay-more : {p : ℕ} {b₀ : Book} {j room₀ : List ℕ} {at w made r : ℕ} {b b′ : Book} {room : List ℕ}
+    → Replaying p b₀ j room₀ at made b room → Step j at w
     → length (all p b₀ j) ≤ length room₀ → Called p b (callAt (tail j at)) r b′
     → Replaying p b₀ j room₀ (at + w) (made + 1) b′ (set room made r)
 unfolding booked
@@ -82,14 +86,16 @@ replay-more {p} {b₀} {j} {room₀} {at} {w} {made} {r} {b} {b′} {room} s ste
       within = step .fits;
       sound= = called-sound (s .sound=) c;
       laid = sym (step .laid) ∙ s .laid;
-      book = s .book ∙ ap (booked b) (more p at w j step) ∙ ap (λ (k : Book). booked k (calls p j (at + w))) (sym (c .book));
+      book =
+          s .book ∙ ap (booked b) (more p at w j step) ∙ ap (λ (k : Book). booked k (calls p j (at + w))) (sym (c .book));
       answers = n .later ∙ ap (λ (k : Book). answered k (calls p j (at + w))) (sym (c .book));
       done = omega arith;
       answered= = front-to-more (all p b₀ j) room₀ (s .answered=) (n .answer ∙ sym (c .answer)) i (omega arith);
     }
 
 -- all calls are made
-pub replay-ends : {p : ℕ} {b₀ : Book} {j room₀ : List ℕ} {at made : ℕ} {b : Book} {room : List ℕ} → Replaying p b₀ j room₀ at made b room → length j ≤ at
+pub replay-ends : {p : ℕ} {b₀ : Book} {j room₀ : List ℕ} {at made : ℕ} {b : Book} {room : List ℕ}
+    → Replaying p b₀ j room₀ at made b room → length j ≤ at
     → (b ≡ booked b₀ (callsFor p j)) × (room ≡ front (all p b₀ j) room₀)
 unfolding booked answered madeFor
 replay-ends {p} {b₀} {j} {room₀} {at} {made} {b} {room} r h =
@@ -118,7 +124,8 @@ replay-ready p b j room e =
     let r₁₄ = refuse-none 14 (leb (length (callsOf j)) room) _ (omega arith) (r₉ .1) in
     (r₉ .0, (r₁₆ .0, leb-true (length (callsOf j)) room (r₁₄ .0)))
 
-pub replay-refused : {p r : ℕ} {b : Book} {j room : List ℕ} → r ≡ replayRefusal p b j (length room) → (r ≡ 0 → ⊥) → Replayed p b j room r b room
+pub replay-refused : {p r : ℕ} {b : Book} {j room : List ℕ} → r ≡ replayRefusal p b j (length room) → (r ≡ 0 → ⊥)
+    → Replayed p b j room r b room
 replay-refused {p} {r} {b} {j} {room} e h =
     let n = ne-eqb (replayRefusal p b j (length room)) 0 (λ z. h (e ∙ z)) in
     record { answer = e; book = rw n refl; answers = rw n refl }
@@ -130,6 +137,7 @@ replay-done {p} {b} {b′} {j} {room} {room′} e f g =
     record { answer = sym e; book = rw n f; answers = rw n g }
 
 -- two outcomes of one replay are equal
-pub replayed-once : {p r s : ℕ} {b b′ b″ : Book} {j room room′ room″ : List ℕ} → Replayed p b j room r b′ room′ → Replayed p b j room s b″ room″
+pub replayed-once : {p r s : ℕ} {b b′ b″ : Book} {j room room′ room″ : List ℕ} → Replayed p b j room r b′ room′
+    → Replayed p b j room s b″ room″
     → (r ≡ s) × (b′ ≡ b″) × (room′ ≡ room″)
 replayed-once x y = (x .answer ∙ sym (y .answer), x .book ∙ sym (y .book), x .answers ∙ sym (y .answers))

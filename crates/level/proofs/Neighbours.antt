@@ -68,7 +68,8 @@ no-value m h = rw (lt-ltb m 1000 h) refl
 
 -- The verdict
 
-over-when : (l : Level) (limit : ℕ) → verdictNumber (verdictOf l limit) ≡ 1 ↔ (levelGiven l ≡ 1) × (limit < levelValue l)
+over-when : (l : Level) (limit : ℕ)
+    → verdictNumber (verdictOf l limit) ≡ 1 ↔ (levelGiven l ≡ 1) × (limit < levelValue l)
 over-when BelowZero limit = (λ e. absurd (omega arith), λ h. absurd (omega arith))
 over-when (At n) limit = go (ltb limit n) refl
   where

@@ -18,7 +18,8 @@ unfolding firstFrom
 first-passes test i zero k lo hi t = absurd (omega arith)
 first-passes test i (suc f) k lo hi t = go (test i) refl (λ later. first-passes test (suc i) f k later (omega arith) t)
   where
-    go : (b : Bool) → test i ≡ b → (suc i ≤ k → test (firstFrom test (suc i) f) ≡ true) → test (cond b i (firstFrom test (suc i) f)) ≡ true
+    go : (b : Bool) → test i ≡ b → (suc i ≤ k → test (firstFrom test (suc i) f) ≡ true)
+        → test (cond b i (firstFrom test (suc i) f)) ≡ true
     go true e rest = e
     go false e rest = ⊎-elim (λ same. absurd (true≢false (sym t ∙ ap test (sym same) ∙ e))) rest (eq-or-lt-of-le lo)
 
@@ -51,6 +52,7 @@ smallest m lo hi =
     rw (le-ltb m 1000 lo)
     (record {
       given = refl;
-      reaches = leb-true m _ (first-passes test 0 20000 19999 (omega arith) (omega arith) (le-leb m (bound 19999) (omega (arith, bound-last))));
+      reaches =
+          leb-true m _ (first-passes test 0 20000 19999 (omega arith) (omega arith) (le-leb m (bound 19999) (omega (arith, bound-last))));
       no-smaller = λ j l. leb-false m (bound j) (first-misses test 0 20000 j (omega arith) l);
     })

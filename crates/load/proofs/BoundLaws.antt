@@ -1,4 +1,5 @@
--- Laws of the sums over groups that movements within the bounds give: one group more fits, and so do the total and the mean.
+-- Laws of the sums over groups that movements within the bounds give: one group more fits, and so do the total and the
+-- mean.
 -- Assumes nothing.
 use mathlib.Core.Path.{_≡_, refl, sym, ap, _∙_}
 use mathlib.Core.Bool.{Bool, true, false, cond}
@@ -38,7 +39,8 @@ scaled-small : (c : Group) → c .energy ≤ c .computed * maxEnergy → scaledE
 unfolding scaledEnergy scaledBy known
 scaled-small c h = go (eqb (c .computed) 0)
   where
-    go : (t : Bool) → cond t 0 (c .energy * (c .computed + c .missing) / c .computed) ≤ maxEnergy * cond t 0 (c .computed + c .missing)
+    go : (t : Bool)
+        → cond t 0 (c .energy * (c .computed + c .missing) / c .computed) ≤ maxEnergy * cond t 0 (c .computed + c .missing)
     go true = omega arith
     go false = scaled-le (c .energy) (c .computed + c .missing) (c .computed) maxEnergy h
 
@@ -51,7 +53,8 @@ sum-next : (k : ℕ → ℕ) (n : ℕ) → sumTo k (suc n) ≡ sumTo k n + k n
 unfolding sumTo
 sum-next k n = refl
 
-pub fits-next : (cs : List (List (List Group))) → Bounded cs → (g : ℕ) → g < groupCount → Fitting (sumsOf (groupAt cs) g) (groupAt cs g)
+pub fits-next : (cs : List (List (List Group))) → Bounded cs → (g : ℕ) → g < groupCount
+    → Fitting (sumsOf (groupAt cs) g) (groupAt cs g)
 unfolding sumsOf
 fits-next cs b g h =
     let f = groupAt cs in

@@ -33,7 +33,8 @@ at-table f =
     all-at (λ g. groupAt (table f) g ≡ f g) 18
     ((((((((((((((((((tt, r), r), r), r), r), r), r), r), r), r), r), r), r), r), r), r), r), r)
 
-pub put-table : (f : ℕ → Group) (c : Group) (g : ℕ) → g < 18 → withGroup (table f) g c ≡ table (λ h. cond (eqb g h) c (f h))
+pub put-table : (f : ℕ → Group) (c : Group) (g : ℕ) → g < 18
+    → withGroup (table f) g c ≡ table (λ h. cond (eqb g h) c (f h))
 unfolding withGroup table
 put-table f c =
     all-at (λ g. withGroup (table f) g c ≡ table (λ h. cond (eqb g h) c (f h))) 18

@@ -40,7 +40,8 @@ module _ (c : Group) (x g m l : ℕ) where
   unfolding withRow
   row-missing n e = rw (ne-eqb x 0 n, eq-eqb m 0 e) refl
 
-  pub row-computed : (e : ℕ) → (x ≡ 0 → ⊥) → (m ≡ 0 → ⊥) → e ≡ energyIn g l → groupWith (c .computed + 1) (c .missing) (c .energy + e) ≡ withRow c x g m l
+  pub row-computed : (e : ℕ) → (x ≡ 0 → ⊥) → (m ≡ 0 → ⊥) → e ≡ energyIn g l
+      → groupWith (c .computed + 1) (c .missing) (c .energy + e) ≡ withRow c x g m l
   unfolding withRow
   row-computed e n k q = rw (ne-eqb x 0 n, ne-eqb m 0 k, q) refl
 
@@ -54,7 +55,8 @@ last w ss s = sum-append w ss (s ∷ []) ∙ omega arith
 module _ (ss : List Share) (g h : ℕ) where
   more-missing : cond (eqb g h) (groupWith (tally ss g .computed) (tally ss g .missing + 1) (tally ss g .energy)) (tally ss h) ≡ tally (ss ++ (lacks g ∷ [])) h
   unfolding tally addsComputed addsMissing addsEnergy
-  more-missing = rw (last (addsComputed h) ss (lacks g), last (addsMissing h) ss (lacks g), last (addsEnergy h) ss (lacks g)) (go (eqb g h) refl)
+  more-missing =
+      rw (last (addsComputed h) ss (lacks g), last (addsMissing h) ss (lacks g), last (addsEnergy h) ss (lacks g)) (go (eqb g h) refl)
     where
       go : (t : Bool) → eqb g h ≡ t
           → cond t (groupWith (tally ss g .computed) (tally ss g .missing + 1) (tally ss g .energy)) (tally ss h)
@@ -62,9 +64,11 @@ module _ (ss : List Share) (g h : ℕ) where
       go true q = rw (eqb-true g h q) (simp add-zero)
       go false q = simp add-zero
 
-  more-computed : (e : ℕ) → cond (eqb g h) (groupWith (tally ss g .computed + 1) (tally ss g .missing) (tally ss g .energy + e)) (tally ss h) ≡ tally (ss ++ (has g e ∷ [])) h
+  more-computed : (e : ℕ)
+      → cond (eqb g h) (groupWith (tally ss g .computed + 1) (tally ss g .missing) (tally ss g .energy + e)) (tally ss h) ≡ tally (ss ++ (has g e ∷ [])) h
   unfolding tally addsComputed addsMissing addsEnergy
-  more-computed e = rw (last (addsComputed h) ss (has g e), last (addsMissing h) ss (has g e), last (addsEnergy h) ss (has g e)) (go (eqb g h) refl)
+  more-computed e =
+      rw (last (addsComputed h) ss (has g e), last (addsMissing h) ss (has g e), last (addsEnergy h) ss (has g e)) (go (eqb g h) refl)
     where
       go : (t : Bool) → eqb g h ≡ t
           → cond t (groupWith (tally ss g .computed + 1) (tally ss g .missing) (tally ss g .energy + e)) (tally ss h)
@@ -117,7 +121,8 @@ sum-le-length w b (s ∷ ss) = omega (arith, b s, sum-le-length w b ss)
 
 tally-le : (ss : List Share) (g : ℕ) → (tally ss g .computed ≤ length ss) × (tally ss g .missing ≤ length ss)
 unfolding tally
-tally-le ss g = (sum-le-length (addsComputed g) (λ s. adds-le g s .0) ss, sum-le-length (addsMissing g) (λ s. adds-le g s .1) ss)
+tally-le ss g =
+    (sum-le-length (addsComputed g) (λ s. adds-le g s .0) ss, sum-le-length (addsMissing g) (λ s. adds-le g s .1) ss)
 
 abbrev Small : Share → Type 0
 Small (has g e) = e ≤ maxEnergy
@@ -190,7 +195,8 @@ module _ (p pt : ℕ) (b : Book) (ok : sound p b ≡ true) (there : pt < p) wher
   shares-length zero = lit≤ tt
   shares-length (suc n) = rw length-append (go _ (eqb (getD (b .identities) n 0) 0) (shares-length n))
     where
-      go : (s : Share) (t : Bool) → length (sharesTo p pt b n) ≤ n → length (sharesTo p pt b n) + length (cond t [] (s ∷ [])) ≤ suc n
+      go : (s : Share) (t : Bool) → length (sharesTo p pt b n) ≤ n
+          → length (sharesTo p pt b n) + length (cond t [] (s ∷ [])) ≤ suc n
       go s true l = omega arith
       go s false l = omega arith
 
@@ -214,7 +220,8 @@ module _ (p pt : ℕ) (b : Book) (ok : sound p b ≡ true) (there : pt < p) wher
   rows-le = let f = sound-fits p b ok in omega (arith, f .rows≤)
 
   -- room for one row more
-  row-room : (i : ℕ) → i < length (b .identities) → RoomForOne (groupAt (table (tally (sharesTo p pt b i))) (getD (b .groups) i 0))
+  row-room : (i : ℕ) → i < length (b .identities)
+      → RoomForOne (groupAt (table (tally (sharesTo p pt b i))) (getD (b .groups) i 0))
   row-room i h =
       let g = getD (b .groups) i 0 in
       let ss = sharesTo p pt b i in
@@ -241,7 +248,8 @@ module _ (p pt : ℕ) (b : Book) (ok : sound p b ≡ true) (there : pt < p) wher
       }
 
   -- one row more is tallied
-  pub row-next : (i : ℕ) → i < length (b .identities) → (cells : List (List (List Group))) (next : Group) → cells ≡ table (tally (sharesTo p pt b i))
+  pub row-next : (i : ℕ) → i < length (b .identities) → (cells : List (List (List Group))) (next : Group)
+      → cells ≡ table (tally (sharesTo p pt b i))
       → next ≡ withRow (groupAt cells (getD (b .groups) i 0)) (getD (b .identities) i 0) (getD (b .groups) i 0) (getD (b .marks) i 0) (getD (b .levels) (i * p + pt) 0)
       → withGroup cells (getD (b .groups) i 0) next ≡ table (tally (sharesTo p pt b (i + 1)))
   unfolding sharesTo

@@ -96,7 +96,8 @@ module _ (ss : List Share) (days : ℕ) (fit : daysFit days ≡ true) where
       go false = refl
 
   -- the verdict is that on the load
-  pub judged-load : (limit : ℕ) → limitFits limit ≡ true → judgedOf true ss days limit ≡ judgedBy (loadOf true ss days) limit
+  pub judged-load : (limit : ℕ) → limitFits limit ≡ true
+      → judgedOf true ss days limit ≡ judgedBy (loadOf true ss days) limit
   unfolding judgedOf verdictRefusal judgedBy judged loadOf loadRefusal answer refusedLoad
   judged-load limit l = rw (fit, l) (go (noneComputed ss))
     where

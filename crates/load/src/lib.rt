@@ -7,6 +7,7 @@ use load_rules::Counts;
 use load_rules::Groups;
 use load_rules::Judged;
 use load_rules::Load;
+use movement::limits::GROUPS;
 use movement::limits::MAX_DAYS;
 use movement::limits::MAX_LIMIT;
 use sums::counts_of;
@@ -145,7 +146,7 @@ fn refusal(n: u32) -> Load
         refused: n,
         total: 0,
         level: Level::BelowZero,
-        counts: [none; 18],
+        counts: [none; GROUPS],
     }
 }
 

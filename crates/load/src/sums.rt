@@ -3,6 +3,7 @@ use crate::tally::group_at;
 use load_rules::Counts;
 use load_rules::Group;
 use load_rules::Groups;
+use movement::limits::GROUPS;
 ghost use mathlib.Core.Path.{_≡_};
 ghost use mathlib.Core.Bool.{_&&_};
 ghost use lib.Dec.{eqb, ltb};
@@ -62,7 +63,7 @@ pub(crate) fn summed(groups: Groups) -> Sums
         known: 0,
         unknown: 0,
     };
-    for g in 0..18 {
+    for g in 0..GROUPS {
         s = added_to(s, group_at(groups, g));
     }
     s
@@ -79,15 +80,15 @@ pub(crate) fn none_computed(s: Sums) -> bool
 }
 
 // V and U of each group, by its number.
-pub(crate) fn counts_of(groups: Groups) -> [Counts; 18]
+pub(crate) fn counts_of(groups: Groups) -> [Counts; GROUPS]
     ensures { λ r. ⌜ r ≡ listFrom (λ g. countsOf (groupAt groups g)) 0 groupCount ⌝ }
 {
     let none = Counts {
         computed: 0,
         missing: 0,
     };
-    let mut flat = [none; 18];
-    for g in 0..18 {
+    let mut flat = [none; GROUPS];
+    for g in 0..GROUPS {
         let c = group_at(groups, g);
         flat[g] = Counts {
             computed: c.computed,

@@ -115,11 +115,11 @@ fn filled(column: &mut [u32], value: u32, from: usize) {
     }
 }
 
-// Every second of 36 values from an index on: the first, and each time a step more.
-fn stepped(column: &mut [u32; 36], from: usize, first: u32, step: u32) {
+// Every second value from an index on: the first, and each time a step more.
+fn stepped(column: &mut [u32], from: usize, first: u32, step: u32) {
     let mut value = first;
     let mut i = from;
-    while i < 36 {
+    while i < column.len() {
         column[i] = value;
         value = std::num::wrapping_add_u32(value, step);
         i += 2;

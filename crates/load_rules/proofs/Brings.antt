@@ -28,7 +28,8 @@ weighted : (pt g : ℕ) (ls : List ℕ) → heldEnergy pt g (holds ls) ≡ energ
 unfolding heldEnergy
 weighted pt g ls = ap (λ (w : ℕ). energyOf (getD ls pt 0 + w)) (periods-hold .weight g)
 
-of-computed : (pt x g : ℕ) (ls : List ℕ) → Brought pt g (movement x g (holds ls) ∷ []) 1 0 (energyOf (getD ls pt 0 + 500 * (g % 3)))
+of-computed : (pt x g : ℕ) (ls : List ℕ)
+    → Brought pt g (movement x g (holds ls) ∷ []) 1 0 (energyOf (getD ls pt 0 + 500 * (g % 3)))
 unfolding hasLevels
 of-computed pt x g ls = rw (eq-eqb g g refl, weighted pt g ls) at (one pt g (movement x g (holds ls)))
 

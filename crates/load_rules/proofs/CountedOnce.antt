@@ -1,4 +1,5 @@
--- Demand 3: after any calls on an empty book, refused ones included, the load at each point is the one worked afresh from the list of movements,
+-- Demand 3: after any calls on an empty book, refused ones included, the load at each point is the one worked afresh
+-- from the list of movements,
 -- and where one is computed it is answered and counts every movement once.
 -- Assumes nothing.
 use mathlib.Core.Path.{_≡_, refl, sym, ap, subst, _∙_}
@@ -99,7 +100,8 @@ module _ (pt : ℕ) (ms : List Movement) (days : ℕ) (grouped : AllGrouped (sha
       let same = known-same (countsAt a) (counts ss) (counts-at (tally ss) days) in
       omega (arith, mean-small (a .total) days, energy, same .0, same .1, all-standing ss grouped, shares-count pt ms)
 
-  pub answer-counts : (p : ℕ) → AllGood p ms → length ms ≤ 50000 → CountsEach (answer (tally (sharesOf pt ms)) days) pt ms days
+  pub answer-counts : (p : ℕ) → AllGood p ms → length ms ≤ 50000
+      → CountsEach (answer (tally (sharesOf pt ms)) days) pt ms days
   answer-counts p good few =
       record {
         computed = λ g h. ap (λ (c : Counts). c .computed) (counts-at (tally ss) days g h) ∙ list-computed pt g ms;
@@ -118,7 +120,8 @@ module _ (pt : ℕ) (ms : List Movement) (days : ℕ) (grouped : AllGrouped (sha
       }
 
 -- a load that is not refused is an answer
-load-answered : (fits : Bool) (ss : List Share) (days : ℕ) → loadOf fits ss days .refused ≡ 0 → loadOf fits ss days ≡ answer (tally ss) days
+load-answered : (fits : Bool) (ss : List Share) (days : ℕ) → loadOf fits ss days .refused ≡ 0
+    → loadOf fits ss days ≡ answer (tally ss) days
 unfolding loadOf refusedLoad
 load-answered fits ss days = go (eqb n 0) refl
   where
@@ -136,7 +139,8 @@ repeated-at zero g d = refl
 repeated-at (suc n) zero d = refl
 repeated-at (suc n) (suc g) d = repeated-at n g d
 
-load-alone : (fits : Bool) (shares : List Share) (days : ℕ) → ¬ (loadOf fits shares days .refused ≡ 0) → Alone (loadOf fits shares days)
+load-alone : (fits : Bool) (shares : List Share) (days : ℕ) → ¬ (loadOf fits shares days .refused ≡ 0)
+    → Alone (loadOf fits shares days)
 unfolding loadOf answer refusedLoad
 load-alone fits shares days = go (eqb n 0) refl
   where
@@ -150,7 +154,9 @@ load-alone fits shares days = go (eqb n 0) refl
         record {
           total = refl;
           level = refl;
-          counts = λ g h. let c = repeated-at {A = Counts} groupCount g (record { computed = 0; missing = 0 }) in (ap (λ (x : Counts). x .computed) c, ap (λ (x : Counts). x .missing) c);
+          counts =
+              λ g h. let c =
+              repeated-at {A = Counts} groupCount g (record { computed = 0; missing = 0 }) in (ap (λ (x : Counts). x .computed) c, ap (λ (x : Counts). x .missing) c);
         }
 
 -- After any calls on an empty book of n rows and p points
@@ -173,17 +179,20 @@ module _ (p pt n : ℕ) (cs : List Made) where
   unfolding bookLoad listLoad loadOf loadRefusal
   load-afresh days = afresh (λ t ss. loadOf t ss days) (λ xs ys. refl)
 
-  verdict-afresh : (days limit : ℕ) → bookVerdict p pt book days limit ≡ listVerdict p n pt (movements p n cs) days limit
+  verdict-afresh : (days limit : ℕ)
+      → bookVerdict p pt book days limit ≡ listVerdict p n pt (movements p n cs) days limit
   unfolding bookVerdict listVerdict judgedOf judged verdictRefusal
   verdict-afresh days limit = afresh (λ t ss. judgedOf t ss days limit) (λ xs ys. refl)
 
-  refusals : (days : ℕ) → LoadNumbers (InRange p n pt) (DaysInRange days) (NoneComputed (movements p n cs)) (bookLoad p pt book days .refused)
+  refusals : (days : ℕ)
+      → LoadNumbers (InRange p n pt) (DaysInRange days) (NoneComputed (movements p n cs)) (bookLoad p pt book days .refused)
   unfolding listLoad
   refusals days =
       rw (load-afresh days)
       (load-numbers (sizesFit p n && ltb pt p) (sharesOf pt (movements p n cs)) days (range-exactly p n pt) (days-exactly days) (ten-exactly pt (movements p n cs)))
 
-  counts-each : (days : ℕ) → bookLoad p pt book days .refused ≡ 0 → CountsEach (bookLoad p pt book days) pt (movements p n cs) days
+  counts-each : (days : ℕ) → bookLoad p pt book days .refused ≡ 0
+      → CountsEach (bookLoad p pt book days) pt (movements p n cs) days
   unfolding listLoad
   counts-each days z =
       let ss = sharesOf pt (movements p n cs) in
@@ -193,7 +202,8 @@ module _ (p pt n : ℕ) (cs : List Made) where
       subst (λ (a : Load). CountsEach a pt (movements p n cs) days) (sym e)
       (answer-counts pt (movements p n cs) days (history-grouped p pt n cs) p (told-all p n cs .good) room)
 
-  never-refused : (days : ℕ) → sizesFit p n ≡ true → pt < p → daysFit days ≡ true → someComputed (movements p n cs) ≡ true
+  never-refused : (days : ℕ) → sizesFit p n ≡ true → pt < p → daysFit days ≡ true
+      → someComputed (movements p n cs) ≡ true
       → bookLoad p pt book days .refused ≡ 0
   unfolding listLoad loadOf loadRefusal noneComputed answer
   never-refused days sizes there fit some =

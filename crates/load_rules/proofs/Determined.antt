@@ -40,7 +40,8 @@ over-of n v = go (eqb n 0)
     go false = refl
 
 -- where a verdict is given, so is the load
-level-of : (fits : Bool) (ss : List Share) (days limit : ℕ) → verdictRefusal fits ss days limit ≡ 0 → loadOf fits ss days .level ≡ answer (tally ss) days .level
+level-of : (fits : Bool) (ss : List Share) (days limit : ℕ) → verdictRefusal fits ss days limit ≡ 0
+    → loadOf fits ss days .level ≡ answer (tally ss) days .level
 unfolding verdictRefusal loadOf loadRefusal
 level-of false ss days limit z = absurd (omega arith)
 level-of true ss days limit z = go (daysFit days) (limitFits limit) (noneComputed ss) z
@@ -57,7 +58,8 @@ over-level : (fits : Bool) (ss : List Share) (days limit : ℕ)
     → overNumber (judgedOf fits ss days limit) ≡ cond (eqb (refusalNumber (judgedOf fits ss days limit)) 0) (verdictNumber (verdictOf (loadOf fits ss days .level) limit)) 0
 unfolding judgedOf
 over-level fits ss days limit =
-    over-of n (verdictOf (answer (tally ss) days .level) limit) ∙ rw (number-of n (verdictOf (answer (tally ss) days .level) limit)) (go (eqb n 0) refl)
+    over-of n (verdictOf (answer (tally ss) days .level) limit)
+    ∙ rw (number-of n (verdictOf (answer (tally ss) days .level) limit)) (go (eqb n 0) refl)
   where
     n : ℕ
     n = verdictRefusal fits ss days limit
@@ -67,7 +69,8 @@ over-level fits ss days limit =
     go true e = rw (level-of fits ss days limit (eqb-true n 0 e)) refl
     go false e = refl
 
-pub judging : {p pt : ℕ} {b : Book} {days limit : ℕ} {r : Judged} → r ≡ bookVerdict p pt b days limit → Judging p pt b days limit r
+pub judging : {p pt : ℕ} {b : Book} {days limit : ℕ} {r : Judged} → r ≡ bookVerdict p pt b days limit
+    → Judging p pt b days limit r
 unfolding bookVerdict bookLoad judgedOf
 judging {p} {pt} {b} {days} {limit} {r} e =
     record {
@@ -95,8 +98,10 @@ over-exactly-when p pt b days limit = go (eqb (refusalNumber r) 0) refl (judging
         (λ h. let h' = w .0 (sym o ∙ h) in (eqb-true _ 0 e, h' .0, h' .1), λ h. o ∙ w .1 (h .1, h .2))
     go false e o = (λ h. absurd (omega arith), λ h. absurd (eqb-false _ 0 e (h .0)))
 
-pub same-load : (p pt : ℕ) (b : Book) (days : ℕ) (r s : Load) → r ≡ bookLoad p pt b days → s ≡ bookLoad p pt b days → r ≡ s
+pub same-load : (p pt : ℕ) (b : Book) (days : ℕ) (r s : Load) → r ≡ bookLoad p pt b days → s ≡ bookLoad p pt b days
+    → r ≡ s
 same-load p pt b days r s e f = e ∙ sym f
 
-pub same-verdict : (p pt : ℕ) (b : Book) (days limit : ℕ) (r s : Judged) → Judging p pt b days limit r → Judging p pt b days limit s → r ≡ s
+pub same-verdict : (p pt : ℕ) (b : Book) (days limit : ℕ) (r s : Judged) → Judging p pt b days limit r
+    → Judging p pt b days limit s → r ≡ s
 same-verdict p pt b days limit r s e f = e .answer ∙ sym (f .answer)

@@ -1,4 +1,5 @@
--- The factors are exact: V times both factors, summed over the groups with V > 0, is the number of movements; and a product with one is rounded down.
+-- The factors are exact: V times both factors, summed over the groups with V > 0, is the number of movements; and a
+-- product with one is rounded down.
 -- Assumes nothing.
 use mathlib.Core.Path.{_≡_, refl, sym, ap, _∙_}
 use mathlib.Core.Bool.{Bool, true, false, cond}
@@ -32,11 +33,13 @@ pub known-or-not : (c : Counts) → known c + unknown c ≡ c .computed + c .mis
 unfolding known unknown
 known-or-not c = go (eqb (c .computed) 0) refl
   where
-    go : (t : Bool) → eqb (c .computed) 0 ≡ t → cond t 0 (c .computed + c .missing) + cond t (c .missing) 0 ≡ c .computed + c .missing
+    go : (t : Bool) → eqb (c .computed) 0 ≡ t
+        → cond t 0 (c .computed + c .missing) + cond t (c .missing) 0 ≡ c .computed + c .missing
     go true e = omega (arith, eqb-true (c .computed) 0 e)
     go false e = omega arith
 
-pub known-sum : (f : ℕ → Counts) (n : ℕ) → sumTo (λ g. known (f g)) n + sumTo (λ g. unknown (f g)) n ≡ sumTo (λ g. f g .computed + f g .missing) n
+pub known-sum : (f : ℕ → Counts) (n : ℕ)
+    → sumTo (λ g. known (f g)) n + sumTo (λ g. unknown (f g)) n ≡ sumTo (λ g. f g .computed + f g .missing) n
 known-sum f n = sym (sum-add (λ g. known (f g)) (λ g. unknown (f g)) n) ∙ sum-ext _ _ n (λ g h. known-or-not (f g))
 
 -- what is computed is known
@@ -49,7 +52,8 @@ computed-known c = go (eqb (c .computed) 0) refl
     go false e = omega arith
 
 -- the factors depend on V and U alone
-pub known-same : (f h : ℕ → Counts) → ((g : ℕ) → g < groupCount → f g ≡ h g) → (knownSum f ≡ knownSum h) × (unknownSum f ≡ unknownSum h)
+pub known-same : (f h : ℕ → Counts) → ((g : ℕ) → g < groupCount → f g ≡ h g)
+    → (knownSum f ≡ knownSum h) × (unknownSum f ≡ unknownSum h)
 unfolding knownSum unknownSum
 known-same f h e =
     (sum-ext (λ g. known (f g)) (λ g. known (h g)) groupCount (λ g l. ap known (e g l)), sum-ext (λ g. unknown (f g)) (λ g. unknown (h g)) groupCount (λ g l. ap unknown (e g l)))
@@ -98,5 +102,6 @@ module _ (f : ℕ → Counts) where
       record {
         left = so-far some groupCount .0;
         right = lit< tt;
-        cross = rw mul-one (eq-of-mul-eq-mul-left (knownSum f) some _ _ (mul-comm (knownSum f) (weightTo f groupCount .upper) ∙ so-far some groupCount .1 ∙ mul-assoc (knownSum f) (knownSum f + unknownSum f) (weightTo f groupCount .lower)));
+        cross =
+            rw mul-one (eq-of-mul-eq-mul-left (knownSum f) some _ _ (mul-comm (knownSum f) (weightTo f groupCount .upper) ∙ so-far some groupCount .1 ∙ mul-assoc (knownSum f) (knownSum f + unknownSum f) (weightTo f groupCount .lower)));
       }

@@ -64,7 +64,8 @@ module _ (p pt : ℕ) where
   shares-grouped (a ∷ ms) s = (held-grouped pt (a .group) (a .held) (s .0 .group<), shares-grouped ms (s .1))
 
   -- after any calls on an empty book of n rows
-  pub history-shares : (n : ℕ) (cs : List Made) → pt < p → bookShares p pt (booked (emptyBook p n) cs) ≡ sharesOf pt (movements p n cs)
+  pub history-shares : (n : ℕ) (cs : List Made) → pt < p
+      → bookShares p pt (booked (emptyBook p n) cs) ≡ sharesOf pt (movements p n cs)
   unfolding bookShares rowsOf
   history-shares n cs h =
       let t = told-all p n cs in

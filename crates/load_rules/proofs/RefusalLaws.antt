@@ -52,7 +52,8 @@ unfolding someComputed
 none-exactly [] = (λ e i h. absurd (omega arith), λ f. refl)
 none-exactly (m ∷ ms) = go (hasLevels (m .held)) refl (none-exactly ms)
   where
-    go : (t : Bool) → hasLevels (m .held) ≡ t → someComputed ms ≡ false ↔ NoneHeld ms → (t || someComputed ms) ≡ false ↔ NoneHeld (m ∷ ms)
+    go : (t : Bool) → hasLevels (m .held) ≡ t → someComputed ms ≡ false ↔ NoneHeld ms
+        → (t || someComputed ms) ≡ false ↔ NoneHeld (m ∷ ms)
     go true e f =
         (λ g. absurd (false≢true (sym g)), λ g. absurd (false≢true (sym (held-exactly (m .held) .1 (g 0 (omega arith))) ∙ e)))
     go false e f = (each (held-exactly (m .held) .0 e), λ g. f .1 (λ i h. g (suc i) (omega arith)))
@@ -96,20 +97,30 @@ module _ (fits : Bool) (ss : List Share) (days : ℕ) {F D N : Type 0} (f : fits
   load-numbers =
       rw load-refused
       (record {
-        nine = refused-first 9 fits _ f (not-given 11 9 (daysFit days) _ (λ e. omega arith) (not-given 10 9 (not (noneComputed ss)) 0 (λ e. omega arith) (λ e. omega arith)));
-        eleven = refused-later 9 11 fits _ f (λ e. omega arith) (refused-first 11 (daysFit days) _ d (not-given 10 11 (not (noneComputed ss)) 0 (λ e. omega arith) (λ e. omega arith)));
-        ten = refused-later 9 10 fits _ f (λ e. omega arith) (refused-later 11 10 (daysFit days) _ d (λ e. omega arith) (ten-last (noneComputed ss) n));
-        answered = refused-later 9 0 fits _ f (λ e. omega arith) (refused-later 11 0 (daysFit days) _ d (λ e. omega arith) (none-last (noneComputed ss) n));
+        nine =
+            refused-first 9 fits _ f (not-given 11 9 (daysFit days) _ (λ e. omega arith) (not-given 10 9 (not (noneComputed ss)) 0 (λ e. omega arith) (λ e. omega arith)));
+        eleven =
+            refused-later 9 11 fits _ f (λ e. omega arith) (refused-first 11 (daysFit days) _ d (not-given 10 11 (not (noneComputed ss)) 0 (λ e. omega arith) (λ e. omega arith)));
+        ten =
+            refused-later 9 10 fits _ f (λ e. omega arith) (refused-later 11 10 (daysFit days) _ d (λ e. omega arith) (ten-last (noneComputed ss) n));
+        answered =
+            refused-later 9 0 fits _ f (λ e. omega arith) (refused-later 11 0 (daysFit days) _ d (λ e. omega arith) (none-last (noneComputed ss) n));
       })
 
-  pub verdict-numbers : (limit : ℕ) {L : Type 0} → limitFits limit ≡ true ↔ L → VerdictNumbers F D L N (refusalNumber (judgedOf fits ss days limit))
+  pub verdict-numbers : (limit : ℕ) {L : Type 0} → limitFits limit ≡ true ↔ L
+      → VerdictNumbers F D L N (refusalNumber (judgedOf fits ss days limit))
   unfolding verdictRefusal judgedOf
   verdict-numbers limit l =
       rw number-of
       (record {
-        nine = refused-first 9 fits _ f (not-given 11 9 (daysFit days) _ (λ e. omega arith) (not-given 15 9 (limitFits limit) _ (λ e. omega arith) (not-given 10 9 (not (noneComputed ss)) 0 (λ e. omega arith) (λ e. omega arith))));
-        eleven = refused-later 9 11 fits _ f (λ e. omega arith) (refused-first 11 (daysFit days) _ d (not-given 15 11 (limitFits limit) _ (λ e. omega arith) (not-given 10 11 (not (noneComputed ss)) 0 (λ e. omega arith) (λ e. omega arith))));
-        fifteen = refused-later 9 15 fits _ f (λ e. omega arith) (refused-later 11 15 (daysFit days) _ d (λ e. omega arith) (refused-first 15 (limitFits limit) _ l (not-given 10 15 (not (noneComputed ss)) 0 (λ e. omega arith) (λ e. omega arith))));
-        ten = refused-later 9 10 fits _ f (λ e. omega arith) (refused-later 11 10 (daysFit days) _ d (λ e. omega arith) (refused-later 15 10 (limitFits limit) _ l (λ e. omega arith) (ten-last (noneComputed ss) n)));
-        answered = refused-later 9 0 fits _ f (λ e. omega arith) (refused-later 11 0 (daysFit days) _ d (λ e. omega arith) (refused-later 15 0 (limitFits limit) _ l (λ e. omega arith) (none-last (noneComputed ss) n)));
+        nine =
+            refused-first 9 fits _ f (not-given 11 9 (daysFit days) _ (λ e. omega arith) (not-given 15 9 (limitFits limit) _ (λ e. omega arith) (not-given 10 9 (not (noneComputed ss)) 0 (λ e. omega arith) (λ e. omega arith))));
+        eleven =
+            refused-later 9 11 fits _ f (λ e. omega arith) (refused-first 11 (daysFit days) _ d (not-given 15 11 (limitFits limit) _ (λ e. omega arith) (not-given 10 11 (not (noneComputed ss)) 0 (λ e. omega arith) (λ e. omega arith))));
+        fifteen =
+            refused-later 9 15 fits _ f (λ e. omega arith) (refused-later 11 15 (daysFit days) _ d (λ e. omega arith) (refused-first 15 (limitFits limit) _ l (not-given 10 15 (not (noneComputed ss)) 0 (λ e. omega arith) (λ e. omega arith))));
+        ten =
+            refused-later 9 10 fits _ f (λ e. omega arith) (refused-later 11 10 (daysFit days) _ d (λ e. omega arith) (refused-later 15 10 (limitFits limit) _ l (λ e. omega arith) (ten-last (noneComputed ss) n)));
+        answered =
+            refused-later 9 0 fits _ f (λ e. omega arith) (refused-later 11 0 (daysFit days) _ d (λ e. omega arith) (refused-later 15 0 (limitFits limit) _ l (λ e. omega arith) (none-last (noneComputed ss) n)));
       })

@@ -52,7 +52,8 @@ row-length : (x g m l : ℕ) → length (rowShare x g m l) ≡ 0 ↔ x ≡ 0
 unfolding rowShare
 row-length x g m l = go (eqb x 0) refl
   where
-    go : (s : Bool) → eqb x 0 ≡ s → length (cond s [] (cond (eqb m 0) (lacks g) (has g (energyIn g l)) ∷ [])) ≡ 0 ↔ x ≡ 0
+    go : (s : Bool) → eqb x 0 ≡ s
+        → length (cond s [] (cond (eqb m 0) (lacks g) (has g (energyIn g l)) ∷ [])) ≡ 0 ↔ x ≡ 0
     go true e = (λ h. eqb-true x 0 e, λ h. refl)
     go false e = (λ h. absurd (omega arith), λ h. absurd (eqb-false x 0 e h))
 
@@ -97,5 +98,6 @@ module _ (p pt : ℕ) (b : Book) where
       let f = both (sound p b) (ltb pt p) (λ e. e, λ e. e) (less pt p) in
       record {
         load = load-numbers (sound p b && ltb pt p) (bookShares p pt b) days f (days-exactly days) marked-exactly;
-        verdict = λ limit. verdict-numbers (sound p b && ltb pt p) (bookShares p pt b) days f (days-exactly days) marked-exactly limit (limit-exactly limit);
+        verdict =
+            λ limit. verdict-numbers (sound p b && ltb pt p) (bookShares p pt b) days f (days-exactly days) marked-exactly limit (limit-exactly limit);
       }

@@ -66,7 +66,8 @@ pub counted-le : (ss : List Share) → counted ss ≤ length ss
 counted-le [] = omega (arith, counted-none)
 counted-le (s ∷ ss) = go (ltb (groupIn s) groupCount) (counted-more s ss) (counted-le ss)
   where
-    go : (b : Bool) → counted (s ∷ ss) ≡ cond b 1 0 + counted ss → counted ss ≤ length ss → counted (s ∷ ss) ≤ suc (length ss)
+    go : (b : Bool) → counted (s ∷ ss) ≡ cond b 1 0 + counted ss → counted ss ≤ length ss
+        → counted (s ∷ ss) ≤ suc (length ss)
     go true e i = omega arith
     go false e i = omega arith
 
@@ -82,7 +83,8 @@ all-standing ss a = known-sum (counts ss) groupCount ∙ counted-all ss a
 
 -- Where one is computed
 
-some-computed : (ss : List Share) → AllGrouped ss → anyComputed ss ≡ true → 1 ≤ sumTo (λ g. tally ss g .computed) groupCount
+some-computed : (ss : List Share) → AllGrouped ss → anyComputed ss ≡ true
+    → 1 ≤ sumTo (λ g. tally ss g .computed) groupCount
 unfolding anyComputed tally sumOf addsComputed
 some-computed [] a e = absurd (false≢true e)
 some-computed (has g x ∷ ss) a e =
@@ -103,14 +105,17 @@ some-known ss a e =
 
 none-known : (ss : List Share) → anyComputed ss ≡ false → knownSum (counts ss) ≡ 0
 unfolding knownSum known
-none-known ss e = sum-ext (λ g. known (counts ss g)) (λ g. 0) groupCount (λ g h. rw (none-computed ss e g) refl) ∙ sum-zero groupCount
+none-known ss e =
+    sum-ext (λ g. known (counts ss g)) (λ g. 0) groupCount (λ g h. rw (none-computed ss e g) refl) ∙ sum-zero groupCount
 
 -- rule 10 by the sums: none known, some unknown
-pub rule-ten : (ss : List Share) → AllGrouped ss → (eqb (knownSum (counts ss)) 0 && ltb 0 (unknownSum (counts ss))) ≡ noneComputed ss
+pub rule-ten : (ss : List Share) → AllGrouped ss
+    → (eqb (knownSum (counts ss)) 0 && ltb 0 (unknownSum (counts ss))) ≡ noneComputed ss
 unfolding noneComputed
 rule-ten ss a = go (anyComputed ss) refl
   where
-    go : (t : Bool) → anyComputed ss ≡ t → (eqb (knownSum (counts ss)) 0 && ltb 0 (unknownSum (counts ss))) ≡ (not t && ltb 0 (length ss))
+    go : (t : Bool) → anyComputed ss ≡ t
+        → (eqb (knownSum (counts ss)) 0 && ltb 0 (unknownSum (counts ss))) ≡ (not t && ltb 0 (length ss))
     go true e = let s = some-known ss a e in rw (ne-eqb (knownSum (counts ss)) 0 (omega arith)) refl
     go false e =
         let k = none-known ss e in

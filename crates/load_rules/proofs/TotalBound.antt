@@ -45,12 +45,14 @@ one-small : (p pt g : ℕ) (m : Movement) → Filled p (m .held)
 unfolding hasLevels heldEnergy
 one-small p pt g m = go (eqb (m .group) g) (m .held)
   where
-    go : (t : Bool) (h : Held) → Filled p h → cond t (heldEnergy pt (m .group) h) 0 ≤ cond (t && hasLevels h) 1 0 * maxEnergy
+    go : (t : Bool) (h : Held) → Filled p h
+        → cond t (heldEnergy pt (m .group) h) 0 ≤ cond (t && hasLevels h) 1 0 * maxEnergy
     go true none f = omega arith
     go true (holds ls) f = let h = held-small p pt (m .group) ls f in omega arith
     go false h f = omega arith
 
-pub energy-small : (p pt g : ℕ) (ms : List Movement) → AllGood p ms → energyOfGroup pt g ms ≤ computedIn g ms * maxEnergy
+pub energy-small : (p pt g : ℕ) (ms : List Movement) → AllGood p ms
+    → energyOfGroup pt g ms ≤ computedIn g ms * maxEnergy
 unfolding energyOfGroup computedIn
 energy-small p pt g [] s = omega arith
 energy-small p pt g (m ∷ ms) s =
@@ -62,7 +64,8 @@ scaled-small : (c : Counts) (e : ℕ) → e ≤ c .computed * maxEnergy → scal
 unfolding scaledBy known
 scaled-small c e h = go (eqb (c .computed) 0)
   where
-    go : (t : Bool) → cond t 0 (e * (c .computed + c .missing) / c .computed) ≤ maxEnergy * cond t 0 (c .computed + c .missing)
+    go : (t : Bool)
+        → cond t 0 (e * (c .computed + c .missing) / c .computed) ≤ maxEnergy * cond t 0 (c .computed + c .missing)
     go true = omega arith
     go false = scaled-le e (c .computed + c .missing) (c .computed) maxEnergy h
 
@@ -76,7 +79,8 @@ module _ (f : ℕ → Counts) (s : ℕ → ℕ) (each : (g : ℕ) → g < groupC
   unfolding scaledBy generalFactor
   total-small = go (eqb (knownSum f) 0)
     where
-      go : (t : Bool) → cond t 0 (sumTo (λ g. scaledBy (groupFactor (f g)) (s g)) groupCount * (knownSum f + unknownSum f) / knownSum f) ≤ maxEnergy * (knownSum f + unknownSum f)
+      go : (t : Bool)
+          → cond t 0 (sumTo (λ g. scaledBy (groupFactor (f g)) (s g)) groupCount * (knownSum f + unknownSum f) / knownSum f) ≤ maxEnergy * (knownSum f + unknownSum f)
       go true = omega arith
       go false = scaled-le _ (knownSum f + unknownSum f) (knownSum f) maxEnergy sum-small
 

@@ -1,6 +1,7 @@
 // What a load is made of and what it answers: RULES, "Energy and load". The rules stand in specs/, and in
 // proofs/ that every movement is counted once (demand 3). There is no code here but the types: the crate `load` has
 // the functions.
+use movement::limits::GROUPS;
 
 // V, U and S of a group: its movements computed and not, and the energy of the computed ones.
 pub struct Group {
@@ -24,7 +25,7 @@ pub struct Load {
     pub refused: u32,
     pub total: u64,
     pub level: level::Level,
-    pub counts: [Counts; 18],
+    pub counts: [Counts; GROUPS],
 }
 
 // A verdict, or a refusal's number.

@@ -1,4 +1,5 @@
--- A test passes exactly if its fact holds, and refusals in their order: each number exactly where its fact fails and every earlier one holds.
+-- A test passes exactly if its fact holds, and refusals in their order: each number exactly where its fact fails and
+-- every earlier one holds.
 -- Assumes nothing.
 use Prim.Native.Nat.{ℕ, suc, _≤_, _<_}
 use mathlib.Core.Path.{_≡_, refl, sym}
@@ -38,7 +39,8 @@ not-less a b = (
 -- Refusals
 
 -- a refusal that stands first is given exactly where its fact fails
-pub refused-first : (n : ℕ) (ok : Bool) (rest : ℕ) {A : Type 0} → ok ≡ true ↔ A → ¬ (rest ≡ n) → refuse n ok rest ≡ n ↔ ¬ A
+pub refused-first : (n : ℕ) (ok : Bool) (rest : ℕ) {A : Type 0} → ok ≡ true ↔ A → ¬ (rest ≡ n)
+    → refuse n ok rest ≡ n ↔ ¬ A
 refused-first n true rest f other = (λ e. absurd (other e), λ no. absurd (no (f .0 refl)))
 refused-first n false rest f other = (λ e a. false≢true (f .1 a), λ no. refl)
 

@@ -1,4 +1,5 @@
--- The rules' numbers of types, kinds, periods and groups: a number in range and its case name each other, and a group is below 18.
+-- The rules' numbers of types, kinds, periods and groups: a number in range and its case name each other, and a group
+-- is below 18.
 -- Assumes nothing.
 use Prim.Native.Nat.{ℕ, zero, suc, _+_, _*_, _%_, _≤_, _<_}
 use mathlib.Core.Path.{_≡_, refl, ap, _∙_}
@@ -65,4 +66,5 @@ unfolding groupPeriod groupOf groupNumber
 group-period type kind second =
     let p = periodOf second in
     let below = period-below p in
-    ap periodNumbered {x = groupNumber (aircraftNumbered type) (kindNumbered kind) p % 3} {y = periodNumber p} (omega arith) ∙ period-numbered p
+    ap periodNumbered {x = groupNumber (aircraftNumbered type) (kindNumbered kind) p % 3} {y = periodNumber p} (omega arith)
+    ∙ period-numbered p

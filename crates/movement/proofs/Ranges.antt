@@ -28,7 +28,8 @@ mass-of (suc zero) mass h = (λ e i. ltb-true mass 6000 e, λ f. lt-ltb mass 600
 mass-of (suc (suc zero)) mass h = (λ e i. absurd (omega arith), λ f. refl)
 mass-of (suc (suc (suc n))) mass h = absurd (omega arith)
 
-fields-exactly : (type kind second mass : ℕ) → fieldsFit type kind second mass ≡ true ↔ FieldsInRange type kind second mass
+fields-exactly : (type kind second mass : ℕ)
+    → fieldsFit type kind second mass ≡ true ↔ FieldsInRange type kind second mass
 unfolding fieldsFit
 fields-exactly type kind second mass = (
   λ e.
@@ -41,7 +42,8 @@ fields-exactly type kind second mass = (
         kind<2 = ltb-true kind 2 (and-right (ltb type 3) _ t);
         in-the-day = ltb-true second 86400 (and-left _ _ s);
         mass-most = leb-true mass 1000000 (and-right (ltb second 86400) _ s);
-        small-below = mass-of type mass l .0 (and-right ((ltb type 3 && ltb kind 2) && (ltb second 86400 && leb mass 1000000)) _ e);
+        small-below =
+            mass-of type mass l .0 (and-right ((ltb type 3 && ltb kind 2) && (ltb second 86400 && leb mass 1000000)) _ e);
       },
   λ f.
       rw (lt-ltb type 3 (f .type<3), lt-ltb kind 2 (f .kind<2), lt-ltb second 86400 (f .in-the-day), le-leb mass 1000000 (f .mass-most))
@@ -66,7 +68,8 @@ all-exactly top (x ∷ ls) = (
   λ f. rw (le-leb x top (f 0 (omega arith))) (all-exactly top ls .1 (λ i h. f (suc i) (omega arith))),
 )
   where
-    each : (i : ℕ) → x ≤ top → ((j : ℕ) → j < length ls → getD ls j 0 ≤ top) → i < length (x ∷ ls) → getD (x ∷ ls) i 0 ≤ top
+    each : (i : ℕ) → x ≤ top → ((j : ℕ) → j < length ls → getD ls j 0 ≤ top) → i < length (x ∷ ls)
+        → getD (x ∷ ls) i 0 ≤ top
     each zero l f h = l
     each (suc i) l f h = f i (omega arith)
 

@@ -29,4 +29,4 @@ pub const TYPES: u32 = 3;
 
 pub const KINDS: u32 = 2;
 
-pub const GROUPS: u32 = 18;
+pub const GROUPS: usize = 18;

@@ -44,7 +44,8 @@ wrote-then {s} {at} {a} {b} {m} {e} {i} {j} h u v =
     }
 
 -- a write keeps the buffer's length
-pub length-wrote : {s : List ℕ} {at : ℕ} {t e : List ℕ} {i : ℕ} → at + length t ≤ length s → Wrote s at t e i → length e ≡ length s
+pub length-wrote : {s : List ℕ} {at : ℕ} {t e : List ℕ} {i : ℕ} → at + length t ≤ length s → Wrote s at t e i
+    → length e ≡ length s
 length-wrote {s} {at} {t} h w = ap length (w .bytes) ∙ length-put s at t h
 
 -- nothing written
@@ -65,7 +66,8 @@ wrote-fits {s} {t} {e} {r} w = rw (w .bytes) (omega (arith, w .place, length-app
 pub put-snoc : (s : List ℕ) (at : ℕ) (a : List ℕ) (b : ℕ) → at + length a < length s
     → set (put s at a) (at + length a) b ≡ put s at (a ++ (b ∷ []))
 put-snoc s at a b h =
-    put-one (put s at a) (at + length a) b (rw (length-put s at a (omega arith)) h) ∙ put-put s at a (b ∷ []) (omega arith)
+    put-one (put s at a) (at + length a) b (rw (length-put s at a (omega arith)) h)
+    ∙ put-put s at a (b ∷ []) (omega arith)
 
 -- a turn of a loop that puts a text
 pub put-step : (s : List ℕ) (at : ℕ) (t : List ℕ) (i : ℕ) → i < length t → at + i < length s

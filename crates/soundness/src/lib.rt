@@ -92,7 +92,7 @@ fn head_sound(x: u32, g: u32, m: u32) -> bool
     if MAX_IDENTITY < x {
         return false;
     }
-    if GROUPS <= g {
+    if GROUPS as u32 <= g {
         return false;
     }
     m <= 1

@@ -28,7 +28,9 @@ use Rattle.worked.specs.Cases.Case.{period, mass, energy, contour}
 -- a group's period is read from its number
 loaded-as : (t k number : ℕ) → number < 3 → periodNumber (groupPeriod (6 * t + 3 * k + number)) ≡ number
 unfolding groupPeriod
-loaded-as t k number h = ap (λ n. periodNumber (periodNumbered n)) {x = (6 * t + 3 * k + number) % 3} {y = number} (omega arith) ∙ numbered number h
+loaded-as t k number h =
+    ap (λ n. periodNumber (periodNumbered n)) {x = (6 * t + 3 * k + number) % 3} {y = number} (omega arith)
+    ∙ numbered number h
   where
     numbered : (n : ℕ) → n < 3 → periodNumber (periodNumbered n) ≡ n
     numbered zero h = refl

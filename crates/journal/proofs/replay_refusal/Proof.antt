@@ -12,7 +12,8 @@ returns c = simp (failed (c .before .is-laid-out .ensures) (c .if1 .taken))
 
 returns-2 : tie.Need-returns-2
 unfolding replayRefusal
-returns-2 c = simp (passed (c .before .before .before .is-laid-out .ensures) (c .before .before .if1 .left), failed (c .before .is-sound .ensures) (c .if2 .taken))
+returns-2 c =
+    simp (passed (c .before .before .before .is-laid-out .ensures) (c .before .before .if1 .left), failed (c .before .is-sound .ensures) (c .if2 .taken))
 
 count-calls-requires : tie.Need-count-calls-requires
 count-calls-requires c κs = passed (c .before .before .before .is-laid-out .ensures) (c .before .before .if1 .left)

@@ -1,4 +1,5 @@
--- `journal::run` meets its contract: the calls made so far and those still to come give what the whole journal gives. Assumes nothing.
+-- `journal::run` meets its contract: the calls made so far and those still to come give what the whole journal gives.
+-- Assumes nothing.
 use mathlib.Core.Path.{_≡_, refl, sym, ap, _∙_}
 use Prim.Native.Nat.{_-_, _≤_, _<_}
 use native.Mathlib.Omega.{arith}
@@ -18,7 +19,8 @@ Inv-loop ids₀ groups₀ marks₀ levels₀ points journal answers₀ at₀ mad
     × ((length ids ≡ length ids₀) × ((length groups ≡ length groups₀) × ((length marks ≡ length marks₀) × ((length levels ≡ length levels₀) × (length answers ≡ length answers₀)))))
 
 abbrev μ-loop : tie.MeasureT-loop
-μ-loop ids₀ groups₀ marks₀ levels₀ points journal answers₀ at₀ made₀ ids groups marks levels answers at made = length journal - at
+μ-loop ids₀ groups₀ marks₀ levels₀ points journal answers₀ at₀ made₀ ids groups marks levels answers at made =
+    length journal - at
 
 loop-holds : tie.Need-loop-holds Inv-loop μ-loop
 loop-holds c =
@@ -40,7 +42,8 @@ head c = search
 -- the call at `at` is complete
 step : (c : tie.After-width-of Inv-loop μ-loop)
     → Step (start c .args .journal .now) (head c .loop .at) (c .width-of .result)
-step c = step-laid _ _ _ (c .width-of .ensures) (c .before .before .loop-test .taken) (c .before .before .before .loop .inv .0 .laid)
+step c =
+    step-laid _ _ _ (c .width-of .ensures) (c .before .before .loop-test .taken) (c .before .before .before .loop .inv .0 .laid)
 
 -- there is an answer's room for it
 abbrev book : tie.Start Inv-loop μ-loop → Book
@@ -52,8 +55,10 @@ space c =
     let s = start c in
     omega (arith, length-all (s .args .points) (book s) (callsOf (s .args .journal .now)), s .pre .1 .1)
 
-below : (c : tie.After-width-of Inv-loop μ-loop) → c .before .before .before .loop .made < length (c .before .before .before .loop .answers)
-below c = omega (arith, next (c .before .before .before .loop .inv .0) (step c) .inside, space c, c .before .before .before .loop .inv .1)
+below : (c : tie.After-width-of Inv-loop μ-loop)
+    → c .before .before .before .loop .made < length (c .before .before .before .loop .answers)
+below c =
+    omega (arith, next (c .before .before .before .loop .inv .0) (step c) .inside, space c, c .before .before .before .loop .inv .1)
 
 mul-make-call : tie.Need-mul-make-call Inv-loop μ-loop
 mul-make-call c =

@@ -17,17 +17,20 @@ use Rattle.load.proofs.answer_from.Statement.{statement}
 use Rattle.load.proofs.answer_from.Tie as tie
 
 -- what the sums say
-fits : (c : tie.After-summed) → Scalable (c .summed .result .scaled) (c .summed .result .known + c .summed .result .unknown) (c .summed .result .known)
+fits : (c : tie.After-summed)
+    → Scalable (c .summed .result .scaled) (c .summed .result .known + c .summed .result .unknown) (c .summed .result .known)
 fits c = sums-fit (c .before .args .groups) (c .summed .result) (c .summed .ensures) (c .before .pre .0)
 
 none : (c : tie.After-none-computed) → c .none-computed .result
     ≡ (eqb (knownSum (λ g. countsOf (groupAt (c .before .before .args .groups) g))) 0 && ltb 0 (unknownSum (λ g. countsOf (groupAt (c .before .before .args .groups) g))))
-none c = sums-none (c .before .before .args .groups) (c .before .summed .result) (c .before .summed .ensures) (c .none-computed .ensures)
+none c =
+    sums-none (c .before .before .args .groups) (c .before .summed .result) (c .before .summed .ensures) (c .none-computed .ensures)
 
 returns : tie.Need-returns
 returns c =
     let s = c .before .before .before .before in
-    c .refusal .ensures ∙ sym (from-refused (groupAt (s .args .groups)) (s .args .days) (sym (none (c .before .before)) ∙ c .before .if1 .taken))
+    c .refusal .ensures
+    ∙ sym (from-refused (groupAt (s .args .groups)) (s .args .days) (sym (none (c .before .before)) ∙ c .before .if1 .taken))
 
 add-scaled-by : tie.Need-add-scaled-by
 add-scaled-by c = omega (arith, fits (c .before .before .before) .movements)

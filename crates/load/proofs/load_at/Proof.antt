@@ -17,7 +17,8 @@ returns c = rw (failed (c .before .before .point-fits .ensures) (c .before .if1 
 
 returns-2 : tie.Need-returns-2
 unfolding bookLoad loadOf loadRefusal
-returns-2 c = rw (passed (c .before .before .before .before .point-fits .ensures) (c .before .before .before .if1 .left), failed (c .before .before .days-fit .ensures) (c .before .if2 .taken)) (c .refusal2 .ensures)
+returns-2 c =
+    rw (passed (c .before .before .before .before .point-fits .ensures) (c .before .before .before .if1 .left), failed (c .before .before .days-fit .ensures) (c .before .if2 .taken)) (c .refusal2 .ensures)
 
 load-of-requires : tie.Need-load-of-requires
 load-of-requires c κs =
@@ -28,7 +29,8 @@ load-of-requires c κs =
 
 returns-3 : tie.Need-returns-3
 unfolding bookLoad
-returns-3 c = rw (passed (c .before .before .before .before .point-fits .ensures) (c .before .before .before .if1 .left)) (c .load-of .ensures)
+returns-3 c =
+    rw (passed (c .before .before .before .before .point-fits .ensures) (c .before .before .before .if1 .left)) (c .load-of .ensures)
 
 pub load-at-spec : {M : Type 1} → statement M
 load-at-spec =

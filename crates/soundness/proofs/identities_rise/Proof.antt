@@ -29,7 +29,8 @@ loop-again c =
     (omega arith, turn .before .loop .inv .1 ∙ rise-more (start .args .ids .now) (turn .before .loop .i) (turn .loop-test .taken) (sym (not-false _ (c .if1 .left)) ∙ c .before .may-follow .ensures))
 
 returns-2 : tie.Need-returns-2 Inv-loop μ-loop
-returns-2 c = sym (c .before .loop .inv .1 ∙ rise-end (c .before .before .before .args .ids .now) (c .before .loop .i) (c .loop-test .left))
+returns-2 c =
+    sym (c .before .loop .inv .1 ∙ rise-end (c .before .before .before .args .ids .now) (c .before .loop .i) (c .loop-test .left))
 
 pub identities-rise-spec : {M : Type 1} → statement M
 identities-rise-spec =

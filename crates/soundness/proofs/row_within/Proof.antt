@@ -15,7 +15,8 @@ use Rattle.soundness.proofs.row_within.Statement.{statement}
 use Rattle.soundness.proofs.row_within.Tie as tie
 
 abbrev Inv-loop : tie.InvT-loop
-Inv-loop levels top within₀ i₀ within i = (i ≤ length levels) × (allWithin top levels ≡ (within && allWithin top (drop i levels)))
+Inv-loop levels top within₀ i₀ within i =
+    (i ≤ length levels) × (allWithin top levels ≡ (within && allWithin top (drop i levels)))
 
 abbrev μ-loop : tie.MeasureT-loop
 μ-loop levels top within₀ i₀ within i = length levels - i
@@ -26,7 +27,8 @@ loop-again c =
     let z = c .before .before .before .before .args in
     let rest = allWithin (z .top) (drop (s .i + 1) (z .levels .now)) in
     let read : (t : Bool) → leb (getD (z .levels .now) (s .i) 0) (z .top) ≡ t → allWithin (z .top) (z .levels .now) ≡ (s .within && (t && rest)) =
-    λ t e. s .inv .1 ∙ ap (λ (k : Bool). s .within && k) (within-more (z .top) (z .levels .now) (s .i) (c .before .before .loop-test .taken) e) in (
+    λ t e. s .inv .1
+    ∙ ap (λ (k : Bool). s .within && k) (within-more (z .top) (z .levels .now) (s .i) (c .before .before .loop-test .taken) e) in (
       omega arith,
       ⊎-elim
           (λ w. read false (lt-leb _ _ (w .0 .taken)) ∙ flag-falls (s .within) rest ∙ ap (λ (k : Bool). k && rest) (sym (w .1)))
@@ -35,7 +37,8 @@ loop-again c =
     )
 
 returns : tie.Need-returns Inv-loop μ-loop
-returns c = sym (c .before .loop .inv .1 ∙ rw (within-end (c .before .before .args .top) (c .before .before .args .levels .now) (c .before .loop .i) (c .loop-test .left)) (and-true (c .before .loop .within)))
+returns c =
+    sym (c .before .loop .inv .1 ∙ rw (within-end (c .before .before .args .top) (c .before .before .args .levels .now) (c .before .loop .i) (c .loop-test .left)) (and-true (c .before .loop .within)))
 
 pub row-within-spec : {M : Type 1} → statement M
 row-within-spec =

@@ -12,7 +12,8 @@ use Rattle.soundness.proofs.rows_sound.Statement.{statement}
 use Rattle.soundness.proofs.rows_sound.Tie as tie
 
 abbrev Inv-loop : tie.InvT-loop
-Inv-loop ids groups marks levels points i₀ at₀ i at = (i ≤ length ids) × ((at ≡ i * points) × (rowsSound points ids groups marks levels ≡ rowsSound points (drop i ids) (drop i groups) (drop i marks) (drop at levels)))
+Inv-loop ids groups marks levels points i₀ at₀ i at =
+    (i ≤ length ids) × ((at ≡ i * points) × (rowsSound points ids groups marks levels ≡ rowsSound points (drop i ids) (drop i groups) (drop i marks) (drop at levels)))
 
 abbrev μ-loop : tie.MeasureT-loop
 μ-loop ids groups marks levels points i₀ at₀ i at = length ids - i

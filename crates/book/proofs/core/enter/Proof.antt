@@ -1,4 +1,5 @@
--- `book::core::enter` meets its contract: it is refused as `enter_refusal` says, or the row goes in at its place. Assumes nothing.
+-- `book::core::enter` meets its contract: it is refused as `enter_refusal` says, or the row goes in at its place.
+-- Assumes nothing.
 use mathlib.Core.Path.{_≡_, refl, sym, _∙_}
 use native.Mathlib.Omega.{arith}
 use denote.Ref.{now}
@@ -15,10 +16,12 @@ abbrev start : tie.Else1 → tie.Start
 start c = search
 
 -- past the test nothing refuses the call
-ok : (c : tie.Else1) → enterRefusal (now (start c .args .ids)) (start c .args .identity) (start c .args .ty) (start c .args .kind) (start c .args .time) (start c .args .mass) ≡ 0
+ok : (c : tie.Else1)
+    → enterRefusal (now (start c .args .ids)) (start c .args .identity) (start c .args .ty) (start c .args .kind) (start c .args .time) (start c .args .mass) ≡ 0
 ok c = sym (c .before .enter-refusal .ensures) ∙ c .if1 .left
 
-facts : (c : tie.Else1) → Entered (now (start c .args .ids)) (start c .args .identity) (start c .args .ty) (start c .args .kind) (start c .args .time) (start c .args .mass)
+facts : (c : tie.Else1)
+    → Entered (now (start c .args .ids)) (start c .args .identity) (start c .args .ty) (start c .args .kind) (start c .args .time) (start c .args .mass)
 facts c = entered _ _ _ _ _ _ (ok c)
 
 place-of-requires : tie.Need-place-of-requires

@@ -1,4 +1,5 @@
--- `book::core::supply` meets its contract: it is refused as `supply_refusal` says, or the row is marked and the levels are copied over its own. Assumes nothing.
+-- `book::core::supply` meets its contract: it is refused as `supply_refusal` says, or the row is marked and the levels
+-- are copied over its own. Assumes nothing.
 use mathlib.Core.Path.{_≡_, refl, sym, _∙_}
 use native.Mathlib.Omega.{arith}
 use denote.Ref.{now}
@@ -19,10 +20,12 @@ abbrev start : tie.Else1 → tie.Start
 start c = search
 
 -- past the test nothing refuses the call
-ok : (c : tie.Else1) → supplyRefusal (start c .args .points) (now (start c .args .ids)) (start c .args .identity) (now (start c .args .given)) ≡ 0
+ok : (c : tie.Else1)
+    → supplyRefusal (start c .args .points) (now (start c .args .ids)) (start c .args .identity) (now (start c .args .given)) ≡ 0
 ok c = sym (c .before .supply-refusal .ensures) ∙ c .if1 .left
 
-row : (c : tie.Else1) → RowOf (start c .args .points) (book (start c)) (start c .args .identity) (c .before .before .place-of .result)
+row : (c : tie.Else1)
+    → RowOf (start c .args .points) (book (start c)) (start c .args .identity) (c .before .before .place-of .result)
 row c =
     let start : tie.Start = search in
     row-of (start .pre) (supplied _ _ _ _ (ok c) .0) (c .before .before .place-of .ensures)

@@ -1,4 +1,5 @@
--- `book::core::take_back` meets its contract: it is refused as `take_back_refusal` says, or mark and levels become zero. Assumes nothing.
+-- `book::core::take_back` meets its contract: it is refused as `take_back_refusal` says, or mark and levels become
+-- zero. Assumes nothing.
 use mathlib.Core.Path.{_≡_, refl, sym, _∙_}
 use native.Mathlib.Omega.{arith}
 use denote.Ref.{now}
@@ -22,10 +23,12 @@ abbrev at-place-of : tie.Else1 → tie.After-place-of
 at-place-of c = search
 
 -- past the test nothing refuses the call
-ok : (c : tie.Else1) → takeBackRefusal (now (start c .args .ids)) (now (start c .args .marks)) (start c .args .identity) ≡ 0
+ok : (c : tie.Else1)
+    → takeBackRefusal (now (start c .args .ids)) (now (start c .args .marks)) (start c .args .identity) ≡ 0
 ok c = sym (c .before .take-back-refusal .ensures) ∙ c .if1 .left
 
-row : (c : tie.Else1) → RowOf (start c .args .points) (book (start c)) (start c .args .identity) (at-place-of c .place-of .result)
+row : (c : tie.Else1)
+    → RowOf (start c .args .points) (book (start c)) (start c .args .identity) (at-place-of c .place-of .result)
 row c =
     let start : tie.Start = search in
     let at-place-of : tie.After-place-of = search in

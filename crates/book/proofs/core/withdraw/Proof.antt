@@ -1,4 +1,5 @@
--- `book::core::withdraw` meets its contract: it is refused as `withdraw_refusal` says, or the row goes out. Assumes nothing.
+-- `book::core::withdraw` meets its contract: it is refused as `withdraw_refusal` says, or the row goes out. Assumes
+-- nothing.
 use mathlib.Core.Path.{_≡_, refl, sym, _∙_}
 use native.Mathlib.Omega.{arith}
 use denote.Ref.{now}
@@ -25,7 +26,8 @@ at-place-of c = search
 ok : (c : tie.Else1) → withdrawRefusal (now (start c .args .ids)) (start c .args .identity) ≡ 0
 ok c = sym (c .before .withdraw-refusal .ensures) ∙ c .if1 .left
 
-row : (c : tie.Else1) → RowOf (start c .args .points) (book (start c)) (start c .args .identity) (at-place-of c .place-of .result)
+row : (c : tie.Else1)
+    → RowOf (start c .args .points) (book (start c)) (start c .args .identity) (at-place-of c .place-of .result)
 row c =
     let start : tie.Start = search in
     let at-place-of : tie.After-place-of = search in

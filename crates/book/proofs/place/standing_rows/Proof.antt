@@ -7,7 +7,8 @@ use Rattle.book.proofs.place.standing_rows.Statement.{statement}
 use Rattle.book.proofs.place.standing_rows.Tie as tie
 
 returns : tie.Need-returns
-returns c = c .place-of .ensures ∙ place-last maxIdentity (c .before .before .args .ids .now) (c .before .before .pre .1)
+returns c =
+    c .place-of .ensures ∙ place-last maxIdentity (c .before .before .args .ids .now) (c .before .before .pre .1)
 
 pub standing-rows-spec : {M : Type 1} → statement M
 standing-rows-spec =

@@ -1,4 +1,5 @@
--- `book::refusals::enter_refusal` meets its contract: rules 1 and 2 refuse an entry as they refuse its movement. Assumes nothing.
+-- `book::refusals::enter_refusal` meets its contract: rules 1 and 2 refuse an entry as they refuse its movement.
+-- Assumes nothing.
 use mathlib.Core.Path.{_≡_, refl, sym, _∙_}
 use native.Mathlib.Omega.{arith}
 use borrow.Author.Tests.{lt-ltb, le-ltb}
@@ -11,14 +12,17 @@ use Rattle.book.proofs.refusals.enter_refusal.Statement.{statement}
 use Rattle.book.proofs.refusals.enter_refusal.Tie as tie
 
 -- past the first test rules 1 and 2 refuse nothing
-allowed : (c : tie.Else1) → movementRefusal (c .before .before .before .args .ty) (c .before .before .before .args .kind) (c .before .before .before .args .time) (c .before .before .before .args .mass) ≡ 0
+allowed : (c : tie.Else1)
+    → movementRefusal (c .before .before .before .args .ty) (c .before .before .before .args .kind) (c .before .before .before .args .time) (c .before .before .before .args .mass) ≡ 0
 allowed c = sym (c .before .movement-refusal .ensures) ∙ c .if1 .left
 
 returns : tie.Need-returns
-returns c = let said = c .before .movement-refusal .ensures in said ∙ enter-refused _ _ _ _ _ _ (λ e. c .if1 .taken (said ∙ e))
+returns c =
+    let said = c .before .movement-refusal .ensures in said ∙ enter-refused _ _ _ _ _ _ (λ e. c .if1 .taken (said ∙ e))
 
 returns-2 : tie.Need-returns-2
-returns-2 c = sym (enter-allowed _ _ _ _ _ _ (allowed (c .before .before)) ∙ simp (failed (c .before .identity-fits .ensures) (c .if2 .taken)))
+returns-2 c =
+    sym (enter-allowed _ _ _ _ _ _ (allowed (c .before .before)) ∙ simp (failed (c .before .identity-fits .ensures) (c .if2 .taken)))
 
 stands-at-requires : tie.Need-stands-at-requires
 stands-at-requires c κs =
@@ -26,7 +30,8 @@ stands-at-requires c κs =
     (start .pre .0, identity-in _ (passed (c .before .identity-fits .ensures) (c .if2 .left)) .0)
 
 returns-3 : tie.Need-returns-3
-returns-3 c = sym (enter-allowed _ _ _ _ _ _ (allowed (c .before .before .before .before)) ∙ simp (passed (c .before .before .before .identity-fits .ensures) (c .before .before .if2 .left), sym (c .before .stands-at .ensures) ∙ c .if3 .taken))
+returns-3 c =
+    sym (enter-allowed _ _ _ _ _ _ (allowed (c .before .before .before .before)) ∙ simp (passed (c .before .before .before .identity-fits .ensures) (c .before .before .if2 .left), sym (c .before .stands-at .ensures) ∙ c .if3 .taken))
 
 returns-4 : tie.Need-returns-4
 unfolding stands

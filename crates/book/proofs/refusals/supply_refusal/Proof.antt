@@ -12,7 +12,8 @@ returns c = simp (failed (c .before .identity-fits .ensures) (c .if1 .taken))
 
 returns-2 : tie.Need-returns-2
 unfolding supplyRefusal
-returns-2 c = simp (passed (c .before .before .before .identity-fits .ensures) (c .before .before .if1 .left), failed (c .before .levels-fit .ensures) (c .if2 .taken))
+returns-2 c =
+    simp (passed (c .before .before .before .identity-fits .ensures) (c .before .before .if1 .left), failed (c .before .levels-fit .ensures) (c .if2 .taken))
 
 stands-at-requires : tie.Need-stands-at-requires
 stands-at-requires c κs =

@@ -8,7 +8,8 @@ use denote.Ref.{now}
 use Rattle.book.proofs.rows.row_in.Statement.{statement}
 use Rattle.book.proofs.rows.row_in.Tie as tie
 
-room : (s : tie.Start) → RoomIn (s .args .points) (bookNow (s .args .ids) (s .args .groups) (s .args .marks) (s .args .levels)) (s .args .at) (s .args .rows)
+room : (s : tie.Start)
+    → RoomIn (s .args .points) (bookNow (s .args .ids) (s .args .groups) (s .args .marks) (s .args .levels)) (s .args .at) (s .args .rows)
 room s = room-in _ _ _ _ (s .pre .0) (s .pre .1)
 
 open-at-requires : tie.Need-open-at-requires

@@ -8,7 +8,8 @@ use denote.Ref.{now}
 use Rattle.book.proofs.rows.row_out.Statement.{statement}
 use Rattle.book.proofs.rows.row_out.Tie as tie
 
-room : (s : tie.Start) → RoomOut (s .args .points) (bookNow (s .args .ids) (s .args .groups) (s .args .marks) (s .args .levels)) (s .args .at) (s .args .rows)
+room : (s : tie.Start)
+    → RoomOut (s .args .points) (bookNow (s .args .ids) (s .args .groups) (s .args .marks) (s .args .levels)) (s .args .at) (s .args .rows)
 room s = room-out _ _ _ _ (s .pre .0) (s .pre .1)
 
 close-at-requires : tie.Need-close-at-requires

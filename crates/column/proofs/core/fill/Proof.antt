@@ -9,7 +9,8 @@ use Rattle.column.proofs.core.fill.Statement.{statement}
 use Rattle.column.proofs.core.fill.Tie as tie
 
 abbrev Inv-loop : tie.InvT-loop
-Inv-loop part₀ v i₀ part i = (i ≤ length part₀) × ((part ≡ frontTo (replicate (length part₀) v) part₀ i) × (length part ≡ length part₀))
+Inv-loop part₀ v i₀ part i =
+    (i ≤ length part₀) × ((part ≡ frontTo (replicate (length part₀) v) part₀ i) × (length part ≡ length part₀))
 
 abbrev μ-loop : tie.MeasureT-loop
 μ-loop part₀ v i₀ part i = length part₀ - i
@@ -27,7 +28,8 @@ returns c =
     let d = c .before .before .args .part .now in
     let v = c .before .before .args .v in
     let l = length-replicate (length d) v in
-    c .before .loop .inv .1 .0 ∙ front-to-whole (replicate (length d) v) d (c .before .loop .i) (omega arith) (omega arith)
+    c .before .loop .inv .1 .0
+    ∙ front-to-whole (replicate (length d) v) d (c .before .loop .i) (omega arith) (omega arith)
 
 pub fill-spec : {M : Type 1} → statement M
 fill-spec =

@@ -10,7 +10,8 @@ use Rattle.column.proofs.core.shift_down.Statement.{statement}
 use Rattle.column.proofs.core.shift_down.Tie as tie
 
 abbrev Inv-loop : tie.InvT-loop
-Inv-loop tail₀ count w i₀ tail i = (i ≤ count) × ((tail ≡ frontTo (drop w tail₀) tail₀ i) × (length tail ≡ length tail₀))
+Inv-loop tail₀ count w i₀ tail i =
+    (i ≤ count) × ((tail ≡ frontTo (drop w tail₀) tail₀ i) × (length tail ≡ length tail₀))
 
 abbrev μ-loop : tie.MeasureT-loop
 μ-loop tail₀ count w i₀ tail i = count - i

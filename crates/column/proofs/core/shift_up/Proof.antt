@@ -11,7 +11,8 @@ use Rattle.column.proofs.core.shift_up.Statement.{statement}
 use Rattle.column.proofs.core.shift_up.Tie as tie
 
 abbrev Inv-loop : tie.InvT-loop
-Inv-loop tail₀ count w left₀ tail left = (left ≤ count) × ((tail ≡ back (raised count w tail₀) tail₀ w left) × (length tail ≡ length tail₀))
+Inv-loop tail₀ count w left₀ tail left =
+    (left ≤ count) × ((tail ≡ back (raised count w tail₀) tail₀ w left) × (length tail ≡ length tail₀))
 
 abbrev μ-loop : tie.MeasureT-loop
 μ-loop tail₀ count w left₀ tail left = left
@@ -30,7 +31,9 @@ returns c =
     let s = c .before .before in
     let e : c .before .loop .left ≡ 0 = omega arith in
     let rest = raised (s .args .count) (s .args .w) (s .args .tail .now) in
-    c .before .loop .inv .1 .0 ∙ ap (back rest (s .args .tail .now) (s .args .w)) e ∙ ap (λ n. take n (s .args .tail .now) ++ rest) (zero-add (s .args .w))
+    c .before .loop .inv .1 .0
+    ∙ ap (back rest (s .args .tail .now) (s .args .w)) e
+    ∙ ap (λ n. take n (s .args .tail .now) ++ rest) (zero-add (s .args .w))
 
 pub shift-up-spec : {M : Type 1} → statement M
 shift-up-spec =

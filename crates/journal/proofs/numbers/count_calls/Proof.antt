@@ -30,8 +30,10 @@ start c = search
 abbrev head : tie.After-width-of Inv-loop μ-loop → tie.At-loop Inv-loop μ-loop
 head c = search
 
-step : (c : tie.After-width-of Inv-loop μ-loop) → Step (start c .args .journal .now) (head c .loop .at) (c .width-of .result)
-step c = step-laid _ _ _ (c .width-of .ensures) (c .before .before .loop-test .taken) (c .before .before .before .loop .inv .1 .1 .0)
+step : (c : tie.After-width-of Inv-loop μ-loop)
+    → Step (start c .args .journal .now) (head c .loop .at) (c .width-of .result)
+step c =
+    step-laid _ _ _ (c .width-of .ensures) (c .before .before .loop-test .taken) (c .before .before .before .loop .inv .1 .1 .0)
 
 add-at : tie.Need-add-at Inv-loop μ-loop
 add-at c = let s = step c .fits in omega arith

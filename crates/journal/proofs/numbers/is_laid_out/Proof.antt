@@ -20,7 +20,8 @@ mul-width-of : tie.Need-mul-width-of Inv-loop μ-loop
 mul-width-of c = let g = c .before .before .before .good in omega arith
 
 returns : tie.Need-returns Inv-loop μ-loop
-returns c = sym (c .before .before .before .before .loop .inv .1 ∙ laid-cut _ _ _ (c .before .width-of .ensures) (c .before .before .before .loop-test .taken) (inl (c .if1 .taken)))
+returns c =
+    sym (c .before .before .before .before .loop .inv .1 ∙ laid-cut _ _ _ (c .before .width-of .ensures) (c .before .before .before .loop-test .taken) (inl (c .if1 .taken)))
 
 returns-2 : tie.Need-returns-2 Inv-loop μ-loop
 returns-2 c =
@@ -36,8 +37,10 @@ abbrev head : tie.Else2 Inv-loop μ-loop → tie.At-loop Inv-loop μ-loop
 head c = search
 
 -- past the tests the call is complete
-step : (c : tie.Else2 Inv-loop μ-loop) → Step (start c .args .journal .now) (head c .loop .at) (c .before .before .width-of .result)
-step c = step-tested _ _ _ (c .before .before .width-of .ensures) (c .before .before .before .before .loop-test .taken) (c .before .if1 .left) (c .if2 .left)
+step : (c : tie.Else2 Inv-loop μ-loop)
+    → Step (start c .args .journal .now) (head c .loop .at) (c .before .before .width-of .result)
+step c =
+    step-tested _ _ _ (c .before .before .width-of .ensures) (c .before .before .before .before .loop-test .taken) (c .before .if1 .left) (c .if2 .left)
 
 add-at : tie.Need-add-at Inv-loop μ-loop
 add-at c = let s = step c .fits in omega arith

@@ -10,7 +10,9 @@ returns : tie.Need-returns
 returns c = sym (width-enter _ (sym (c .before .number-at .ensures) ∙ c .if1 .taken))
 
 returns-2 : tie.Need-returns-2
-returns-2 c = ap (λ n. 3 + n) (c .number-at2 .ensures) ∙ sym (width-supply _ (sym (c .before .before .before .number-at .ensures) ∙ c .before .if2 .taken))
+returns-2 c =
+    ap (λ n. 3 + n) (c .number-at2 .ensures)
+    ∙ sym (width-supply _ (sym (c .before .before .before .number-at .ensures) ∙ c .before .if2 .taken))
 
 returns-3 : tie.Need-returns-3
 returns-3 c = sym (width-take-back _ (sym (c .before .before .before .number-at .ensures) ∙ c .if3 .taken))

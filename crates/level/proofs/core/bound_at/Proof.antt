@@ -1,4 +1,5 @@
--- `level::core::bound_at` meets its contract: B(k) is below 10^7 and its factor at most 10^10, so that each product fits.
+-- `level::core::bound_at` meets its contract: B(k) is below 10^7 and its factor at most 10^10, so that each product
+-- fits.
 -- Assumes nothing.
 use mathlib.Core.Path.{_≡_, sym}
 use Prim.Native.Nat.{ℕ, _-_, _*_, _/_, _%_, _^_, _≤_, _<_}
@@ -35,7 +36,8 @@ mul-result-6 : tie.Need-mul-result-6
 mul-result-6 c =
     let s = c .before .before .before in
     record {
-      fits = rw (of-b s, of-powers s (s .args .n / 1000) (omega arith)) (fits (s .args .n % 1000) (10 ^ (s .args .n / 1000) / 1000) (omega arith) (thousandth-le (s .args .n / 1000) 10 (omega arith)));
+      fits =
+          rw (of-b s, of-powers s (s .args .n / 1000) (omega arith)) (fits (s .args .n % 1000) (10 ^ (s .args .n / 1000) / 1000) (omega arith) (thousandth-le (s .args .n / 1000) 10 (omega arith)));
     }
 
 returns : tie.Need-returns

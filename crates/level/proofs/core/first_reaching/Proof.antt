@@ -1,4 +1,5 @@
--- `level::core::first_reaching` meets its contract. The loop's invariant: every level before n misses m. It ends by 13,999, whose bound reaches m.
+-- `level::core::first_reaching` meets its contract. The loop's invariant: every level before n misses m. It ends by
+-- 13,999, whose bound reaches m.
 -- Assumes nothing.
 use mathlib.Core.Path.{sym}
 use Prim.Native.Nat.{ℕ, _+_, _-_, _≤_, _<_}

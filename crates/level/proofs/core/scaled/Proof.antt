@@ -1,4 +1,5 @@
--- `level::core::scaled` meets its contract: s·n / d is s / d · n and what the rest gives, and both parts fit since their sum does.
+-- `level::core::scaled` meets its contract: s·n / d is s / d · n and what the rest gives, and both parts fit since
+-- their sum does.
 -- Assumes nothing.
 use mathlib.Core.Path.{_≡_, sym}
 use Prim.Native.Nat.{_+_, _*_, _/_, _%_, _^_, _<_}
@@ -12,7 +13,8 @@ mul-rest : tie.Need-mul-rest
 mul-rest c = record { fits = rest-fits (c .args .s) (c .args .n) (c .args .d) (c .pre .0) (omega arith) (omega arith) }
 
 -- the sum of both parts
-sum : (c : tie.Start) → c .args .s * c .args .n / c .args .d ≡ c .args .s / c .args .d * c .args .n + c .args .s % c .args .d * c .args .n / c .args .d
+sum : (c : tie.Start)
+    → c .args .s * c .args .n / c .args .d ≡ c .args .s / c .args .d * c .args .n + c .args .s % c .args .d * c .args .n / c .args .d
 sum c = by-parts (c .args .s) (c .args .n) (c .args .d) (c .pre .0)
 
 mul-result : tie.Need-mul-result

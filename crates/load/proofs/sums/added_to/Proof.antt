@@ -13,7 +13,8 @@ use Rattle.load.proofs.sums.added_to.Statement.{statement}
 use Rattle.load.proofs.sums.added_to.Tie as tie
 
 -- the group's energy and factor
-scalable : (s : tie.Start) → Scalable (s .args .c .energy) (s .args .c .computed + s .args .c .missing) (s .args .c .computed)
+scalable : (s : tie.Start)
+    → Scalable (s .args .c .energy) (s .args .c .computed + s .args .c .missing) (s .args .c .computed)
 scalable s = record { movements = omega (arith, s .pre .movements); energy = s .pre .energy }
 
 add-scaled : tie.Need-add-scaled
@@ -24,7 +25,8 @@ add-scaled c =
 
 returns : tie.Need-returns
 unfolding addedTo scaledEnergy known unknown
-returns c = rw (c .before .before .before .before .scaled-by .ensures, eq-eqb _ _ (c .before .before .if1 .taken)) (simp add-zero)
+returns c =
+    rw (c .before .before .before .before .scaled-by .ensures, eq-eqb _ _ (c .before .before .if1 .taken)) (simp add-zero)
 
 returns-2 : tie.Need-returns-2
 unfolding addedTo scaledEnergy known unknown

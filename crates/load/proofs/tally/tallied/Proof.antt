@@ -1,4 +1,5 @@
--- `load::tally::tallied` meets its contract: the invariant is the table of the first rows. A sound book says that the next row fits.
+-- `load::tally::tallied` meets its contract: the invariant is the table of the first rows. A sound book says that the
+-- next row fits.
 -- Assumes nothing.
 use mathlib.Core.Path.{_≡_, sym, ap, subst, _∙_}
 use Prim.Native.Nat.{_-_, _≤_}
@@ -14,7 +15,8 @@ use Rattle.load.proofs.tally.tallied.Statement.{statement}
 use Rattle.load.proofs.tally.tallied.Tie as tie
 
 abbrev Inv-loop : tie.InvT-loop
-Inv-loop a powers ids groups marks levels points point cells₀ i₀ cells i = (i ≤ length ids) × (cells ≡ table (tally (sharesTo points point (bookOf ids groups marks levels) i)))
+Inv-loop a powers ids groups marks levels points point cells₀ i₀ cells i =
+    (i ≤ length ids) × (cells ≡ table (tally (sharesTo points point (bookOf ids groups marks levels) i)))
 
 abbrev μ-loop : tie.MeasureT-loop
 μ-loop a powers ids groups marks levels points point cells₀ i₀ cells i = length ids - i
@@ -27,7 +29,8 @@ abbrev book : tie.Start Inv-loop μ-loop → Book
 book s = bookNow (s .args .ids) (s .args .groups) (s .args .marks) (s .args .levels)
 
 -- the row that a turn reads
-row : (c : tie.In-loop Inv-loop μ-loop) → Row (entry c .args .points) (entry c .args .point) (book (entry c)) (c .before .loop .i)
+row : (c : tie.In-loop Inv-loop μ-loop)
+    → Row (entry c .args .points) (entry c .args .point) (book (entry c)) (c .before .loop .i)
 row c =
     row-at (entry c .args .points) (entry c .args .point) (book (entry c)) (entry c .pre .1 .0) (entry c .pre .1 .1) (c .before .loop .i) (c .loop-test .taken)
 

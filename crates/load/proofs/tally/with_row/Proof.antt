@@ -1,4 +1,5 @@
--- `load::tally::with_row` meets its contract: by cases on identity and mark; the energy of a level in range is at most 10^13.
+-- `load::tally::with_row` meets its contract: by cases on identity and mark; the energy of a level in range is at most
+-- 10^13.
 -- Assumes nothing.
 use mathlib.Core.Path.{_≡_, ap, _∙_}
 use Prim.Native.Nat.{_+_, _≤_}
@@ -33,9 +34,12 @@ add-energy c = omega (arith, weighted c)
 energy-requires : tie.Need-energy-requires
 energy-requires c κs = let t = c .before .before .before .pre .1 in (weighted c, t .table-a, t .powers-of-ten)
 
-known-energy : (c : tie.After-energy) → c .energy .result ≡ energyIn (c .before .before .before .before .args .group) (c .before .before .before .before .args .level)
+known-energy : (c : tie.After-energy)
+    → c .energy .result ≡ energyIn (c .before .before .before .before .args .group) (c .before .before .before .before .args .level)
 unfolding energyIn
-known-energy c = c .energy .ensures ∙ ap (λ w. energyOf (c .before .before .before .before .args .level + w)) (c .before .group-weight .ensures)
+known-energy c =
+    c .energy .ensures
+    ∙ ap (λ w. energyOf (c .before .before .before .before .args .level + w)) (c .before .group-weight .ensures)
 
 add-t13 : tie.Need-add-t13
 add-t13 c =

@@ -16,7 +16,8 @@ mul-result-2 : tie.Need-mul-result-2
 mul-result-2 c = omega (arith, kind-below (c .before .before .args .kind))
 
 add-result : tie.Need-add-result
-add-result c = omega (arith, aircraft-below (c .before .before .args .aircraft), kind-below (c .before .before .args .kind))
+add-result c =
+    omega (arith, aircraft-below (c .before .before .args .aircraft), kind-below (c .before .before .args .kind))
 
 add-result-2 : tie.Need-add-result-2
 add-result-2 c =

@@ -1,4 +1,5 @@
--- `movement::rules::fields_fit` meets its contract: the tests that lead to each `return` are those of `fieldsFit`, in its order.
+-- `movement::rules::fields_fit` meets its contract: the tests that lead to each `return` are those of `fieldsFit`, in
+-- its order.
 -- Assumes nothing.
 use mathlib.Core.Path.{_∙_}
 use borrow.Author.Needs.{needs}
@@ -17,7 +18,8 @@ returns-2 c = simp (lt-ltb _ _ (c .before .if1 .left), le-ltb _ _ (c .if2 .taken
 
 returns-3 : tie.Need-returns-3
 unfolding fieldsFit
-returns-3 c = simp (lt-ltb _ _ (c .before .before .if1 .left), lt-ltb _ _ (c .before .if2 .left), le-ltb _ _ (c .if3 .taken))
+returns-3 c =
+    simp (lt-ltb _ _ (c .before .before .if1 .left), lt-ltb _ _ (c .before .if2 .left), le-ltb _ _ (c .if3 .taken))
 
 returns-4 : tie.Need-returns-4
 unfolding fieldsFit

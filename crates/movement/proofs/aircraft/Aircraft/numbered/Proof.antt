@@ -1,4 +1,5 @@
--- `movement::aircraft::Aircraft::numbered` meets its contract: the tests that lead to each `return` are those of `aircraftNumbered`.
+-- `movement::aircraft::Aircraft::numbered` meets its contract: the tests that lead to each `return` are those of
+-- `aircraftNumbered`.
 -- Assumes nothing.
 use borrow.Author.Tests.{eq-eqb, ne-eqb}
 use Rattle.movement.proofs.aircraft.Aircraft.numbered.Statement.{statement}

@@ -1,4 +1,5 @@
--- `movement::period::Period::numbered` meets its contract: the tests that lead to each `return` are those of `periodNumbered`.
+-- `movement::period::Period::numbered` meets its contract: the tests that lead to each `return` are those of
+-- `periodNumbered`.
 -- Assumes nothing.
 use borrow.Author.Tests.{eq-eqb, ne-eqb}
 use Rattle.movement.proofs.period.Period.numbered.Statement.{statement}
