@@ -1,7 +1,9 @@
 // The contours of a network, listed and printed.
 use network::Frame;
-ghost use Rattle.contour.specs.Answers.{outcome, Leaves};
-ghost use Rattle.wkt.specs.Calls.{networkText, printRefusal, Leaves as Prints};
+ghost use mathlib.Core.Path.{_≡_};
+ghost use Rattle.network.specs.Refusals.{contourRefusal};
+ghost use Rattle.contour.specs.Answers.{outcomeLeft, outcomeDue};
+ghost use Rattle.wkt.specs.Calls.{networkText, Prints};
 ghost use Rattle.okubinrafo.specs.Networks.{frameOf};
 
 // The contours at a level, as lists of edges.
@@ -19,9 +21,8 @@ pub extern "C" fn okubinrafo_contours(
     closed: &mut [u32],
     sizes: &mut [u32],
 ) -> u32
-    ensures { λ r. ⌜ Leaves (outcome (now (levels .entry)) (frameOf columns rows spacing west south) level
-        (now (edges .entry)) (now (counts .entry)) (now (closed .entry)) (now (sizes .entry)))
-        r (now (edges .exit)) (now (counts .exit)) (now (closed .exit)) (now (sizes .exit)) ⌝ }
+    ensures { λ r. ⌜ outcomeLeft r edges counts closed sizes
+        ≡ outcomeDue levels (frameOf columns rows spacing west south) level edges counts closed sizes ⌝ }
 {
     let frame = Frame {
         columns: columns,
@@ -46,10 +47,8 @@ pub extern "C" fn okubinrafo_print_contours(
     text: &mut [u8],
     size: &mut [u32],
 ) -> u32
-    ensures { λ r. ⌜ Prints (printRefusal (now (levels .entry)) (frameOf columns rows spacing west south) level
-        (now (text .entry)) (now (size .entry)))
-        (networkText (now (levels .entry)) (frameOf columns rows spacing west south) level)
-        (now (text .entry)) (now (size .entry)) r (now (text .exit)) (now (size .exit)) ⌝ }
+    ensures { λ r. ⌜ Prints (contourRefusal (now (levels .entry)) (frameOf columns rows spacing west south) level)
+        (networkText (now (levels .entry)) (frameOf columns rows spacing west south) level) text size r ⌝ }
 {
     let frame = Frame {
         columns: columns,
