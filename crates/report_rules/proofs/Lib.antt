@@ -8,6 +8,7 @@ pub mod Printed
 pub mod Counting
 pub mod Says
 pub mod Spelling
+pub mod Headers
 pub mod Refusing
 pub mod LimitsExact
 pub mod Orders

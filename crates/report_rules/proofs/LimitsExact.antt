@@ -33,7 +33,7 @@ use Rattle.register.specs.Limits.{refusedLimits, judgedLimits, secondLimits, he
 use Rattle.register.proofs.Converse.{got-value}
 use Rattle.report_rules.specs.LimitsSpelled.{Headed, Valued, RefusedAt, Accepted, LimitsExactly}
 use Rattle.report_rules.proofs.Printed.{listing-at, value-at}
-use Rattle.report_rules.proofs.Refusing.{header-is, is-header}
+use Rattle.report_rules.proofs.Headers.{header-is, is-header}
 
 -- Lists
 

@@ -3,18 +3,15 @@
 use mathlib.Core.Path.{_≡_, refl, sym, ap, _∙_}
 use mathlib.Core.Bool.{Bool, true, false, cond, _&&_, and-false}
 use mathlib.Core.List.{List, [], _∷_, _++_}
-use Prim.Native.Nat.{ℕ, zero, suc, _+_, _-_, _*_, _/_, _%_, _≤_, _<_}
+use Prim.Native.Nat.{ℕ, zero, suc, _+_, _≤_, _<_}
 use native.Mathlib.Omega.{arith}
 use native.Mathlib.Numerals.{add-one}
 use lib.ListN.{length, getD, take}
-use lib.Seq.{length-take-le}
-use lib.Dec.{eqb, leb, ltb}
-use borrow.Author.Tests.{eq-eqb, ne-eqb, eqb-true, eqb-false, lt-ltb, le-leb, ltb-true, leb-true}
-use Rattle.refusal.proofs.Laws.{and-left, and-right}
+use lib.Dec.{eqb}
+use borrow.Author.Tests.{eq-eqb, ne-eqb, eqb-true, eqb-false}
 use Rattle.text.specs.Line.{linesOf}
 use Rattle.text.specs.Field.{countOf, fieldOf, joinedBy}
 use Rattle.text.specs.Number.{showNumber}
-use Rattle.text.specs.Same.{sameText}
 use Rattle.text.specs.Spelled.{bytes}
 use Rattle.text.specs.declared.number.Number.{Number}
 use Rattle.text.specs.declared.number.Number.the-variants.{Got, Off}
@@ -24,13 +21,13 @@ use Rattle.text.proofs.Free.{shown-free}
 use Rattle.book_rules.specs.Columns.{Book}
 use Rattle.book_rules.specs.Calls.{refusal, after}
 use Rattle.book_rules.specs.History.{emptyBook}
-use Rattle.register.specs.Header.{headerOf, registerHeader}
+use Rattle.register.specs.Header.{registerHeader}
 use Rattle.register.specs.Limits.{limitsOf}
 use Rattle.register.specs.Row.{layoutOf}
 use Rattle.report_steps.specs.Intake.{takenNumber, entering, supplying, suppliedTaken, enteredTaken, layoutTaken}
 use Rattle.report_steps.specs.Intake.{rowTaken}
 use Rattle.report_steps.specs.Reading.{Reading, opening, pointsRefusal, lineRefusal, lineRead, linesRead, closing}
-use Rattle.report_steps.specs.Reading.{registered}
+use Rattle.report_steps.specs.Reading.{headerPoints, registered}
 use Rattle.report_steps.proofs.Readings.{stuck, all-lines}
 use Rattle.report_text.specs.Text.{ended, line, refusedText, bookRefusal, bookText}
 use Rattle.report_rules.specs.Report.{bookRows, readingText, registerText, reportOf}
@@ -39,6 +36,7 @@ use Rattle.report_rules.specs.Refused.{Refuses, ReportRefused, FirstRefu
 use Rattle.report_rules.specs.Refused.{RowRefused}
 use Rattle.report_rules.proofs.Answers.{reading-refused, reading-reported, register-text, report-refused}
 use Rattle.report_rules.proofs.Answers.{report-accepted}
+use Rattle.report_rules.proofs.Headers.{header-is, is-header}
 use Rattle.report_rules.proofs.Printed.{lines-ended, spelled-free, joined-free}
 
 -- The one line of a refusal
@@ -208,63 +206,6 @@ register-refused p b register =
 
 -- What refuses a line
 
-same-is : (a b : List ℕ) → sameText a b ≡ true → a ≡ b
-unfolding sameText
-same-is [] [] e = refl
-same-is [] (y ∷ b) e = let z : _≡_ {A = ℕ} 0 1 = cc in absurd (omega arith)
-same-is (x ∷ a) [] e = let z : _≡_ {A = ℕ} 0 1 = cc in absurd (omega arith)
-same-is (x ∷ a) (y ∷ b) e =
-    let head = eqb-true x y (and-left (eqb x y) (sameText a b) e) in
-    let rest = same-is a b (and-right (eqb x y) (sameText a b) e) in cc
-
-same-self : (a : List ℕ) → sameText a a ≡ true
-unfolding sameText
-same-self [] = refl
-same-self (x ∷ a) = rw (eq-eqb x x refl) (same-self a)
-
--- a header is the full text up to its last point, and such a text is a header
-pub header-is : (full : List ℕ) (lead : ℕ) (s : List ℕ) (p : ℕ) → headerOf full lead s ≡ Got p
-    → ((1 ≤ p) × (p ≤ 8)) × (s ≡ take (lead + 3 * p) full)
-unfolding headerOf
-header-is full lead s p e =
-    let n = length s in
-    let a = ltb lead n in
-    let b = a && leb n (length full) in
-    let c = b && eqb ((n - lead) % 3) 0 in
-    let d = c && leb ((n - lead) / 3) 8 in
-    let f = sameText s (take n full) in
-    either (d && f)
-    (λ all. let yd = and-left d f all in
-    let yc = and-left c (leb ((n - lead) / 3) 8) yd in
-    let yb = and-left b (eqb ((n - lead) % 3) 0) yc in
-    let long = ltb-true lead n (and-left a (leb n (length full)) yb) in
-    let third = eqb-true ((n - lead) % 3) 0 (and-right b (eqb ((n - lead) % 3) 0) yc) in
-    let few = leb-true ((n - lead) / 3) 8 (and-right c (leb ((n - lead) / 3) 8) yd) in
-    let g : Got ((n - lead) / 3) ≡ Got p = rw all at e in
-    let q : (n - lead) / 3 ≡ p = cc in
-    let size : n ≡ lead + 3 * p = omega arith in
-    ((omega arith, omega arith), same-is s (take n full) (and-right d f all) ∙ ap (λ k. take k full) size))
-    (λ no. let g : Off ≡ Got p = rw no at e in let z : _≡_ {A = ℕ} 0 1 = cc in absurd (omega arith))
-
-pub is-header : (full : List ℕ) (lead : ℕ) (s : List ℕ) (p : ℕ) → length full ≡ lead + 24 → 1 ≤ p → p ≤ 8
-    → s ≡ take (lead + 3 * p) full
-    → headerOf full lead s ≡ Got p
-unfolding headerOf
-is-header full lead s p size some few e =
-    let n : length s ≡ lead + 3 * p = ap length e ∙ length-take-le (lead + 3 * p) full (omega arith) in
-    let third : (lead + 3 * p - lead) % 3 ≡ 0 = omega arith in
-    let whole : (lead + 3 * p - lead) / 3 ≡ p = omega arith in
-    let same : sameText s (take (lead + 3 * p) full) ≡ true = rw e (same-self (take (lead + 3 * p) full)) in
-    rw (
-      n,
-      lt-ltb lead (lead + 3 * p) (omega arith),
-      le-leb (lead + 3 * p) (length full) (omega arith),
-      third,
-      whole,
-      le-leb p 8 few,
-      same,
-    ) refl
-
 points-none : (p : ℕ) (r : Number) → pointsRefusal p r ≡ 0 → r ≡ Got p
 points-none p Off z = absurd (omega arith)
 points-none p (Got n) z =
@@ -279,10 +220,10 @@ unfolding lineRefusal
 header-exactly p b line =
     record {
       passes = (
-        λ z. header-is registerHeader 22 line p (points-none p (headerOf registerHeader 22 line) z),
+        λ z. header-is registerHeader 22 line p (points-none p (headerPoints line) z),
         λ h. rw (is-header registerHeader 22 line p refl (h .0 .0) (h .0 .1) (h .1), eq-eqb p p refl) refl,
       );
-      otherwise = points-other p (headerOf registerHeader 22 line);
+      otherwise = points-other p (headerPoints line);
     }
 
 supplied-number : (s : ℕ) → takenNumber (suppliedTaken s) ≡ s

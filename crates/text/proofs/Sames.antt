@@ -4,10 +4,12 @@ use mathlib.Core.Path.{_≡_, refl, ap}
 use mathlib.Core.List.{List, [], _∷_}
 use mathlib.Core.Bool.{true, false, and-false}
 use native.Mathlib.Numerals.{add-one}
-use borrow.Author.Tests.{eq-eqb, ne-eqb}
+use native.Mathlib.Omega.{arith}
+use borrow.Author.Tests.{eq-eqb, ne-eqb, eqb-true}
 use lib.ListN.{length, getD, drop, drop-of-length-le}
 use lib.Seq.{drop-cons}
 use lib.Dec.{eqb}
+use Rattle.refusal.proofs.Laws.{and-left, and-right}
 use Rattle.text.specs.Same.{sameText}
 
 -- texts of unlike lengths
@@ -31,3 +33,18 @@ module _ (a b : List ℕ) (i : ℕ) (ha : i < length a) (hb : i < length b) wher
 pub same-end : (a b : List ℕ) (i : ℕ) → length a ≤ i → length b ≤ i → sameText (drop i a) (drop i b) ≡ true
 unfolding sameText
 same-end a b i ha hb = rw (drop-of-length-le a ha, drop-of-length-le b hb)
+
+-- texts that are the same are equal, and a text is the same as itself
+pub same-equal : (a b : List ℕ) → sameText a b ≡ true → a ≡ b
+unfolding sameText
+same-equal [] [] e = refl
+same-equal [] (y ∷ b) e = let z : _≡_ {A = ℕ} 0 1 = cc in absurd (omega arith)
+same-equal (x ∷ a) [] e = let z : _≡_ {A = ℕ} 0 1 = cc in absurd (omega arith)
+same-equal (x ∷ a) (y ∷ b) e =
+    let head = eqb-true x y (and-left (eqb x y) (sameText a b) e) in
+    let rest = same-equal a b (and-right (eqb x y) (sameText a b) e) in cc
+
+pub same-self : (a : List ℕ) → sameText a a ≡ true
+unfolding sameText
+same-self [] = refl
+same-self (x ∷ a) = rw (eq-eqb x x refl) (same-self a)

@@ -48,7 +48,9 @@ bytes c =
     (c .if2 .left)
 
 pub what-came-spec : {M : Type 1} → statement M
-what-came-spec = tie.close (tie.spec
+what-came-spec =
+    tie.close
+    (tie.spec
     failed
     (λ c κs. search needs)
     end
