@@ -15,6 +15,7 @@ use contours_steps::words::Given;
 use contours_steps::words::MAX_CONTOUR_LEVELS;
 use contours_steps::words::words_refusal;
 use network::Frame;
+use network::limits::MAX_SIDE;
 ghost use mathlib.Core.Path.{_≡_};
 ghost use lib.ListN.{length};
 ghost use Rattle.contours_steps.specs.Answer.{ReadWhole, ReadFailed, ReadFull};
@@ -26,6 +27,11 @@ ghost use Rattle.contours_steps.specs.InnerDrawing.{Stored};
 // Room for any network that is not refused, and more: 65,536 values of up to 8 bytes, each with the space or line end
 // behind it, and the header.
 const MAX_TEXT: usize = 600_000;
+
+// The numbers of a network's header, and the most levels that it has.
+const HEADER_NUMBERS: usize = 5;
+
+const MAX_POINTS: usize = MAX_SIDE as usize * MAX_SIDE as usize;
 
 fn main() {
     let mut text = [0u8; MAX_TEXT];
@@ -81,8 +87,8 @@ fn judged(text: &[u8], read: Turn, asked: &[u32], given: Given)
     requires { ⌜ Gathered given (now asked) ⌝ }
     requires { ⌜ length (now asked) ≡ maxContourLevels ⌝ }
 {
-    let mut header = [0u32; 5];
-    let mut levels = [0u32; 65536];
+    let mut header = [0u32; HEADER_NUMBERS];
+    let mut levels = [0u32; MAX_POINTS];
     let why = grid::read::read_network(text, &mut header, &mut levels);
     if why != 0 {
         refuse_network(text, read, why, asked, given);

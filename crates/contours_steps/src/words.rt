@@ -7,7 +7,7 @@ ghost use mathlib.Core.Bool.{cond};
 ghost use Rattle.contours_steps.specs.Words.{isContour, wordLevel, givenRefusal, WordTaken};
 
 // The most levels that there is room for: as many as there are.
-pub const MAX_CONTOUR_LEVELS: usize = 15000;
+pub const MAX_CONTOUR_LEVELS: usize = MAX_CONTOUR as usize;
 
 // The contour level of a word, or 0, which is none, where it is no level or out of range.
 pub fn contour_of(word: &[u8]) -> u32
