@@ -5,7 +5,7 @@ use mathlib.Core.Path.{_≡_}
 use mathlib.Core.List.{List}
 use lib.ListN.{length, take, replicate}
 use Rattle.book_rules.specs.Columns.{Book}
-use Rattle.register.specs.declared.limits.Limits.{Limits}
+use Rattle.register.specs.declared.limits_csv.LimitsFile.{LimitsFile}
 use Rattle.report_steps.specs.Reading.{readingAt}
 use Rattle.report_rules.specs.Report.{bookRows, readingText, registerText, Came, Answers, Written}
 
@@ -17,12 +17,12 @@ pub record Cleared (ids groups marks levels : List ℕ) : Type 0 where
   pub levels-none : levels ≡ replicate 16000 0
 
 -- the first bytes of a buffer are the answer to a register that was read
-pub record Sized (l : Limits) (refusal line : ℕ) (b : Book) (out : List ℕ) (size : ℕ) : Type 0 where
+pub record Sized (l : LimitsFile) (refusal line : ℕ) (b : Book) (out : List ℕ) (size : ℕ) : Type 0 where
   pub fits : size ≤ length out
   pub text : take size out ≡ readingText l (readingAt refusal line b)
 
 -- the answer to a register, where limits.csv is accepted
-pub record AnsweredIn (l : Limits) (out : List ℕ) (size : ℕ) : Type 0 where
+pub record AnsweredIn (l : LimitsFile) (out : List ℕ) (size : ℕ) : Type 0 where
   pub fits : size ≤ length out
   pub came : Came
   pub is : Answers (registerText l) came (take size out)

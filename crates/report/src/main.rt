@@ -8,7 +8,7 @@ use feed::STOPPED;
 use feed::Turn;
 use feed::WHOLE;
 use libc::STDOUT_FILENO;
-use register::limits::Limits;
+use register::limits_csv::LimitsFile;
 use report_text::core::put_refused;
 use report_text::core::put_report;
 ghost use mathlib.Core.Path.{_≡_};
@@ -42,7 +42,7 @@ fn answer(text: &[u8], out: &mut [u8]) -> usize
     requires { ⌜ longestReport ≤ length (now out) ⌝ }
     ensures { λ r. ⌜ WrittenIn (now (text .entry)) (now (out .exit)) r ⌝ }
 {
-    let limits = register::limits::read_limits(text);
+    let limits = register::limits_csv::read_limits(text);
     let refusal = limits.refusal;
     if refusal != 0 {
         say::of_limits(refusal, limits.line as u64, text);
@@ -61,7 +61,7 @@ fn report(
     groups: &mut [u32],
     marks: &mut [u32],
     levels: &mut [u32],
-    limits: Limits,
+    limits: LimitsFile,
     out: &mut [u8],
 ) -> usize
     requires { ⌜ Cleared (now ids) (now groups) (now marks) (now levels) ⌝ }
@@ -78,7 +78,7 @@ fn report_in(
     groups: &mut [u32],
     marks: &mut [u32],
     levels: &mut [u32],
-    limits: Limits,
+    limits: LimitsFile,
     out: &mut [u8],
 ) -> usize
     requires { ⌜ bookOf (now ids) (now groups) (now marks) (now levels) ≡ emptyBook (limits .points) bookRows ⌝ }
@@ -101,7 +101,7 @@ fn answer_whole(
     groups: &[u32],
     marks: &[u32],
     levels: &[u32],
-    limits: Limits,
+    limits: LimitsFile,
     bytes: &[u8],
     read: Turn,
     out: &mut [u8],
@@ -121,7 +121,7 @@ fn answer_whole(
 }
 
 // The register is refused: its one line, and the sentence that goes with it.
-fn refuse(bytes: &[u8], read: Turn, limits: Limits, out: &mut [u8]) -> usize
+fn refuse(bytes: &[u8], read: Turn, limits: LimitsFile, out: &mut [u8]) -> usize
     requires { ⌜ longestReport ≤ length (now out) ⌝ }
     ensures { λ r. ⌜ WroteWithin 51 (now (out .entry)) 0 (refusedText (read .refusal) (read .line)) (now (out .exit)) r ⌝ }
 {
