@@ -14,6 +14,7 @@ use Rattle.refusal.proofs.Laws.{and-left, and-right, refuse-none}
 use Rattle.text.specs.Line.{linesOf}
 use Rattle.text.specs.Number.{levelOf, isGot}
 use Rattle.text.proofs.Digits.{either}
+use Rattle.room.specs.Room.{front}
 use Rattle.network.specs.declared.Frame.{Frame}
 use Rattle.network.specs.Edges.{Checked}
 use Rattle.network.specs.Limits.{maxNetworkLevel, leastContour, maxContour}
@@ -21,7 +22,7 @@ use Rattle.network.specs.Refusals.{sided, placed, filled}
 use Rattle.network.proofs.Refusals.{is-checked, in-between}
 use Rattle.grid.specs.Row.{all, rowGiven, levelsOf}
 use Rattle.grid.specs.File.{frameOf, noDataOf, rowsOf, faultLine, rowsFit}
-use Rattle.grid.specs.Read.{headerSize, numbersOf, textFrame, textLevels, linesRefusal, readRefusal, over, headerAfter, levelsAfter}
+use Rattle.grid.specs.Read.{headerSize, numbersOf, textFrame, textLevels, linesRefusal, readRefusal, headerAfter, levelsAfter}
 use Rattle.grid.proofs.WriteLaws.{points-most}
 use Rattle.grid.proofs.ValueLaws.{all-cons}
 use Rattle.contours_steps.proofs.Levels.{word-range}
@@ -166,7 +167,7 @@ stored {text} {header} {header′} {levels′} levels z five room h l =
     let five′ : length header ≡ headerSize = ap length five in
     let r : readRefusal text (length header) (length levels) ≡ 0 = rw (five′, room) z in
     let h′ : header′ ≡ numbersOf (textFrame text) = h ∙ rw (r, five) refl in
-    let l′ : levels′ ≡ over (textLevels text) levels = l ∙ rw r refl in
+    let l′ : levels′ ≡ front (textLevels text) levels = l ∙ rw r refl in
     record {
       five = ap length h′;
       numbers = h′;

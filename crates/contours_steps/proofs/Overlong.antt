@@ -9,7 +9,7 @@ use borrow.Author.Tests.{eq-eqb, eqb-true, leb-true, ne-eqb}
 use lib.Dec.{eqb, leb}
 use lib.ListN.{length, getD, drop, length-drop}
 use Rattle.refusal.proofs.Laws.{and-left, and-right}
-use Rattle.text.specs.Number.{wholeOf, levelOf, digitsOf, pointed, isGot}
+use Rattle.text.specs.Number.{wholeOf, decimalOf, levelOf, digitsOf, pointed, isGot}
 use Rattle.text.specs.Line.{onto, linesOf}
 use Rattle.text.specs.Same.{sameText}
 use Rattle.text.specs.declared.number.Number.{Number}
@@ -70,10 +70,8 @@ got-passed true n h = refl
 got-passed false n h = let z : _≡_ {A = ℕ} 0 1 = cc in absurd (omega arith)
 
 level-short : (t : List ℕ) → isGot (levelOf t) ≡ true → length t ≤ 6
-unfolding levelOf
-level-short t h =
-    leb-true (length t) 6
-    (and-right (leb 4 (length t)) (leb (length t) 6) (got-passed (leb 4 (length t) && leb (length t) 6) (pointed t (length t - 3)) h))
+unfolding decimalOf
+level-short t h = leb-true (length t) 6 (and-right (leb 4 (length t)) (leb (length t) 6) (got-passed (leb 4 (length t) && leb (length t) 6) (pointed 2 t (length t - 3)) h))
 
 whole-short : (t : List ℕ) → isGot (wholeOf t) ≡ true → length t ≤ 7
 unfolding wholeOf

@@ -9,7 +9,7 @@ use lib.Dec.{eqb, leb}
 use lib.ListN.{length, getD, length-map, List·getD-map}
 use Rattle.refusal.specs.Range.{allWithin}
 use Rattle.refusal.proofs.Laws.{and-left, and-right}
-use Rattle.text.specs.Number.{levelOf, isGot, showWhole, showTwo, showLevel}
+use Rattle.text.specs.Number.{levelOf, isGot, showLevel}
 use Rattle.text.specs.Field.{countOf}
 use Rattle.text.specs.Line.{linesOf}
 use Rattle.text.specs.declared.number.Number.{Number}
@@ -17,7 +17,7 @@ use Rattle.text.specs.declared.number.Number.the-variants.{Got, Off}
 use Rattle.text.proofs.Digits.{either}
 use Rattle.text.proofs.Exact.{level-exact}
 use Rattle.text.proofs.Fields.{count-append}
-use Rattle.text.proofs.Free.{shown-free, two-free, byte-free, nil-free, level-free}
+use Rattle.text.proofs.Free.{shown-free, byte-free, nil-free, decimal-free, level-free}
 use Rattle.text.proofs.Shown.{level-back}
 use Rattle.network.specs.declared.Frame.{Frame}
 use Rattle.network.specs.Edges.{edgeAt}
@@ -27,7 +27,7 @@ use Rattle.contour_rules.specs.Contours.{Contour, bit, contoursOf}
 use Rattle.contour_rules.specs.Picture.{picture}
 use Rattle.wkt.specs.Calls.{networkText}
 use Rattle.wkt.specs.Places.{spotOf}
-use Rattle.wkt.specs.Text.{showThree, showMetres, placeText, bracket, comma, pointsText, linesText, multilinestring, empty, textOf, pointsOf}
+use Rattle.wkt.specs.Text.{showMetres, placeText, bracket, comma, pointsText, linesText, multilinestring, empty, textOf, pointsOf}
 use Rattle.grid.specs.Row.{all, rowGiven, levelsOf}
 use Rattle.grid.specs.File.{frameOf, noDataOf, rowsOf, faultLine, rowsFit}
 use Rattle.grid.specs.Read.{headerSize, textFrame, textLevels, linesRefusal}
@@ -44,17 +44,8 @@ use Rattle.contours_steps.proofs.Drawings.{fine-both, words-fine}
 
 -- ---- no text of contours has a CR
 
-three-free : (n : ℕ) → countOf 13 (showThree n) ≡ 0
-three-free n =
-    byte-free 13 (omega arith) (48 + n / 100) (showTwo (n % 100)) (omega arith)
-    ∙ two-free 13 (omega arith) (n % 100) []
-    ∙ nil-free 13 (omega arith)
-
 metres-free : (n : ℕ) → countOf 13 (showMetres n) ≡ 0
-metres-free n =
-    count-append 13 (showWhole (n / 1000)) (46 ∷ showThree (n % 1000))
-    ∙ rw
-    (shown-free 13 (omega arith) 7 (n / 1000), byte-free 13 (omega arith) 46 (showThree (n % 1000)) (omega arith), three-free (n % 1000)) refl
+metres-free n = decimal-free 13 (omega arith) 3 n
 
 -- `MULTILINE` and `STRING `, apart since each byte doubles the work
 front-free : countOf 13 (77 ∷ 85 ∷ 76 ∷ 84 ∷ 73 ∷ 76 ∷ 73 ∷ 78 ∷ 69 ∷ []) ≡ 0

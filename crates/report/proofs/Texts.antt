@@ -13,8 +13,8 @@ use Rattle.room.proofs.Laws.{wrote-front, wrote-fits}
 use Rattle.text.proofs.Digits.{either}
 use Rattle.book_rules.specs.Columns.{Book}
 use Rattle.book_rules.specs.History.{emptyBook}
-use Rattle.register.specs.declared.limits.Limits.{Limits}
-use Rattle.register.specs.Limits.{limitsOf}
+use Rattle.register.specs.declared.limits_csv.LimitsFile.{LimitsFile}
+use Rattle.register.specs.LimitsFile.{limitsOf}
 use Rattle.report_steps.specs.Reading.{Reading, readingAt, registered}
 use Rattle.report_text.specs.Text.{refusedText, bookText}
 use Rattle.report_text.specs.InnerRoom.{longestRefused, WroteWithin}
@@ -26,7 +26,7 @@ use Rattle.report.specs.declared.feed.Turn.{Turn}
 use Rattle.report.specs.Feeding.{stateEnded, stateStopped, turnedTo, Registered}
 use Rattle.report.specs.InnerSteps.{Sized, AnsweredIn, WrittenIn}
 
-pub sized-refused : (l : Limits) (b : Book) {s e : List ℕ} {r n size : ℕ} → (r ≡ 0 → ⊥)
+pub sized-refused : (l : LimitsFile) (b : Book) {s e : List ℕ} {r n size : ℕ} → (r ≡ 0 → ⊥)
     → WroteWithin longestRefused s 0 (refusedText r n) e size → Sized l (readingAt r n b) e size
 sized-refused l b {s} {e} {r} {n} {size} ne w =
     record {
@@ -35,13 +35,13 @@ sized-refused l b {s} {e} {r} {n} {size} ne w =
           ∙ sym (reading-refused l (readingAt r n b) ne);
     }
 
-pub sized-report : (l : Limits) (b : Book) {s e : List ℕ} {r size : ℕ} (n : ℕ) → r ≡ 0
+pub sized-report : (l : LimitsFile) (b : Book) {s e : List ℕ} {r size : ℕ} (n : ℕ) → r ≡ 0
     → Wrote s 0 (bookText l b) e size → Sized l (readingAt r n b) e size
 sized-report l b {s} {e} {r} {size} n z w =
     record { fits = wrote-fits w; text = wrote-front w ∙ sym (reading-reported l (readingAt r n b) z) }
 
 -- a register that was read to its end, and one that was not
-module _ (l : Limits) {b₀ b : Book} {t : Turn} {out : List ℕ} {size : ℕ} (k : Registered (l .points) b₀ t b)
+module _ (l : LimitsFile) {b₀ b : Book} {t : Turn} {out : List ℕ} {size : ℕ} (k : Registered (l .points) b₀ t b)
     (none : b₀ ≡ emptyBook (l .points) bookRows) (w : Sized l (turnedTo t b) out size) where
   text-of : (register : List ℕ) → turnedTo t b ≡ registered (l .points) b₀ register
       → take size out ≡ registerText l register
@@ -59,7 +59,7 @@ module _ (l : Limits) {b₀ b : Book} {t : Turn} {out : List ℕ} {size : ℕ} (
       record { fits = w .fits; came = failed (k .all); is = text-of (k .all ++ endless) (k .fails e) })
 
 -- limits.csv refused, and accepted
-pub limits-refused : (limits : List ℕ) {l : Limits} {s e : List ℕ} {size : ℕ} → l ≡ limitsOf limits
+pub limits-refused : (limits : List ℕ) {l : LimitsFile} {s e : List ℕ} {size : ℕ} → l ≡ limitsOf limits
     → (l .refusal ≡ 0 → ⊥)
     → WroteWithin longestRefused s 0 (refusedText (l .refusal) (l .line)) e size → WrittenIn limits e size
 limits-refused limits {l} {s} {e} {size} q ne w =
@@ -71,7 +71,7 @@ limits-refused limits {l} {s} {e} {size} q ne w =
       };
     }
 
-pub limits-accepted : (limits : List ℕ) {l : Limits} {e : List ℕ} {size : ℕ} → l ≡ limitsOf limits → l .refusal ≡ 0
+pub limits-accepted : (limits : List ℕ) {l : LimitsFile} {e : List ℕ} {size : ℕ} → l ≡ limitsOf limits → l .refusal ≡ 0
     → AnsweredIn l e size → WrittenIn limits e size
 limits-accepted limits {l} {e} {size} q z a =
     let b : AnsweredIn (limitsOf limits) e size = rw q at a in

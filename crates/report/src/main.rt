@@ -9,7 +9,7 @@ use feed::ENDED;
 use feed::Turn;
 use libc::STDOUT_FILENO;
 use movement::limits::MAX_POINTS;
-use register::limits::Limits;
+use register::limits_csv::LimitsFile;
 use report_text::core::put_refused;
 use report_text::core::put_report;
 ghost use mathlib.Core.Path.{_≡_};
@@ -50,7 +50,7 @@ fn answer(text: &[u8], out: &mut [u8]) -> usize
     requires { ⌜ longestReport ≤ length (now out) ⌝ }
     ensures { λ r. ⌜ WrittenIn (now (text .entry)) (now (out .exit)) r ⌝ }
 {
-    let limits = register::limits::read_limits(text);
+    let limits = register::limits_csv::read_limits(text);
     let refusal = limits.refusal;
     if refusal != 0 {
         say::of_limits(refusal, limits.line as u64, text);
@@ -69,7 +69,7 @@ fn report(
     groups: &mut [u32],
     marks: &mut [u32],
     levels: &mut [u32],
-    limits: Limits,
+    limits: LimitsFile,
     out: &mut [u8],
 ) -> usize
     requires { ⌜ bookNow ids groups marks levels ≡ emptyBook maxPoints bookRows ⌝ }
@@ -86,7 +86,7 @@ fn report_in(
     groups: &mut [u32],
     marks: &mut [u32],
     levels: &mut [u32],
-    limits: Limits,
+    limits: LimitsFile,
     out: &mut [u8],
 ) -> usize
     requires { ⌜ bookNow ids groups marks levels ≡ emptyBook (limits .points) bookRows ⌝ }
@@ -109,7 +109,7 @@ fn answer_whole(
     groups: &[u32],
     marks: &[u32],
     levels: &[u32],
-    limits: Limits,
+    limits: LimitsFile,
     bytes: &[u8],
     read: Turn,
     out: &mut [u8],
@@ -129,7 +129,7 @@ fn answer_whole(
 }
 
 // The register is refused: its one line, and the sentence that goes with it.
-fn refuse(bytes: &[u8], read: Turn, limits: Limits, out: &mut [u8]) -> usize
+fn refuse(bytes: &[u8], read: Turn, limits: LimitsFile, out: &mut [u8]) -> usize
     requires { ⌜ longestReport ≤ length (now out) ⌝ }
     ensures { λ r. ⌜ WroteWithin longestRefused (now (out .entry)) 0 (refusedText (read .refusal) (read .line))
         (now (out .exit)) r ⌝ }

@@ -13,8 +13,8 @@ use Rattle.movement.specs.Limits.{maxRows, maxPoints}
 use Rattle.book_rules.specs.Columns.{Book, sound}
 use Rattle.book_rules.specs.History.{emptyBook, booked, sizesFit}
 use Rattle.book_rules.proofs.History.{history-sound}
-use Rattle.register.specs.declared.limits.Limits.{Limits}
-use Rattle.register.specs.Limits.{limitsOf}
+use Rattle.register.specs.declared.limits_csv.LimitsFile.{LimitsFile}
+use Rattle.register.specs.LimitsFile.{limitsOf}
 use Rattle.register.proofs.LimitsFront.{limits-front}
 use Rattle.report_steps.specs.Reading.{Reading, registered}
 use Rattle.report_text.specs.Text.{refusedText, bookText}
@@ -22,17 +22,17 @@ use Rattle.report_rules.specs.Report.{bookRows, readingText, registerTex
 use Rattle.report_rules.specs.Report.{Answers, Written}
 use Rattle.report_rules.specs.Report.Came.{whole, stopped, failed}
 
-pub reading-refused : (l : Limits) (s : Reading) → (s .refusal ≡ 0 → ⊥)
+pub reading-refused : (l : LimitsFile) (s : Reading) → (s .refusal ≡ 0 → ⊥)
     → readingText l s ≡ refusedText (s .refusal) (s .line)
 unfolding readingText
 reading-refused l s ne = rw (ne-eqb (s .refusal) 0 ne) refl
 
-pub reading-reported : (l : Limits) (s : Reading) → s .refusal ≡ 0 → readingText l s ≡ bookText l (s .book)
+pub reading-reported : (l : LimitsFile) (s : Reading) → s .refusal ≡ 0 → readingText l s ≡ bookText l (s .book)
 unfolding readingText
 reading-reported l s z = rw z refl
 
 -- a register that was read is answered by its reading
-pub register-text : (l : Limits) (register : List ℕ) (s : Reading)
+pub register-text : (l : LimitsFile) (register : List ℕ) (s : Reading)
     → s ≡ registered (l .points) (emptyBook (l .points) bookRows) register
     → readingText l s ≡ registerText l register
 unfolding registerText
@@ -69,4 +69,4 @@ limits-any limits more register h =
     let front : limitsOf (limits ++ more) ≡ limitsOf limits =
     limits-front (limits ++ more) (omega (arith, length-append limits more))
     ∙ ap limitsOf (take-append-le 128 limits more h) ∙ sym (limits-front limits h) in
-    ap (λ (l : Limits). answerText l register) front
+    ap (λ (l : LimitsFile). answerText l register) front

@@ -20,7 +20,7 @@ use Rattle.text.specs.Index.{every, listing}
 use Rattle.text.specs.Number.{isGot, valueOf, wholeOf, levelOf, showWhole, showLevel}
 use Rattle.text.specs.declared.number.Number.{Number}
 use Rattle.text.specs.declared.number.Number.the-variants.{Got, Off}
-use Rattle.text.proofs.Digits.{either, whole-small}
+use Rattle.text.proofs.Digits.{either, whole-small, got-value}
 use Rattle.text.proofs.Exact.{whole-exact, level-exact, level-small}
 use Rattle.text.proofs.Shown.{whole-back, level-back}
 use Rattle.text.proofs.Indices.{every-each, every-all, length-listing}
@@ -28,9 +28,8 @@ use Rattle.register.specs.Cell.{limitsCell, cellAt, gotAt, valueAt, cellsOf}
 use Rattle.register.specs.Row.{eightFrom}
 use Rattle.register.specs.Header.{headerOf, limitsHeader}
 use Rattle.register.specs.declared.cell.Table.the-variants as table
-use Rattle.register.specs.declared.limits.Limits.{Limits}
-use Rattle.register.specs.Limits.{refusedLimits, judgedLimits, secondLimits, headedLimits, limitsOf}
-use Rattle.register.proofs.Converse.{got-value}
+use Rattle.register.specs.declared.limits_csv.LimitsFile.{LimitsFile}
+use Rattle.register.specs.LimitsFile.{refusedLimits, judgedLimits, secondLimits, headedLimits, limitsOf}
 use Rattle.report_rules.specs.LimitsSpelled.{Headed, Valued, RefusedAt, Accepted, LimitsExactly}
 use Rattle.report_rules.proofs.Printed.{listing-at, value-at}
 use Rattle.report_rules.proofs.Headers.{header-is, is-header}
@@ -55,7 +54,7 @@ zeros-past f n m i h =
 
 -- all values of a line that is read
 abbrev values : ℕ → List ℕ → List ℕ
-values n line = listing (valueAt table.Limits line) (1 + n) ++ replicate (13 - (1 + n)) 0
+values n line = listing (valueAt table.LimitsFile line) (1 + n) ++ replicate (13 - (1 + n)) 0
 
 cell-day : (t : List ℕ) (v : ℕ) → limitsCell 0 t ≡ Got v → (t ≡ showWhole v) × (v < 10000000)
 unfolding limitsCell
@@ -69,47 +68,47 @@ cell-limit : (i : ℕ) (t : List ℕ) (v : ℕ) → limitsCell (1 + i) t ≡ Got
 cell-limit i t v e = let f : levelOf t ≡ Got v = sym (limit-cell i t) ∙ e in (level-exact t v f, level-small t v f)
 
 -- a line that is read is spelled so
-module _ (n : ℕ) (line : List ℕ) (few : n ≤ 8) (fine : (eqb (countOf 44 line + 1) (1 + n) && every (gotAt table.Limits line) (1 + n)) ≡ true) where
-  got : (k : ℕ) → k < 1 + n → cellAt table.Limits line k ≡ Got (valueAt table.Limits line k)
+module _ (n : ℕ) (line : List ℕ) (few : n ≤ 8) (fine : (eqb (countOf 44 line + 1) (1 + n) && every (gotAt table.LimitsFile line) (1 + n)) ≡ true) where
+  got : (k : ℕ) → k < 1 + n → cellAt table.LimitsFile line k ≡ Got (valueAt table.LimitsFile line k)
   got k h =
-      got-value (cellAt table.Limits line k)
-      (every-each (gotAt table.Limits line) k (1 + n) h (and-right (eqb (countOf 44 line + 1) (1 + n))
-      (every (gotAt table.Limits line) (1 + n)) fine))
+      got-value (cellAt table.LimitsFile line k)
+      (every-each (gotAt table.LimitsFile line) k (1 + n) h (and-right (eqb (countOf 44 line + 1) (1 + n))
+      (every (gotAt table.LimitsFile line) (1 + n)) fine))
 
-  held : (i : ℕ) → i < n → getD (eightFrom 1 (values n line)) i 0 ≡ valueAt table.Limits line (1 + i)
+  held : (i : ℕ) → i < n → getD (eightFrom 1 (values n line)) i 0 ≡ valueAt table.LimitsFile line (1 + i)
   unfolding eightFrom
   held i h =
       listing-at (λ j. getD (values n line) (1 + j) 0) 0 8 i (omega arith)
-      ∙ value-at (valueAt table.Limits line) (1 + n) (replicate (13 - (1 + n)) 0) (1 + i) (omega arith)
+      ∙ value-at (valueAt table.LimitsFile line) (1 + n) (replicate (13 - (1 + n)) 0) (1 + i) (omega arith)
 
-  fine-spelled : Valued n (valueAt table.Limits line 0) (eightFrom 1 (values n line)) line
+  fine-spelled : Valued n (valueAt table.LimitsFile line 0) (eightFrom 1 (values n line)) line
   fine-spelled =
-      let day = cell-day (fieldOf 44 0 line) (valueAt table.Limits line 0) (got 0 (omega arith)) in
+      let day = cell-day (fieldOf 44 0 line) (valueAt table.LimitsFile line 0) (got 0 (omega arith)) in
       record {
         fields = omega (
           arith,
           eqb-true (countOf 44 line + 1) (1 + n) (and-left (eqb (countOf 44 line + 1) (1 + n))
-              (every (gotAt table.Limits line) (1 + n)) fine),
+              (every (gotAt table.LimitsFile line) (1 + n)) fine),
         );
         days= = day .0;
         seven = day .1;
-        limit = λ i h. rw (held i h) (cell-limit i (fieldOf 44 (1 + i) line) (valueAt table.Limits line (1 + i))
+        limit = λ i h. rw (held i h) (cell-limit i (fieldOf 44 (1 + i) line) (valueAt table.LimitsFile line (1 + i))
             (got (1 + i) (omega arith)) .0);
-        three = λ i h. rw (held i h) (cell-limit i (fieldOf 44 (1 + i) line) (valueAt table.Limits line (1 + i))
+        three = λ i h. rw (held i h) (cell-limit i (fieldOf 44 (1 + i) line) (valueAt table.LimitsFile line (1 + i))
             (got (1 + i) (omega arith)) .1);
       }
 
-read-spelled : (n : ℕ) (line : List ℕ) → n ≤ 8 → cellsOf table.Limits (1 + n) line .read ≡ true
-    → Valued n (valueAt table.Limits line 0) (eightFrom 1 (values n line)) line
+read-spelled : (n : ℕ) (line : List ℕ) → n ≤ 8 → cellsOf table.LimitsFile (1 + n) line .read ≡ true
+    → Valued n (valueAt table.LimitsFile line 0) (eightFrom 1 (values n line)) line
 unfolding cellsOf
 read-spelled n line few e =
-    either (eqb (countOf 44 line + 1) (1 + n) && every (gotAt table.Limits line) (1 + n))
+    either (eqb (countOf 44 line + 1) (1 + n) && every (gotAt table.LimitsFile line) (1 + n))
     (λ fine. fine-spelled n line few fine)
     (λ bad. let z : false ≡ true = rw bad at e in let y : _≡_ {A = ℕ} 0 1 = cc in absurd (omega arith))
 
 -- and a line that is spelled so is read
 module _ (n d : ℕ) (ls line : List ℕ) (few : n ≤ 8) (v : Valued n d ls line) where
-  cell-is : (k : ℕ) → k < 1 + n → isGot (cellAt table.Limits line k) ≡ true
+  cell-is : (k : ℕ) → k < 1 + n → isGot (cellAt table.LimitsFile line k) ≡ true
   unfolding limitsCell
   cell-is zero h = rw (v .days=, whole-back d (v .seven)) refl
   cell-is (suc i) h =
@@ -118,30 +117,30 @@ module _ (n d : ℕ) (ls line : List ℕ) (few : n ≤ 8) (v : Valued n d ls lin
       rw (v .limit i (omega arith)) (level-back (getD ls i 0) (v .three i (omega arith))) in
       rw (e, read) refl
 
-  day-is : valueAt table.Limits line 0 ≡ d
+  day-is : valueAt table.LimitsFile line 0 ≡ d
   unfolding limitsCell
   day-is = rw (v .days=, whole-back d (v .seven)) refl
 
-  limit-is : (i : ℕ) → i < n → valueAt table.Limits line (1 + i) ≡ getD ls i 0
+  limit-is : (i : ℕ) → i < n → valueAt table.LimitsFile line (1 + i) ≡ getD ls i 0
   limit-is i h =
       let read : levelOf (fieldOf 44 (1 + i) line) ≡ Got (getD ls i 0) =
       rw (v .limit i h) (level-back (getD ls i 0) (v .three i h)) in
       ap valueOf (limit-cell i (fieldOf 44 (1 + i) line) ∙ read)
 
-  read-is : cellsOf table.Limits (1 + n) line .read ≡ true
+  read-is : cellsOf table.LimitsFile (1 + n) line .read ≡ true
   unfolding cellsOf
   read-is =
       rw (
         eq-eqb (countOf 44 line + 1) (1 + n) (omega (arith, v .fields)),
-        every-all (gotAt table.Limits line) (1 + n) cell-is,
+        every-all (gotAt table.LimitsFile line) (1 + n) cell-is,
       ) refl
 
-  values-are : cellsOf table.Limits (1 + n) line .values ≡ values n line
+  values-are : cellsOf table.LimitsFile (1 + n) line .values ≡ values n line
   unfolding cellsOf
   values-are =
       rw (
         eq-eqb (countOf 44 line + 1) (1 + n) (omega (arith, v .fields)),
-        every-all (gotAt table.Limits line) (1 + n) cell-is,
+        every-all (gotAt table.LimitsFile line) (1 + n) cell-is,
       ) refl
 
   -- its limits, as they are judged
@@ -149,7 +148,7 @@ module _ (n d : ℕ) (ls line : List ℕ) (few : n ≤ 8) (v : Valued n d ls lin
   unfolding eightFrom
   limits-are i h =
       listing-at (λ j. getD (values n line) (1 + j) 0) 0 8 i (omega arith)
-      ∙ value-at (valueAt table.Limits line) (1 + n) (replicate (13 - (1 + n)) 0) (1 + i) (omega arith) ∙ limit-is i h
+      ∙ value-at (valueAt table.LimitsFile line) (1 + n) (replicate (13 - (1 + n)) 0) (1 + i) (omega arith) ∙ limit-is i h
 
   -- nothing stands behind the last
   past : (i : ℕ) → n ≤ i → getD (eightFrom 1 (values n line)) i 0 ≡ 0
@@ -159,10 +158,10 @@ module _ (n d : ℕ) (ls line : List ℕ) (few : n ≤ 8) (v : Valued n d ls lin
       (λ yes. none-past (λ j. getD (values n line) (1 + j) 0) 8 i (leb-true 8 i yes))
       (λ no. let less = leb-false 8 i no in
       listing-at (λ j. getD (values n line) (1 + j) 0) 0 8 i (omega arith)
-      ∙ zeros-past (valueAt table.Limits line) (1 + n) (13 - (1 + n)) (1 + i) (omega arith))
+      ∙ zeros-past (valueAt table.LimitsFile line) (1 + n) (13 - (1 + n)) (1 + i) (omega arith))
 
   day-at : getD (values n line) 0 0 ≡ d
-  day-at = value-at (valueAt table.Limits line) (1 + n) (replicate (13 - (1 + n)) 0) 0 (omega arith) ∙ day-is
+  day-at = value-at (valueAt table.LimitsFile line) (1 + n) (replicate (13 - (1 + n)) 0) 0 (omega arith) ∙ day-is
 
 -- Judged in order
 
@@ -232,12 +231,12 @@ unread : (n lines : ℕ) (line : List ℕ) → n ≤ 8 → ((d : ℕ) (ls : List
     → secondLimits n line lines ≡ refusedLimits 16 2
 unfolding secondLimits
 unread n lines line few never =
-    either (cellsOf table.Limits (1 + n) line .read)
-    (λ yes. absurd (never (valueAt table.Limits line 0) (eightFrom 1 (values n line)) (read-spelled n line few yes)))
+    either (cellsOf table.LimitsFile (1 + n) line .read)
+    (λ yes. absurd (never (valueAt table.LimitsFile line 0) (eightFrom 1 (values n line)) (read-spelled n line few yes)))
     (λ no. rw no refl)
 
-refused-at : {l : Limits} {number line : ℕ} → l ≡ refusedLimits number line → RefusedAt l number line
-refused-at e = (ap (λ (l : Limits). l .refusal) e, ap (λ (l : Limits). l .line) e)
+refused-at : {l : LimitsFile} {number line : ℕ} → l ≡ refusedLimits number line → RefusedAt l number line
+refused-at e = (ap (λ (l : LimitsFile). l .refusal) e, ap (λ (l : LimitsFile). l .line) e)
 
 pub limits-exactly : (text : List ℕ) → LimitsExactly text
 unfolding limitsOf

@@ -18,8 +18,8 @@ use Rattle.register.specs.Cell.{cellsOf}
 use Rattle.register.specs.Row.{eightFrom}
 use Rattle.register.specs.Header.{headerOf, limitsHeader}
 use Rattle.register.specs.declared.cell.Table.the-variants as table
-use Rattle.register.specs.declared.limits.Limits.{Limits}
-use Rattle.register.specs.Limits.{refusedLimits, judgedLimits, secondLimits, headedLimits, limitsOf}
+use Rattle.register.specs.declared.limits_csv.LimitsFile.{LimitsFile}
+use Rattle.register.specs.LimitsFile.{refusedLimits, judgedLimits, secondLimits, headedLimits, limitsOf}
 use Rattle.register.proofs.Rows.{header-range}
 use Rattle.report_text.specs.InnerRoom.{LimitsFit}
 
@@ -41,11 +41,11 @@ headed-fit : (r : Number) (second : List ℕ) (lines : ℕ) → ((n : ℕ) → r
 unfolding secondLimits
 headed-fit Off second lines fits z = absurd (omega arith)
 headed-fit (Got n) second lines fits z =
-    let read = cellsOf table.Limits (1 + n) second .read in
+    let read = cellsOf table.LimitsFile (1 + n) second .read in
     let range = fits n refl in
     either read
     (λ on. either (leb lines 2)
-    (λ two. rw (on, two) (judged-fit n (cellsOf table.Limits (1 + n) second .values) (range .0) (range .1)
+    (λ two. rw (on, two) (judged-fit n (cellsOf table.LimitsFile (1 + n) second .values) (range .0) (range .1)
     (rw (on, two) at z)))
     (λ more. absurd (omega (arith, rw (on, more) at z))))
     (λ off. absurd (omega (arith, rw off at z)))

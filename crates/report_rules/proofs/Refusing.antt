@@ -22,7 +22,7 @@ use Rattle.book_rules.specs.Columns.{Book}
 use Rattle.book_rules.specs.Calls.{refusal, after}
 use Rattle.book_rules.specs.History.{emptyBook}
 use Rattle.register.specs.Header.{registerHeader}
-use Rattle.register.specs.Limits.{limitsOf}
+use Rattle.register.specs.LimitsFile.{limitsOf}
 use Rattle.register.specs.Row.{layoutOf}
 use Rattle.report_steps.specs.Intake.{takenNumber, entering, supplying, suppliedTaken, enteredTaken, layoutTaken}
 use Rattle.report_steps.specs.Intake.{rowTaken}

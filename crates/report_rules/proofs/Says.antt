@@ -23,8 +23,8 @@ use Rattle.text.specs.Number.{showNumber, showLevel}
 use Rattle.text.specs.Spelled.{bytes}
 use Rattle.text.proofs.Fields.{Free}
 use Rattle.text.proofs.Indices.{length-listing}
-use Rattle.register.specs.declared.limits.Limits.{Limits}
-use Rattle.register.specs.Limits.{limitsOf}
+use Rattle.register.specs.declared.limits_csv.LimitsFile.{LimitsFile}
+use Rattle.register.specs.LimitsFile.{limitsOf}
 use Rattle.report_steps.specs.Reading.{registered}
 use Rattle.report_steps.specs.Booking.{registerCalls}
 use Rattle.report_steps.proofs.Bookings.{register-booked}
@@ -40,12 +40,12 @@ use Rattle.report_rules.proofs.Printed.{lines-ended, header-unbroken, f
 use Rattle.report_rules.proofs.Counting.{computed-printed, missing-printed, both}
 
 -- where nothing is refused, the text is the header and a line for each point
-pub book-points : (l : Limits) (b : Book) → bookRefusal l b ≡ 0 → bookText l b ≡ pointsText l b
+pub book-points : (l : LimitsFile) (b : Book) → bookRefusal l b ≡ 0 → bookText l b ≡ pointsText l b
 unfolding bookText
 book-points l b z = rw z refl
 
 -- the lines of that text
-points-free : (l : Limits) (b : Book) → Free 13 (headerLine ∷ listing (pointLine l b) (l .points))
+points-free : (l : LimitsFile) (b : Book) → Free 13 (headerLine ∷ listing (pointLine l b) (l .points))
 unfolding pointLine
 points-free l b zero h = header-unbroken
 points-free l b (suc i) h =
@@ -53,7 +53,7 @@ points-free l b (suc i) h =
     ap (countOf 13) (listing-at (pointLine l b) [] (l .points) i less)
     ∙ line-unbroken i (getD (l .limits) i 0) (bookLoad (l .points) i b (l .days))
 
-pub points-lines : (l : Limits) (b : Book) → linesOf (pointsText l b) ≡ headerLine ∷ listing (pointLine l b) (l .points)
+pub points-lines : (l : LimitsFile) (b : Book) → linesOf (pointsText l b) ≡ headerLine ∷ listing (pointLine l b) (l .points)
 unfolding pointsText
 points-lines l b = lines-ended (headerLine ∷ listing (pointLine l b) (l .points)) (points-free l b)
 
@@ -81,7 +81,7 @@ text-none (At n) limit e = absurd (omega arith)
 
 module _ (limits register : List ℕ) (fine : limitsOf limits .refusal ≡ 0) (accepted : registered (limitsOf limits .points) (emptyBook (limitsOf limits .points) bookRows) register .refusal ≡ 0)
     (reported : bookRefusal (limitsOf limits) (bookIn (limitsOf limits .points) register) ≡ 0) where
-  abbrev l : Limits
+  abbrev l : LimitsFile
   l = limitsOf limits
 
   abbrev p : ℕ

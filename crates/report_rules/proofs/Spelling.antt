@@ -15,14 +15,16 @@ use Rattle.text.specs.Number.{showWhole, showLevel}
 use Rattle.text.specs.Spelled.{bytes}
 use Rattle.register.specs.Clock.{showTime}
 use Rattle.text.specs.declared.number.Number.the-variants.{Got}
+use Rattle.text.proofs.Digits.{got-value}
 use Rattle.text.proofs.Indices.{length-listing, every-each}
-use Rattle.register.specs.Cell.{rowCell, cellAt, gotAt, valueAt, blankAt, blankCell, shownCell, topOf}
+use Rattle.register.specs.Cell.{rowCell, cellAt, gotAt, valueAt, blankAt, shownCell}
+use Rattle.register.specs.InnerCell.{blankCell, topOf}
 use Rattle.register.specs.Row.{eightFrom, fieldsOf, rowLayout, layoutOf}
 use Rattle.register.specs.declared.cell.Table.the-variants.{Register}
 use Rattle.register.specs.declared.row.Layout.{Layout}
 use Rattle.register.proofs.Columns.{cell-exact, shown-level, top-level}
 use Rattle.register.proofs.Rows.{layout-points}
-use Rattle.register.proofs.Converse.{OnLayout, got-value, marked}
+use Rattle.register.proofs.Converse.{OnLayout, marked}
 use Rattle.report_rules.specs.Spelled.{column, RowSpelled}
 use Rattle.report_rules.proofs.Printed.{listing-at, value-at}
 

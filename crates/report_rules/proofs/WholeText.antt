@@ -32,8 +32,8 @@ use Rattle.register.specs.Cell.{cellsOf}
 use Rattle.register.specs.Row.{eightFrom}
 use Rattle.register.specs.Header.{headerOf, limitsHeader}
 use Rattle.register.specs.declared.cell.Table.the-variants as table
-use Rattle.register.specs.declared.limits.Limits.{Limits}
-use Rattle.register.specs.Limits.{judgedLimits, secondLimits, headedLimits, limitsOf}
+use Rattle.register.specs.declared.limits_csv.LimitsFile.{LimitsFile}
+use Rattle.register.specs.LimitsFile.{judgedLimits, secondLimits, headedLimits, limitsOf}
 use Rattle.report_steps.specs.Booking.{registerCalls}
 use Rattle.report_steps.proofs.Bookings.{register-booked}
 use Rattle.report_text.specs.Text.{lineEnd, ended, line, headerLine, pointFields, pointLine, pointsText, refusedText, bookRefusal, bookText}
@@ -122,7 +122,7 @@ held-many (m ∷ ms) h = omega (arith, bare-none (m .held) (h 0 (omega arith)), 
 
 -- limits.csv and register are accepted
 module _ (limits register : List ℕ) (fine : limitsOf limits .refusal ≡ 0) (accepted : readIn limits register .refusal ≡ 0) where
-  abbrev l : Limits
+  abbrev l : LimitsFile
   l = limitsOf limits
 
   abbrev p : ℕ

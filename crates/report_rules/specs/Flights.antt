@@ -20,8 +20,8 @@ use Rattle.text.specs.Field.{fieldOf}
 use Rattle.text.specs.Number.{showNumber, showLevel}
 use Rattle.text.specs.Spelled.{bytes}
 use Rattle.register.specs.declared.row.Layout.{Layout}
-use Rattle.register.specs.declared.limits.Limits.{Limits}
-use Rattle.register.specs.Limits.{limitsOf}
+use Rattle.register.specs.declared.limits_csv.LimitsFile.{LimitsFile}
+use Rattle.register.specs.LimitsFile.{limitsOf}
 use Rattle.register.specs.Row.{layoutOf}
 use Rattle.report_steps.specs.declared.Taken.the-variants.{PassedOver}
 use Rattle.report_steps.specs.Intake.{rowTaken}
@@ -85,11 +85,11 @@ abbrev pub computed : Movement → Bool
 computed m = hasLevels (m .held)
 
 -- the level at a point, as the load answers it
-abbrev pub levelAt : Limits → List ℕ → ℕ → Level
+abbrev pub levelAt : LimitsFile → List ℕ → ℕ → Level
 levelAt l register point = bookLoad (l .points) point (bookIn (l .points) register) (l .days) .level
 
 -- the line of a point: its number from 1, level, limit, verdict, and the flights with levels and without
-pub record PointSays (l : Limits) (register text : List ℕ) (point : ℕ) : Type 0 where
+pub record PointSays (l : LimitsFile) (register text : List ℕ) (point : ℕ) : Type 0 where
   pub number : printed text point 0 ≡ showNumber (point + 1)
   -- the level, or `below` where none is given
   pub rounded : levelGiven (levelAt l register point) ≡ 1

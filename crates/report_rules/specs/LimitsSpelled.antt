@@ -11,8 +11,8 @@ use Rattle.text.specs.Line.{linesOf}
 use Rattle.text.specs.Field.{countOf, fieldOf}
 use Rattle.text.specs.Number.{showWhole, showLevel}
 use Rattle.text.specs.Spelled.{bytes}
-use Rattle.register.specs.declared.limits.Limits.{Limits}
-use Rattle.register.specs.Limits.{limitsOf}
+use Rattle.register.specs.declared.limits_csv.LimitsFile.{LimitsFile}
+use Rattle.register.specs.LimitsFile.{limitsOf}
 
 -- line 1 is the header of n points, 1 to 8
 pub record Headed (n : ℕ) (line : List ℕ) : Type 0 where
@@ -29,11 +29,11 @@ pub record Valued (n days : ℕ) (limits line : List ℕ) : Type 0 where
   pub three : (i : ℕ) → i < n → getD limits i 0 < 100000
 
 -- limits.csv refused with this number at this line
-abbrev pub RefusedAt : Limits → (number line : ℕ) → Type 0
+abbrev pub RefusedAt : LimitsFile → (number line : ℕ) → Type 0
 RefusedAt l number line = (l .refusal ≡ number) × (l .line ≡ line)
 
 -- limits.csv accepted, with these points, days and limits
-pub record Accepted (l : Limits) (n days : ℕ) (limits : List ℕ) : Type 0 where
+pub record Accepted (l : LimitsFile) (n days : ℕ) (limits : List ℕ) : Type 0 where
   pub refusal : l .refusal ≡ 0
   pub points : l .points ≡ n
   pub days= : l .days ≡ days

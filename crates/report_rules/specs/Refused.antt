@@ -13,7 +13,7 @@ use Rattle.text.specs.Line.{linesOf}
 use Rattle.text.specs.Field.{fieldOf}
 use Rattle.text.specs.Number.{showNumber}
 use Rattle.text.specs.Spelled.{bytes}
-use Rattle.register.specs.Limits.{limitsOf}
+use Rattle.register.specs.LimitsFile.{limitsOf}
 use Rattle.register.specs.Row.{layoutOf}
 use Rattle.report_steps.specs.Intake.{entering, supplying}
 use Rattle.report_steps.specs.Reading.{Reading, opening, linesRead, lineRefusal, registered}

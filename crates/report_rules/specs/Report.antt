@@ -7,8 +7,8 @@ use mathlib.Core.List.{List, _++_}
 use lib.ListN.{replicate}
 use lib.Dec.{eqb}
 use Rattle.book_rules.specs.History.{emptyBook}
-use Rattle.register.specs.declared.limits.Limits.{Limits}
-use Rattle.register.specs.Limits.{limitsOf}
+use Rattle.register.specs.declared.limits_csv.LimitsFile.{LimitsFile}
+use Rattle.register.specs.LimitsFile.{limitsOf}
 use Rattle.report_steps.specs.Stream.{longestLine}
 use Rattle.report_steps.specs.Reading.{Reading, registered}
 use Rattle.report_text.specs.Text.{refusedText, bookText}
@@ -18,15 +18,15 @@ abbrev pub bookRows : ℕ
 bookRows = 2000
 
 -- the answer to a register that was read: the report of its book, or its refusal and line
-unfoldable pub readingText : Limits → Reading → List ℕ
+unfoldable pub readingText : LimitsFile → Reading → List ℕ
 readingText l s = cond (eqb (s .refusal) 0) (bookText l (s .book)) (refusedText (s .refusal) (s .line))
 
 -- the answer to a register, where limits.csv is accepted: it is read into an empty book
-unfoldable pub registerText : Limits → List ℕ → List ℕ
+unfoldable pub registerText : LimitsFile → List ℕ → List ℕ
 registerText l register = readingText l (registered (l .points) (emptyBook (l .points) bookRows) register)
 
 -- limits.csv is judged first
-unfoldable pub answerText : Limits → List ℕ → List ℕ
+unfoldable pub answerText : LimitsFile → List ℕ → List ℕ
 answerText l register = cond (eqb (l .refusal) 0) (registerText l register) (refusedText (l .refusal) (l .line))
 
 -- the bytes of limits.csv and the bytes of the register give the bytes of the output

@@ -6,7 +6,7 @@ use mathlib.Core.List.{List, [], _∷_, _++_}
 use lib.ListN.{getD}
 use Rattle.text.specs.Line.{bareLine}
 use Rattle.text.specs.Field.{countOf}
-use Rattle.text.specs.Number.{showWhole, showTwo, showLevel}
+use Rattle.text.specs.Number.{showWhole, showDigits, showLevel}
 use Rattle.text.specs.Spelled.{bytes}
 use Rattle.register.specs.declared.row.Fields.{Fields}
 use Rattle.register.specs.Row.{layoutOf}
@@ -26,7 +26,7 @@ pub record Spells (p : ℕ) (row : List ℕ) (f : Fields) (levels : List ℕ) : 
   pub kind : column row 3 ≡ getD (bytes "SL") (f .kind) 0 ∷ []
   pub kind< : f .kind < 2
   pub time : column row 4
-      ≡ showTwo (f .time / 3600) ++ (58 ∷ showTwo (f .time / 60 % 60)) ++ (58 ∷ showTwo (f .time % 60))
+      ≡ showDigits 2 (f .time / 3600) ++ (58 ∷ showDigits 2 (f .time / 60 % 60)) ++ (58 ∷ showDigits 2 (f .time % 60))
   pub time< : f .time < 86400
   -- levels for all points, or all blank
   pub mark : f .computed ≤ 1

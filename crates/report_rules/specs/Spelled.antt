@@ -7,7 +7,7 @@ use mathlib.Core.List.{List, [], _∷_, _++_}
 use lib.ListN.{getD}
 use Rattle.text.specs.Line.{bareLine}
 use Rattle.text.specs.Field.{fieldOf}
-use Rattle.text.specs.Number.{showWhole, showTwo, showLevel}
+use Rattle.text.specs.Number.{showWhole, showDigits, showLevel}
 use Rattle.text.specs.Spelled.{bytes}
 use Rattle.register.specs.Row.{layoutOf}
 
@@ -26,7 +26,8 @@ pub record RowSpelled (p : ℕ) (row : List ℕ) : Type 0 where
   pub kinds : layoutOf p row .fields .kind < 2
   -- hours, minutes and seconds, two digits each
   pub time : let s = layoutOf p row .fields .time in
-      column row 4 ≡ showTwo (s / 3600) ++ (code ":" ∷ showTwo (s / 60 % 60)) ++ (code ":" ∷ showTwo (s % 60))
+      column row 4
+      ≡ showDigits 2 (s / 3600) ++ (code ":" ∷ showDigits 2 (s / 60 % 60)) ++ (code ":" ∷ showDigits 2 (s % 60))
   pub times : layoutOf p row .fields .time < 86400
   -- levels for all points, or all blank where it is not computed
   pub marks : layoutOf p row .fields .computed ≤ 1

@@ -10,7 +10,7 @@ use Rattle.text.specs.Line.{linesOf}
 use Rattle.text.specs.Field.{countOf}
 use Rattle.text.specs.Number.{showNumber}
 use Rattle.text.specs.Spelled.{bytes}
-use Rattle.register.specs.Limits.{limitsOf}
+use Rattle.register.specs.LimitsFile.{limitsOf}
 use Rattle.report_steps.specs.Reading.{Reading, registered}
 use Rattle.report_rules.specs.Report.{bookRows, reportOf}
 use Rattle.report_rules.specs.Flights.{rowsIn, flightsIn, howMany, computed, ReportSays}

@@ -12,14 +12,14 @@ use Rattle.load_rules.specs.Load.{bookLoad}
 use Rattle.text.specs.Index.{listing}
 use Rattle.room.specs.Room.{Wrote}
 use Rattle.room.proofs.Laws.{wrote-then, wrote-none}
-use Rattle.register.specs.declared.limits.Limits.{Limits}
+use Rattle.register.specs.declared.limits_csv.LimitsFile.{LimitsFile}
 use Rattle.report_text.specs.Text.{headerLine, lineEnd, ended, line, pointFields, pointLine, refusedText}
 use Rattle.report_text.specs.Text.{pointsText, bookRefusal, bookText}
 use Rattle.report_text.specs.InnerRoom.{longestPoint, WroteWithin}
 use Rattle.report_text.proofs.Lines.{ended-none, ended-more, ended-header}
 
 -- the limits, by what a line looks at
-abbrev pub limitsWith : ℕ → ℕ → List ℕ → Limits
+abbrev pub limitsWith : ℕ → ℕ → List ℕ → LimitsFile
 limitsWith points days limits = record { refusal = 0; line = 0; points = points; days = days; limits = limits }
 
 -- the lines of the first n points are written at `at`
@@ -51,7 +51,7 @@ points-more {points} {days} {n} {i} {j} {at} {limits} {s} {mid} {e} {b} {load} w
     }
 
 -- the header and all points
-pub points-all : (l : Limits) (b : Book) {s mid e : List ℕ} {i j n : ℕ} → Wrote s 0 (headerLine ++ lineEnd) mid i
+pub points-all : (l : LimitsFile) (b : Book) {s mid e : List ℕ} {i j n : ℕ} → Wrote s 0 (headerLine ++ lineEnd) mid i
     → Passed (l .points) (l .days) (l .limits) b n mid i e j → n ≡ l .points → j ≤ length s
     → Wrote s 0 (pointsText l b) e j
 unfolding pointsText pointLine
@@ -62,20 +62,20 @@ points-all l b {s} {mid} {e} {i} {j} {n} w v q room =
     at (wrote-then (omega (arith, length-append (headerLine ++ lineEnd) (ended ls), w .place, u .place)) w u)
 
 -- the whole report, by the refusal of its book
-pub report-refused : (l : Limits) (b : Book) {s e : List ℕ} {r n : ℕ} → n ≡ bookRefusal l b → (n ≡ 0 → ⊥)
+pub report-refused : (l : LimitsFile) (b : Book) {s e : List ℕ} {r n : ℕ} → n ≡ bookRefusal l b → (n ≡ 0 → ⊥)
     → Wrote s 0 (refusedText n 0) e r
     → Wrote s 0 (bookText l b) e r
 unfolding bookText
 report-refused l b {s} {e} {r} {n} q ne w = rw (← q, ne-eqb n 0 ne) w
 
-pub report-points : (l : Limits) (b : Book) {s e : List ℕ} {r n : ℕ} → n ≡ bookRefusal l b → n ≡ 0
+pub report-points : (l : LimitsFile) (b : Book) {s e : List ℕ} {r n : ℕ} → n ≡ bookRefusal l b → n ≡ 0
     → Wrote s 0 (pointsText l b) e r
     → Wrote s 0 (bookText l b) e r
 unfolding bookText
 report-points l b {s} {e} {r} {n} q z w = rw (← q, z) w
 
 -- the first load's refusal is the book's
-pub refusal-is : (l : Limits) (b : Book) {load : Load} → load ≡ bookLoad (l .points) 0 b (l .days)
+pub refusal-is : (l : LimitsFile) (b : Book) {load : Load} → load ≡ bookLoad (l .points) 0 b (l .days)
     → load .refused ≡ bookRefusal l b
 unfolding bookRefusal
 refusal-is l b q = ap (λ (a : Load). a .refused) q

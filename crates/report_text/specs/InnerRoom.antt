@@ -7,7 +7,7 @@ use lib.ListN.{length, getD}
 use Rattle.room.specs.Room.{Wrote}
 use Rattle.movement.specs.Limits.{maxPoints}
 use Rattle.book_rules.specs.Columns.{Book}
-use Rattle.register.specs.declared.limits.Limits.{Limits}
+use Rattle.register.specs.declared.limits_csv.LimitsFile.{LimitsFile}
 use Rattle.report_text.specs.declared.core.Report.{Report}
 use Rattle.report_text.specs.Text.{bookText, bookRefusal}
 
@@ -50,12 +50,12 @@ pub record WroteWithin (max : ℕ) (old : List ℕ) (at : ℕ) (text new : List 
   pub within : next ≤ at + max
 
 -- limits.csv that was accepted: 1 to 8 points, and limits that have a text
-pub record LimitsFit (l : Limits) : Type 0 where
+pub record LimitsFit (l : LimitsFile) : Type 0 where
   pub some : 1 ≤ l .points
   pub few : l .points ≤ maxPoints
   pub low : (i : ℕ) → getD (l .limits) i 0 < 100000
 
 -- the whole report at the front of a buffer, and its refusal for the sentence that goes with it
-pub record Reported (l : Limits) (b : Book) (old : List ℕ) (r : Report) (new : List ℕ) : Type 0 where
+pub record Reported (l : LimitsFile) (b : Book) (old : List ℕ) (r : Report) (new : List ℕ) : Type 0 where
   pub wrote : Wrote old 0 (bookText l b) new (r .size)
   pub refused : r .refused ≡ bookRefusal l b

@@ -18,7 +18,7 @@ use Rattle.text.specs.Number.{showNumber, showLevel}
 use Rattle.text.specs.Field.{joinedBy}
 use Rattle.text.specs.Index.{listing}
 use Rattle.text.specs.Spelled.{bytes}
-use Rattle.register.specs.declared.limits.Limits.{Limits}
+use Rattle.register.specs.declared.limits_csv.LimitsFile.{LimitsFile}
 use Rattle.report_text.specs.Totals.{allComputed, allMissing}
 
 -- lines end in CRLF
@@ -56,7 +56,7 @@ pointFields point limit load =
     ∷ showNumber (allMissing (load .counts))
     ∷ []
 
-unfoldable pub pointLine : Limits → Book → ℕ → List ℕ
+unfoldable pub pointLine : LimitsFile → Book → ℕ → List ℕ
 pointLine l b point = line (pointFields point (getD (l .limits) point 0) (bookLoad (l .points) point b (l .days)))
 
 abbrev pub headerLine : List ℕ
@@ -67,13 +67,13 @@ unfoldable pub refusedText : (number line : ℕ) → List ℕ
 refusedText number n = ended (line (bytes "refused" ∷ showNumber number ∷ showNumber n ∷ []) ∷ [])
 
 -- the header, and a line for each point
-unfoldable pub pointsText : Limits → Book → List ℕ
+unfoldable pub pointsText : LimitsFile → Book → List ℕ
 pointsText l b = ended (headerLine ∷ listing (pointLine l b) (l .points))
 
 -- the refusal of the whole book, 0 for none: every movement counts at every point, so it is that of the first point
-unfoldable pub bookRefusal : Limits → Book → ℕ
+unfoldable pub bookRefusal : LimitsFile → Book → ℕ
 bookRefusal l b = bookLoad (l .points) 0 b (l .days) .refused
 
 -- the report of a book; a refusal of the whole book has line 0
-unfoldable pub bookText : Limits → Book → List ℕ
+unfoldable pub bookText : LimitsFile → Book → List ℕ
 bookText l b = cond (eqb (bookRefusal l b) 0) (pointsText l b) (refusedText (bookRefusal l b) 0)

@@ -5,7 +5,7 @@ use level::Verdict;
 use load::load_at;
 use load_rules::Counts;
 use load_rules::Load;
-use register::limits::Limits;
+use register::limits_csv::LimitsFile;
 use text::core::put_byte;
 use text::core::put_level;
 use text::core::put_number;
@@ -154,7 +154,7 @@ fn put_points(
     groups: &[u32],
     marks: &[u32],
     levels: &[u32],
-    limits: Limits,
+    limits: LimitsFile,
 ) -> usize
     requires { ⌜ LimitsFit limits × (longestReport ≤ length (now out)) ⌝ }
     ensures { λ r. ⌜ Wrote (now (out .entry)) 0 (pointsText limits (bookBefore ids groups marks levels))
@@ -180,7 +180,7 @@ pub fn put_report(
     groups: &[u32],
     marks: &[u32],
     levels: &[u32],
-    limits: Limits,
+    limits: LimitsFile,
 ) -> Report
     requires { ⌜ LimitsFit limits × (longestReport ≤ length (now out)) ⌝ }
     ensures { λ r. ⌜ Reported limits (bookBefore ids groups marks levels) (now (out .entry)) r

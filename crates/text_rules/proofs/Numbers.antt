@@ -8,7 +8,7 @@ use lib.Dec.{ltb}
 use lib.ListN.{length, getD, length-append, List·getD-append}
 use lib.Seq.{getD-append-seam}
 use borrow.Author.Tests.{ltb-true, ltb-false}
-use Rattle.text.specs.Number.{wholeOf, levelOf, shown, showWhole, showTwo, showLevel}
+use Rattle.text.specs.Number.{wholeOf, levelOf, shown, showWhole, showDigits, showLevel}
 use Rattle.text.proofs.Digits.{either, whole-small}
 use Rattle.text.proofs.Exact.{whole-exact, level-exact, level-small}
 use Rattle.text.proofs.Shown.{shown-one, shown-more, whole-back, level-back}

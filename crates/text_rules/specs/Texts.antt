@@ -7,7 +7,7 @@ use mathlib.Core.List.{List, [], _∷_, _++_}
 use lib.ListN.{length, getD}
 use Rattle.text.specs.Line.{linesOf}
 use Rattle.text.specs.Field.{countOf, fieldOf}
-use Rattle.text.specs.Number.{wholeOf, levelOf, showWhole, showNumber, showTwo, showLevel}
+use Rattle.text.specs.Number.{wholeOf, levelOf, showWhole, showNumber, showDigits, showLevel}
 use Rattle.text.specs.declared.number.Number.the-variants.{Got}
 
 -- Lines
@@ -51,7 +51,7 @@ pub record NumbersAre : Type 0 where
   pub number : (n : ℕ) → n < 10 ^ 20 → InDigits n (showNumber n)
   pub whole : (n : ℕ) → n < 10 ^ 7 → InDigits n (showWhole n)
   -- two digits
-  pub two : (n : ℕ) → n < 100 → showTwo n ≡ (48 + n / 10) ∷ ((48 + n % 10) ∷ [])
+  pub two : (n : ℕ) → n < 100 → showDigits 2 n ≡ (48 + n / 10) ∷ ((48 + n % 10) ∷ [])
   -- a level: the whole dB, a point, 46, tenths and hundredths
   pub level : (n : ℕ) → showLevel n ≡ showWhole (n / 100) ++ (46 ∷ ((48 + n / 10 % 10) ∷ ((48 + n % 10) ∷ [])))
   -- a text is read as a number exactly if it is how the number is spelled: up to seven digits, up to 999.99
