@@ -1,5 +1,6 @@
 // What a person reads on standard error when something is refused.
 use libc::STDERR_FILENO;
+use sentence::MAX_SENTENCE;
 use text::core::put_number;
 
 // The most digits that a number has.
@@ -24,6 +25,13 @@ fn rule(number: u32) {
     io::write_all(STDERR_FILENO, b" (");
     print_number(number as u64);
     io::write_all(STDERR_FILENO, b")\n");
+}
+
+// The sentence of a refusal's number.
+fn in_general(number: u32) {
+    let mut room = [0u8; MAX_SENTENCE];
+    let n = sentence::put_sentence(&mut room, number);
+    io::write_all(STDERR_FILENO, &room[..n]);
 }
 
 // Whether a line feed stands in the bytes of one line: then its file doesn't end its lines by CRLF.
@@ -56,7 +64,7 @@ pub fn of_limits(number: u32, line: u64, text: &[u8]) {
             b"the file can't be opened in this folder, or is empty",
         );
     } else if number == 11 {
-        io::write_all(STDERR_FILENO, b"the days have to be from 1 to 366");
+        in_general(number);
     } else if number == 15 {
         io::write_all(STDERR_FILENO, b"a limit is over 120.00");
     } else if line == 1 {
@@ -112,10 +120,7 @@ pub fn of_long_line(line: u64, bytes: &[u8]) {
 // What the rules say of a row; `identity` is its first field.
 fn of_rule(number: u32, identity: u32) {
     if number == 1 {
-        io::write_all(
-            STDERR_FILENO,
-            b"type, kind, time or mass is out of range, or a small aircraft has 6,000 kg or more",
-        );
+        in_general(number);
         return;
     }
     if number == 7 {
@@ -152,9 +157,7 @@ pub fn of_row(number: u32, line: u64, bytes: &[u8], identity: u32) {
 
 // The whole book is refused.
 pub fn of_book(number: u32) {
-    io::write_all(
-        STDERR_FILENO,
-        b"register: movements stand, and none of them has levels, so no load can be worked out",
-    );
+    io::write_all(STDERR_FILENO, b"register: ");
+    in_general(number);
     rule(number);
 }
