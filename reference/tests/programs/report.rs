@@ -206,5 +206,17 @@ fn ranges_of_the_report_program() {
         runs("1,60.00", &format!("{full}2001,G,151,S,07:00:00,60.00"), "refused,6,2002");
         runs("1,60.00", &format!("{full}2000,G,151,S,07:00:00,60.00"), "refused,4,2002");
         runs("1,60.00", &format!("{full}2001,G,150,S,07:00:00,60.00"), answered);
+        // Files of no bytes, and a register of its header alone.
+        for (limits, register, expected) in [
+            ("days,p1\r\n1,60.00", "", "refused,16,1"),
+            ("days,p1\r\n1,60.00", HEADER.trim_end(), answered),
+            ("days,p1\r\n1,60.00", "\r\n", "refused,16,1"),
+            ("", HEADER, "refused,16,1"),
+            ("days,p1", "", "refused,16,2"),
+        ] {
+            let answer = compare(&program, Some(limits.as_bytes()), register.as_bytes(), &Delivery::File);
+            assert!(answer.starts_with(expected), "{limits:?}, {register:?}: {answer:?}");
+            count(&answer, register.as_bytes());
+        }
     });
 }
