@@ -20,7 +20,8 @@ outcomes p q r t u = rw (p, q, r, t, u)
 
 -- into the caller's buffers, which had room
 pub straight : (cs : List Contour) (e c d s e' c' d' s' : List ℕ) (at made : ℕ) → Listed cs e c d e' c' d' at made
-    → 2 ≤ length s → s' ≡ front (at ∷ made ∷ []) s → outcomeOf 0 e' c' d' s' ≡ handedOut 0 (answerOf cs) (listsOf e c d s)
+    → 2 ≤ length s → s' ≡ front (at ∷ made ∷ []) s
+    → outcomeOf 0 e' c' d' s' ≡ handedOut 0 (answerOf cs) (listsOf e c d s)
 straight cs e c d s e' c' d' s' at made l h p =
     let m : made ≡ length (countsOf cs) = l .contours ∙ sym (length-counts cs) in
     let k : made ≡ length (closedOf cs) = l .contours ∙ sym (length-closed cs) in

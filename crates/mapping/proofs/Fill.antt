@@ -14,12 +14,14 @@ use Rattle.mapping.specs.Places.{locatedOf, shownOf}
 use Rattle.mapping.specs.Many.{numbersOf, placesOf}
 
 module _ (levels : List ℕ) (f : Frame) (v : ℕ) where
-  numbers-last : (ns : List ℕ) (n : ℕ) → numbersOf levels f v (ns ++ (n ∷ [])) ≡ numbersOf levels f v ns ++ (shownOf (locatedOf levels f v n) .which ∷ [])
+  numbers-last : (ns : List ℕ) (n : ℕ) → numbersOf levels f v (ns ++ (n ∷ []))
+      ≡ numbersOf levels f v ns ++ (shownOf (locatedOf levels f v n) .which ∷ [])
   unfolding numbersOf
   numbers-last [] n = refl
   numbers-last (m ∷ ns) n = ap (λ (l : List ℕ). shownOf (locatedOf levels f v m) .which ∷ l) (numbers-last ns n)
 
-  places-last : (ns : List ℕ) (n : ℕ) → placesOf levels f v (ns ++ (n ∷ [])) ≡ placesOf levels f v ns ++ (shownOf (locatedOf levels f v n) .x ∷ shownOf (locatedOf levels f v n) .y ∷ [])
+  places-last : (ns : List ℕ) (n : ℕ) → placesOf levels f v (ns ++ (n ∷ []))
+      ≡ placesOf levels f v ns ++ (shownOf (locatedOf levels f v n) .x ∷ shownOf (locatedOf levels f v n) .y ∷ [])
   unfolding placesOf
   places-last [] n = refl
   places-last (m ∷ ns) n = ap (λ (l : List Float). shownOf (locatedOf levels f v m) .x ∷ shownOf (locatedOf levels f v m) .y ∷ l) (places-last ns n)
@@ -66,4 +68,10 @@ module _ (levels : List ℕ) (f : Frame) (v : ℕ) where
         let l' : length (ps ++ (p .x ∷ [])) ≡ 2 * i + 1 = length-append ps (p .x ∷ []) ∙ omega arith in
         ap (λ (q : List Float). set q (2 * i + 1) (p .y)) (front-more ps old (2 * i) (p .x) l (omega arith))
         ∙ front-more (ps ++ (p .x ∷ [])) old (2 * i + 1) (p .y) l' (omega arith)
-        ∙ rw (append-assoc ps (p .x ∷ []) (p .y ∷ []), add-one i, take-suc ns i 0 h, places-last (take i ns) (getD ns i 0))
+        ∙ rw (
+          append-assoc ps (p .x ∷ []) (p .y ∷ []),
+          add-one i,
+          take-suc ns i 0 h,
+          places-last (take i ns)
+              (getD ns i 0),
+        )

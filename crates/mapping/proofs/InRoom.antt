@@ -22,7 +22,7 @@ use Rattle.mapping.specs.Fractions.{whole, crossingOf, whichOf, fraction
 use Rattle.mapping.specs.Fractions.{crossingAsked}
 use Rattle.mapping.specs.Places.{locatedOf, shownOf, mappedShown, mappedOf}
 use Rattle.mapping.specs.Many.{numbersOf, placesOf, Many}
-use Rattle.mapping.specs.Lent.{Lent}
+use Rattle.mapping.specs.OneCrossing.{OneCrossing}
 use Rattle.mapping.specs.Room.{shownAt, ManyInRoom, CrossingInRoom}
 use Rattle.mapping.proofs.Fill.{length-numbers, length-places}
 
@@ -59,6 +59,9 @@ module _ (levels : List ℕ) (f : Frame) (v : ℕ) where
     abbrev fits : Bool
     fits = fitsIn (numbersOf levels f v edges) which && fitsIn (placesOf levels f v edges) places
 
+    abbrev due : ℕ
+    due = thenRoom (contourRefusal levels f v) fits
+
     abbrev Enough : Type 0
     Enough = (length edges ≤ length which) × (2 * length edges ≤ length places)
 
@@ -66,13 +69,14 @@ module _ (levels : List ℕ) (f : Frame) (v : ℕ) where
     enough =
         let n = length-numbers levels f v edges in
         let p = length-places levels f v edges in
-        let i = both-leb (length (numbersOf levels f v edges)) (length which) (length (placesOf levels f v edges)) (length places) in (
+        let i = both-leb (length (numbersOf levels f v edges)) (length which)
+        (length (placesOf levels f v edges)) (length places) in (
           λ h. let k = i .0 h in (omega (arith, k .0, n), omega (arith, k .1, p)),
           λ h. i .1 (omega (arith, h .0, n), omega (arith, h .1, p)),
         )
 
     module _ (z : answer ≡ 0) where
-      none : thenRoom (contourRefusal levels f v) fits ≡ 0
+      none : due ≡ 0
       none = sym (m .number) ∙ z
 
       numbers : which' ≡ front (numbersOf levels f v edges) which
@@ -88,8 +92,8 @@ module _ (levels : List ℕ) (f : Frame) (v : ℕ) where
     many-in-room = record {
       refusal = subst (RoomRefused levels f v Enough) (sym (m .number)) (room-refused levels f v Enough fits enough);
       refused = λ h. (
-        m .left-first ∙ left-alone (thenRoom (contourRefusal levels f v) fits) (numbersOf levels f v edges) which (λ e. h (m .number ∙ e)),
-        m .left-second ∙ left-alone (thenRoom (contourRefusal levels f v) fits) (placesOf levels f v edges) places (λ e. h (m .number ∙ e)),
+        m .left-first ∙ left-alone due (numbersOf levels f v edges) which (λ e. h (m .number ∙ e)),
+        m .left-second ∙ left-alone due (placesOf levels f v edges) places (λ e. h (m .number ∙ e)),
       );
       number = λ z i h. rw (
         numbers z,
@@ -119,7 +123,7 @@ module _ (levels : List ℕ) (f : Frame) (v : ℕ) where
   -- ---- one crossing
 
   module _ (n : ℕ) (which : List ℕ) (fraction : List Float) (answer : ℕ) (which' : List ℕ) (fraction' : List Float)
-      (m : Lent levels f v n which fraction answer which' fraction') where
+      (m : OneCrossing levels f v n which fraction answer which' fraction') where
     abbrev kinds : List ℕ
     kinds = whichOf (crossingOf levels f v n) ∷ []
 
@@ -129,11 +133,14 @@ module _ (levels : List ℕ) (f : Frame) (v : ℕ) where
     abbrev lent-fits : Bool
     lent-fits = fitsIn kinds which && fitsIn parts fraction
 
+    abbrev lent-due : ℕ
+    lent-due = thenRoom (contourRefusal levels f v) lent-fits
+
     abbrev LentEnough : Type 0
     LentEnough = (1 ≤ length which) × (1 ≤ length fraction)
 
     module _ (z : answer ≡ 0) where
-      lent-none : thenRoom (contourRefusal levels f v) lent-fits ≡ 0
+      lent-none : lent-due ≡ 0
       lent-none = sym (m .number) ∙ z
 
       kind : which' ≡ front kinds which
@@ -150,8 +157,8 @@ module _ (levels : List ℕ) (f : Frame) (v : ℕ) where
       refusal = subst (RoomRefused levels f v LentEnough) (sym (m .number))
           (room-refused levels f v LentEnough lent-fits (both-leb 1 (length which) 1 (length fraction)));
       refused = λ h. (
-        m .left-first ∙ left-alone (thenRoom (contourRefusal levels f v) lent-fits) kinds which (λ e. h (m .number ∙ e)),
-        m .left-second ∙ left-alone (thenRoom (contourRefusal levels f v) lent-fits) parts fraction (λ e. h (m .number ∙ e)),
+        m .left-first ∙ left-alone lent-due kinds which (λ e. h (m .number ∙ e)),
+        m .left-second ∙ left-alone lent-due parts fraction (λ e. h (m .number ∙ e)),
       );
       number = λ z. rw (kind z, right z) refl;
       place = λ z. rw (part z, right z) refl;

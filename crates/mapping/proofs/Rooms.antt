@@ -11,7 +11,7 @@ use Rattle.room.proofs.Answers.{write-both, short-first, short-second, one-outc
 use Rattle.network.specs.declared.Frame.{Frame}
 use Rattle.network.specs.Refusals.{contourRefusal}
 use Rattle.mapping.specs.Many.{numbersOf, placesOf, Many}
-use Rattle.mapping.specs.Lent.{Lent}
+use Rattle.mapping.specs.OneCrossing.{OneCrossing}
 use Rattle.mapping.proofs.Fill.{length-numbers, length-places}
 
 -- past the check of a network that is right, 14 is what is left
@@ -39,6 +39,6 @@ module _ (levels : List ℕ) (f : Frame) (v : ℕ) (edges which : List ℕ) (pla
   one-outcome a b = one-outcome-two a b
 
 pub one-crossing : (levels : List ℕ) (f : Frame) (v n : ℕ) (which : List ℕ) (fraction : List Float) {k k' : ℕ}
-    {w w' : List ℕ} {p p' : List Float} → Lent levels f v n which fraction k w p
-    → Lent levels f v n which fraction k' w' p' → (k ≡ k') × ((w ≡ w') × (p ≡ p'))
+    {w w' : List ℕ} {p p' : List Float} → OneCrossing levels f v n which fraction k w p
+    → OneCrossing levels f v n which fraction k' w' p' → (k ≡ k') × ((w ≡ w') × (p ≡ p'))
 one-crossing levels f v n which fraction a b = one-outcome-two a b

@@ -1,6 +1,6 @@
 pub mod Fractions
 pub mod Places
 pub mod Many
-pub mod Lent
+pub mod OneCrossing
 pub mod Ranges
 pub mod Room

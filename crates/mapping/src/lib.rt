@@ -7,7 +7,7 @@ ghost use Rattle.network.specs.Edges.{Checked};
 ghost use Rattle.mapping.specs.Fractions.{whichOf, fractionShown, crossingAsked};
 ghost use Rattle.mapping.specs.Places.{shownOf, mappedOf};
 ghost use Rattle.mapping.specs.Many.{numbersOf, placesOf, Many};
-ghost use Rattle.mapping.specs.Lent.{Lent};
+ghost use Rattle.mapping.specs.OneCrossing.{OneCrossing};
 ghost use mathlib.Core.List.{_∷_, []};
 use network::Frame;
 use network::limits::MAX_NETWORK_LEVEL;
@@ -182,7 +182,7 @@ pub fn put_crossing(
     which: &mut [u32],
     fraction: &mut [f64],
 ) -> u32
-    ensures { λ r. ⌜ Lent (now (levels .entry)) frame v n (now (which .entry)) (now (fraction .entry)) r
+    ensures { λ r. ⌜ OneCrossing (now (levels .entry)) frame v n (now (which .entry)) (now (fraction .entry)) r
         (now (which .exit)) (now (fraction .exit)) ⌝ }
 {
     let why = network::contour_refusal(levels, frame, v, MAX_NETWORK_LEVEL);

@@ -1,7 +1,7 @@
 // Crossings and map points for map layers.
 use network::Frame;
 ghost use mathlib.Core.List.{_∷_, []};
-ghost use Rattle.mapping.specs.Lent.{Lent};
+ghost use Rattle.mapping.specs.OneCrossing.{OneCrossing};
 ghost use Rattle.mapping.specs.Many.{Many};
 ghost use Rattle.okubinrafo.specs.Networks.{frameOf};
 
@@ -19,7 +19,7 @@ pub extern "C" fn okubinrafo_crossing(
     which: &mut [u32],
     fraction: &mut [f64],
 ) -> u32
-    ensures { λ r. ⌜ Lent (now (levels .entry)) (frameOf columns rows spacing west south) level edge
+    ensures { λ r. ⌜ OneCrossing (now (levels .entry)) (frameOf columns rows spacing west south) level edge
         (now (which .entry)) (now (fraction .entry)) r (now (which .exit)) (now (fraction .exit)) ⌝ }
 {
     let frame = Frame {

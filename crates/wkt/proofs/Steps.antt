@@ -14,7 +14,8 @@ use Rattle.network.specs.declared.Frame.{Frame}
 use Rattle.network.proofs.Numbers.{by-cond}
 use Rattle.wkt.specs.declared.Cursor.{Cursor}
 use Rattle.wkt.specs.Text.{placeText, bracket, comma, pointsText, linesText, multilinestring, empty, textOf, pointsOf}
-use Rattle.wkt.specs.InnerParts.{linesFrom, total, Printable, lineAt, linesAfter, pointsAt, Reached, fromLine, leftOf, endText, beforeText, pieceOf, nextOf}
+use Rattle.wkt.specs.InnerParts.{linesFrom, total, Printable, lineAt, linesAfter, pointsAt}
+use Rattle.wkt.specs.InnerParts.{Reached, fromLine, leftOf, endText, beforeText, pieceOf, nextOf}
 
 -- ---- counts
 

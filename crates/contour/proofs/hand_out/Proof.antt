@@ -16,10 +16,12 @@ start c = let middle = c .before .before .before .before in middle .before .befo
 
 -- where there is room, each buffer is long enough
 fit : (c : tie.Then1) → let a = start c .args in (a .got .edges ≤ length (now (a .edges)))
-    × ((a .got .contours ≤ length (now (a .counts))) × ((a .got .contours ≤ length (now (a .closed))) × (2 ≤ length (now (a .sizes)))))
+    × ((a .got .contours ≤ length (now (a .counts)))
+    × ((a .got .contours ≤ length (now (a .closed))) × (2 ≤ length (now (a .sizes)))))
 fit c =
     let a = start c .args in
-    all-fit (a .got .edges) (a .got .contours) (length (now (a .edges))) (length (now (a .counts))) (length (now (a .closed)))
+    all-fit (a .got .edges) (a .got .contours) (length (now (a .edges))) (length (now (a .counts)))
+    (length (now (a .closed)))
     (length (now (a .sizes))) (sym (c .before .room-for .ensures) ∙ c .if1 .taken)
 
 -- what is handed out is as long as it was listed
@@ -35,7 +37,9 @@ copy-front-requires : tie.Need-copy-front-requires
 copy-front-requires c κs = let roomy = c .before in (start roomy .pre .1 .1 .0, fit roomy .0)
 
 copy-front-requires-2 : tie.Need-copy-front-requires-2
-copy-front-requires-2 c κs = let roomy = c .before .before .before .before .before in (start roomy .pre .1 .1 .1 .0, fit roomy .1 .0)
+copy-front-requires-2 c κs =
+    let roomy = c .before .before .before .before .before in
+    (start roomy .pre .1 .1 .1 .0, fit roomy .1 .0)
 
 copy-front-requires-3 : tie.Need-copy-front-requires-3
 copy-front-requires-3 c κs =

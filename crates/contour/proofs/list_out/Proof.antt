@@ -15,7 +15,8 @@ list-straight-requires c κs =
     let s = counted .before .before .before .before .before .before in
     let a = s .args in
     let t = counted .edge-count in
-    let f = all-fit (t .result) (t .result) (length (now (a .edges))) (length (now (a .counts))) (length (now (a .closed)))
+    let f = all-fit (t .result) (t .result) (length (now (a .edges))) (length (now (a .counts)))
+    (length (now (a .closed)))
     (length (now (a .sizes))) (sym (roomy .before .room-for .ensures) ∙ roomy .if1 .taken) in (
       s .pre,
       (

@@ -50,7 +50,8 @@ loop-again c =
     let s = turn .before .before .before .before .before in
     let a = s .args in
     let test = c .before .before .before .loop-test .taken in
-    let e : c .shown-of .result ≡ shownOf (locatedOf (now (a .levels)) (a .frame) (a .v) (getD (now (a .edges)) (l .i) 0)) =
+    let e : c .shown-of .result ≡ shownOf (locatedOf (now (a .levels)) (a .frame) (a .v)
+    (getD (now (a .edges)) (l .i) 0)) =
     c .shown-of .ensures ∙ ap shownOf (c .before .locate-at .ensures) in (
       search needs,
       (
@@ -59,9 +60,11 @@ loop-again c =
           simp length-set (search needs),
           (
             rw (e, l .inv .1 .1 .1 .0)
-                (numbers-turn (now (a .levels)) (a .frame) (a .v) (now (a .edges)) (l .i) test (now (a .which)) (s .pre .1 .0)),
+                (numbers-turn (now (a .levels)) (a .frame) (a .v) (now (a .edges)) (l .i) test (now (a .which))
+                (s .pre .1 .0)),
             rw (e, l .inv .1 .1 .1 .1)
-                (places-turn (now (a .levels)) (a .frame) (a .v) (now (a .edges)) (l .i) test (now (a .places)) (s .pre .1 .1)),
+                (places-turn (now (a .levels)) (a .frame) (a .v) (now (a .edges)) (l .i) test (now (a .places))
+                (s .pre .1 .1)),
           ),
         ),
       ),
@@ -70,7 +73,8 @@ loop-again c =
 returns : tie.Need-returns Inv-loop μ-loop
 returns c =
     let l = c .before .loop in
-    let t = take-all (l .i) (now (c .before .before .before .before .before .before .args .edges)) (c .loop-test .left) in
+    let t = take-all (l .i) (now (c .before .before .before .before .before .before .args .edges))
+    (c .loop-test .left) in
     (rw (← t) (l .inv .1 .1 .1 .0), rw (← t) (l .inv .1 .1 .1 .1))
 
 pub fill-points-spec : {M : Type 1} → statement M

@@ -18,7 +18,8 @@ long nx ny h k = rw (length-replicate {A = ℕ} maxEdges 0) (edges-le nx ny h k)
 list-contours-requires : tie.Need-list-contours-requires
 list-contours-requires c κs =
     let s = c .before .before .before .before .before .before .before .before in
-    let l = long (s .args .frame .columns) (s .args .frame .rows) (s .pre .sized .sides .narrow) (s .pre .sized .sides .low) in
+    let l = long (s .args .frame .columns) (s .args .frame .rows) (s .pre .sized .sides .narrow)
+    (s .pre .sized .sides .low) in
     (s .pre .sized, (l, (l, l)))
 
 print-fronts-requires : tie.Need-print-fronts-requires
@@ -46,7 +47,8 @@ returns c =
     let listing = listed .before .before .before .before .before .before .before .before in
     let made = listing .before .before .before .before in
     let a = made .before .before .before .before .before .args in
-    rw (← text-front (listing .list-contours .ensures) (now (a .levels)) (a .frame) (a .v)) (printed .print-fronts .ensures)
+    rw (← text-front (listing .list-contours .ensures) (now (a .levels)) (a .frame) (a .v))
+    (printed .print-fronts .ensures)
 
 pub print-checked-spec : {M : Type 1} → statement M
 print-checked-spec =

@@ -21,7 +21,8 @@ whole s =
     textOf (now (a .levels)) (a .frame) (a .v) (linesFrom (now (a .edges)) (now (a .counts)) (now (a .closed)))
 
 -- the text fits where the size found does
-fits : (c : tie.Then1) → let s = c .before .before .before .before .before .before .before .before in length (whole s) ≤ length (now (s .args .text))
+fits : (c : tie.Then1)
+    → let s = c .before .before .before .before .before .before .before .before in length (whole s) ≤ length (now (s .args .text))
 fits c = omega (arith, c .before .text-size .ensures, c .if1 .taken)
 
 print-part-requires : tie.Need-print-part-requires
@@ -30,7 +31,8 @@ print-part-requires c κs =
     let s = roomy .before .before .before .before .before .before .before .before in
     let a = s .args in (
       s .pre,
-      reached-first (now (a .levels)) (a .frame) (a .v) (now (a .edges)) (now (a .counts)) (now (a .closed)) (s .pre .summed)
+      reached-first (now (a .levels)) (a .frame) (a .v) (now (a .edges)) (now (a .counts)) (now (a .closed))
+          (s .pre .summed)
           (c .before .first .result) (c .before .first .ensures),
     )
 
@@ -56,7 +58,8 @@ returns c =
     let one = sized .if2 .taken in
     write-both refl (fits roomy) one
     (printed-whole (now (a .levels)) (a .frame) (a .v) (now (a .edges)) (now (a .counts)) (now (a .closed)) (s .pre)
-    (begun .first .result) (begun .first .ensures) (now (a .text)) (p .last .1 .1 .1 .1 .1 .1 .1 .0) (p .result) (p .ensures)
+    (begun .first .result) (begun .first .ensures) (now (a .text)) (p .last .1 .1 .1 .1 .1 .1 .1 .0) (p .result)
+    (p .ensures)
     (p .kept .1 .1 .1 .1 .1 .1 .1 .0) (fits roomy))
     (ap (λ (k : ℕ). set (now (a .size)) 0 k) (roomy .before .text-size .ensures)
     ∙ front-one (now (a .size)) (length (whole s)) one)

@@ -60,7 +60,12 @@ loop-again c =
       sweep-joins _ _ _ _ _ _ _ _ (l .inv .0) (t .ensures),
       (
         same-after (l .inv .1 .0)
-            (record { list-long = t .kept .1 .1 .1 .1 .1 .0; edges-long = t .kept .1 .1 .1 .1 .1 .1 .0; counts-long = t .kept .1 .1 .1 .1 .1 .1 .1 .0; closed-long = t .kept .1 .1 .1 .1 .1 .1 .1 .1 .0 }),
+            (record {
+              list-long = t .kept .1 .1 .1 .1 .1 .0;
+              edges-long = t .kept .1 .1 .1 .1 .1 .1 .0;
+              counts-long = t .kept .1 .1 .1 .1 .1 .1 .1 .0;
+              closed-long = t .kept .1 .1 .1 .1 .1 .1 .1 .1 .0;
+            }),
         omega (arith, at-loop-test .loop-test .taken),
       ),
     )

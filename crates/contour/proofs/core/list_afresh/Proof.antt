@@ -29,7 +29,12 @@ returns c =
     let s = at-fill-list .before .before .before .before .before .before .before in
     let t = at-list-all .list-all in
     all-held (pictured s) _ _ (t .ensures .0) (t .ensures .1)
-    (record { list-long = t .kept .1 .1 .1 .1 .0; edges-long = t .kept .1 .1 .1 .1 .1 .0; counts-long = t .kept .1 .1 .1 .1 .1 .1 .0; closed-long = t .kept .1 .1 .1 .1 .1 .1 .1 .0 })
+    (record {
+      list-long = t .kept .1 .1 .1 .1 .0;
+      edges-long = t .kept .1 .1 .1 .1 .1 .0;
+      counts-long = t .kept .1 .1 .1 .1 .1 .1 .0;
+      closed-long = t .kept .1 .1 .1 .1 .1 .1 .1 .0;
+    })
 
 pub list-afresh-spec : {M : Type 1} → statement M
 list-afresh-spec =

@@ -76,7 +76,12 @@ loop-again c =
           (sweep-waits _ _ _ (l .n) _ _ _ (f .low) (f .none) (l .inv .0)) (t .ensures),
       (
         same-after (l .inv .1 .0)
-            (record { list-long = t .kept .1 .1 .1 .1 .1 .1 .0; edges-long = t .kept .1 .1 .1 .1 .1 .1 .1 .0; counts-long = t .kept .1 .1 .1 .1 .1 .1 .1 .1 .0; closed-long = t .kept .1 .1 .1 .1 .1 .1 .1 .1 .1 .0 }),
+            (record {
+              list-long = t .kept .1 .1 .1 .1 .1 .1 .0;
+              edges-long = t .kept .1 .1 .1 .1 .1 .1 .1 .0;
+              counts-long = t .kept .1 .1 .1 .1 .1 .1 .1 .1 .0;
+              closed-long = t .kept .1 .1 .1 .1 .1 .1 .1 .1 .1 .0;
+            }),
         (omega (arith, l .inv .1 .1 .0, f .low), omega (arith, f .high, at-loop-test .loop-test .taken)),
       ),
     )

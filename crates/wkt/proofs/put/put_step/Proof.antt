@@ -79,7 +79,8 @@ abbrev Writes : tie.Start → List ℕ → ℕ → Type 0
 Writes s piece size =
     let a = s .args in
     Wrote (now (a .piece)) 0
-    (pieceOf (now (a .levels)) (a .frame) (a .v) (now (a .listed)) (now (a .counts)) (now (a .closed)) (a .at)) piece size
+    (pieceOf (now (a .levels)) (a .frame) (a .v) (now (a .listed)) (now (a .counts)) (now (a .closed))
+    (a .at)) piece size
 
 ended : (c : tie.After-slice-known2)
     → let at-end = c .before .before .before .before in

@@ -9,8 +9,8 @@ use Rattle.mapping.specs.Fractions.{crossingOf, whichOf, fractionShown}
 
 -- what the call answers, and what the lent room holds after it: 12, 13, 15, and then 14 where there is no room for the
 -- number or for the fraction
-abbrev pub Lent : (levels : List ℕ) (f : Frame) (v n : ℕ) (which : List ℕ) (fraction : List Float) (answer : ℕ)
-    (which' : List ℕ) (fraction' : List Float) → Type 0
-Lent levels f v n which fraction answer which' fraction' =
+abbrev pub OneCrossing : (levels : List ℕ) (f : Frame) (v n : ℕ) (which : List ℕ) (fraction : List Float)
+    (answer : ℕ) (which' : List ℕ) (fraction' : List Float) → Type 0
+OneCrossing levels f v n which fraction answer which' fraction' =
     WritesTwo (contourRefusal levels f v) (whichOf (crossingOf levels f v n) ∷ [])
     (fractionShown (crossingOf levels f v n) ∷ []) which fraction answer which' fraction'
