@@ -1,5 +1,5 @@
--- How a row of a register spells its fields: RULES, "Files and the report program", column by column and letter by
--- letter. Assumes nothing.
+-- How a row of a register spells its fields: RULES, "Files and the report program", column by column and letter by letter.
+-- Assumes nothing.
 use Prim.Native.Nat.{ℕ, _+_, _/_, _%_, _≤_, _<_}
 use mathlib.Core.Path.{_≡_}
 use mathlib.Core.List.{List, [], _∷_, _++_}
@@ -7,12 +7,12 @@ use lib.ListN.{getD}
 use Rattle.text.specs.Line.{bareLine}
 use Rattle.text.specs.Field.{fieldOf}
 use Rattle.text.specs.Number.{showWhole, showDigits, showLevel}
-use Rattle.text.specs.Spelled.{bytes, byte}
+use Rattle.text.specs.Spelled.{bytes}
 use Rattle.register.specs.Row.{layoutOf}
 
 -- column k of a row, counted from 0, between its commas
 abbrev pub column : List ℕ → ℕ → List ℕ
-column row k = fieldOf (byte ",") k (bareLine row)
+column row k = fieldOf 44 k (bareLine row)
 
 -- id,type,mtow,kind,time,l1 and on: what a row of p points on its layout has in each column
 pub record RowSpelled (p : ℕ) (row : List ℕ) : Type 0 where
@@ -25,8 +25,7 @@ pub record RowSpelled (p : ℕ) (row : List ℕ) : Type 0 where
   pub kinds : layoutOf p row .fields .kind < 2
   -- hours, minutes and seconds, two digits each
   pub time : let s = layoutOf p row .fields .time in
-      column row 4
-      ≡ showDigits 2 (s / 3600) ++ (byte ":" ∷ showDigits 2 (s / 60 % 60)) ++ (byte ":" ∷ showDigits 2 (s % 60))
+      column row 4 ≡ showDigits 2 (s / 3600) ++ (58 ∷ showDigits 2 (s / 60 % 60)) ++ (58 ∷ showDigits 2 (s % 60))
   pub times : layoutOf p row .fields .time < 86400
   -- levels for all points, or all blank where it is not computed
   pub marks : layoutOf p row .fields .computed ≤ 1
