@@ -17,8 +17,10 @@ use Rattle.text.specs.Line.{onto, linesOf}
 use Rattle.text.specs.Same.{sameText}
 use Rattle.text.proofs.Digits.{either, got-value}
 use Rattle.text.proofs.Lines.{lines-step}
-use Rattle.grid.specs.Row.{all, valuesOf, given, isValue, isRow, hasValues, rowGiven, levelIn, rowLevels, levelsOf}
-use Rattle.grid.specs.File.{ncols, nrows, xllcenter, yllcenter, cellsize, unnamed, begins, numberAfter, names, sixth, headOn, namedOn, frameOf, noDataOf, rowsOf, firstOff, faultLine, rowsFit}
+use Rattle.grid.specs.Row.{all, valuesOf, given, isValue, isRow, hasValues, rowGiven, levelIn, rowLevels}
+use Rattle.grid.specs.Row.{levelsOf}
+use Rattle.grid.specs.File.{ncols, nrows, xllcenter, yllcenter, cellsize, unnamed, begins, numberAfter, names}
+use Rattle.grid.specs.File.{sixth, headOn, namedOn, frameOf, noDataOf, rowsOf, firstOff, faultLine, rowsFit}
 use Rattle.grid.specs.Read.{textFrame, textLevels, readRefusal}
 use Rattle.grid.specs.Write.{keyLine, headLines, rowLine, rowLines, textOf, networkLines, showNetwork}
 use Rattle.grid.proofs.ValueLaws.{all-cons}

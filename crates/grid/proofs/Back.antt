@@ -22,13 +22,17 @@ use Rattle.network.specs.Refusals.{networkRefusal}
 use Rattle.network.specs.declared.Frame.{Frame}
 use Rattle.network.proofs.Refusals.{not-refused, checked-on, checked-off}
 use Rattle.grid.specs.Row.{all, valuesOf, isRow, hasValues, rowGiven, rowLevels, levelsOf}
-use Rattle.grid.specs.File.{ncols, nrows, xllcenter, yllcenter, cellsize, numberAt, unnamed, names, sixth, headOn, namedOn, frameOf, noDataOf, rowsOf, firstOff, faultLine, rowsFit}
-use Rattle.grid.specs.Read.{numbersOf, headerSize, textFrame, textLevels, linesRefusal, readRefusal, headerAfter, levelsAfter}
-use Rattle.grid.specs.Write.{rowLine, rowAt, rowLines, networkLines, showNetwork, writeRefusal, textAfter, sizeAfter}
+use Rattle.grid.specs.File.{ncols, nrows, xllcenter, yllcenter, cellsize, numberAt, unnamed, names, sixth}
+use Rattle.grid.specs.File.{headOn, namedOn, frameOf, noDataOf, rowsOf, firstOff, faultLine, rowsFit}
+use Rattle.grid.specs.Read.{numbersOf, headerSize, textFrame, textLevels, linesRefusal, readRefusal}
+use Rattle.grid.specs.Read.{headerAfter, levelsAfter}
+use Rattle.grid.specs.Write.{rowLine, rowAt, rowLines, networkLines, showNetwork, writeRefusal, textAfter}
+use Rattle.grid.specs.Write.{sizeAfter}
 use Rattle.grid.specs.InnerSteps.{Quiet, Near}
 use Rattle.grid.proofs.FileLaws.{off-append}
 use Rattle.grid.proofs.WriteLaws.{near, quiet-part, row-first}
-use Rattle.grid.proofs.Values.{Free, lines-apart, values-apart, row-free, texts-row, texts-given, texts-levels, number-back, key-free, names-row}
+use Rattle.grid.proofs.Values.{Free, lines-apart, values-apart, row-free, texts-row, texts-given, texts-levels}
+use Rattle.grid.proofs.Values.{number-back, key-free, names-row}
 
 -- ---- one row
 

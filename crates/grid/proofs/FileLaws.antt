@@ -11,8 +11,10 @@ use Rattle.network.specs.declared.Frame.{Frame}
 use Rattle.text.specs.Line.{linesOf}
 use Rattle.text.proofs.Digits.{either}
 use Rattle.grid.specs.Row.{all, isRow}
-use Rattle.grid.specs.File.{names, namesWell, spelledIn, unnamed, sixth, headOn, frameOf, noDataOf, namedOn, rowsOf, firstOff, faultLine, rowsFit}
-use Rattle.grid.specs.InnerSteps.{linesAt, lineFrom, Passed, rowSound, rowsRead, bodyOn, bodyRows, bodyNoData, bodyRead, fileRead}
+use Rattle.grid.specs.File.{names, namesWell, spelledIn, unnamed, sixth, headOn, frameOf, noDataOf, namedOn}
+use Rattle.grid.specs.File.{rowsOf, firstOff, faultLine, rowsFit}
+use Rattle.grid.specs.InnerSteps.{linesAt, lineFrom, Passed, rowSound, rowsRead, bodyOn, bodyRows, bodyNoData}
+use Rattle.grid.specs.InnerSteps.{bodyRead, fileRead}
 use Rattle.grid.specs.declared.judge.File.{File}
 use Rattle.grid.specs.declared.judge.File.the-variants.{On, Off}
 use Rattle.grid.proofs.HeadLaws.{line-of}

@@ -18,7 +18,8 @@ use Rattle.text.specs.Line.{linesOf}
 use Rattle.refusal.proofs.Laws.{and-left, and-right, refuse-none}
 use Rattle.grid.specs.Row.{all, valuesOf, given, hasValues, rowGiven, levelIn, rowLevels, levelsOf}
 use Rattle.grid.specs.File.{frameOf, noDataOf, rowsOf, faultLine, rowsFit}
-use Rattle.grid.specs.Read.{numbersOf, headerSize, textFrame, textLevels, linesRefusal, readRefusal, headerAfter, levelsAfter}
+use Rattle.grid.specs.Read.{numbersOf, headerSize, textFrame, textLevels, linesRefusal, readRefusal}
+use Rattle.grid.specs.Read.{headerAfter, levelsAfter}
 use Rattle.grid.specs.InnerSteps.{isSound, rowSound, Judged, Rows, shapeRefusal}
 use Rattle.grid.proofs.StoreLaws.{levels-length}
 

@@ -19,7 +19,8 @@ use Rattle.network.specs.Limits.{maxNetworkLevel, maxOrigin}
 use Rattle.network.specs.Refusals.{networkRefusal}
 use Rattle.network.proofs.Refusals.{checked-on, checked-off}
 use Rattle.network.specs.declared.Frame.{Frame}
-use Rattle.grid.specs.Write.{keyLine, headLines, rowLine, rowAt, rowLines, textOf, showNetwork, writeRefusal, textAfter, sizeAfter}
+use Rattle.grid.specs.Write.{keyLine, headLines, rowLine, rowAt, rowLines, textOf, showNetwork, writeRefusal}
+use Rattle.grid.specs.Write.{textAfter, sizeAfter}
 use Rattle.grid.specs.InnerSteps.{sizesOf, Quiet, Near, ended, sideLines, placeLines}
 
 -- ---- lines as a text

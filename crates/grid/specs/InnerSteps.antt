@@ -15,8 +15,9 @@ use Rattle.network.specs.Limits.{maxNetworkLevel, maxOrigin}
 use Rattle.network.specs.Refusals.{sided, placed}
 use Rattle.network.specs.declared.Frame.{Frame}
 use Rattle.grid.specs.Row.{all, valuesOf, given, isValue, isRow, hasValues, levelIn}
-use Rattle.grid.specs.File.{ncols, nrows, xllcenter, yllcenter, cellsize, unnamed, numberAfter, names, namesWell}
-use Rattle.grid.specs.File.{spelledIn, headOn, frameOf, noDataOf, rowsOf, firstOff, faultLine, rowsFit}
+use Rattle.grid.specs.File.{ncols, nrows, xllcenter, yllcenter, cellsize, unnamed, numberAfter}
+use Rattle.grid.specs.File.{names, namesWell, spelledIn, headOn, frameOf, noDataOf, rowsOf, firstOff}
+use Rattle.grid.specs.File.{faultLine, rowsFit}
 use Rattle.grid.specs.Write.{keyLine}
 use Rattle.grid.specs.declared.head.Line.{Line}
 use Rattle.grid.specs.declared.head.Keyed.{Keyed}

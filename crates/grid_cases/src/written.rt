@@ -1,5 +1,5 @@
 // Networks that are written.
-use crate::read::network_front;
+use crate::files::network_front;
 use crate::show::numbers;
 use crate::show::show;
 use grid::write::write_network;

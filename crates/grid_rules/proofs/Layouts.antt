@@ -7,7 +7,8 @@ use mathlib.Core.Bool.{Bool, true, false, cond, _||_, true≢false}
 use native.Mathlib.Omega.{arith}
 use borrow.Author.Tests.{eqb-true, ne-eqb, ltb-true, ltb-false}
 use lib.Dec.{eqb, ltb}
-use lib.ListN.{length, getD, take, drop, take-append-drop, List·getD-append, List·getD-eq-default, length-drop, length-map}
+use lib.ListN.{length, getD, take, drop, take-append-drop, List·getD-append, List·getD-eq-default, length-drop}
+use lib.ListN.{length-map}
 use lib.Seq.{getD-drop, getD-append-add, take-suc}
 use Rattle.refusal.proofs.Laws.{and-left, and-right}
 use Rattle.text.specs.Line.{linesOf}
@@ -20,7 +21,8 @@ use Rattle.text.proofs.Digits.{either, whole-small, got-value}
 use Rattle.text.proofs.Shown.{whole-back, level-back, shown-least}
 use Rattle.text.proofs.Exact.{whole-exact, level-exact, level-small}
 use Rattle.grid.specs.Row.{all, valuesOf, isValue, isRow}
-use Rattle.grid.specs.File.{unnamed, numberAfter, isNumber, isSpelling, namesWell, headOn, namedOn, noDataOf, rowsOf, firstOff, faultLine}
+use Rattle.grid.specs.File.{unnamed, numberAfter, isNumber, isSpelling, namesWell, headOn, namedOn, noDataOf, rowsOf}
+use Rattle.grid.specs.File.{firstOff, faultLine}
 use Rattle.grid.proofs.ValueLaws.{all-cons, all-none}
 use Rattle.grid.proofs.Values.{same-equal, same-self, number-back, key-line}
 use Rattle.grid_rules.specs.Laid.{line, Named, Behind}

@@ -28,7 +28,8 @@ use Rattle.grid_rules.proofs.Places.{all-at, value-field, value-count, 
 use Rattle.grid_rules.proofs.Said.{headed, five-there, six-there, fit, wide, row-line, sized}
 use Rattle.grid_rules.proofs.Layouts.{all-from, behind, fault-from}
 use Rattle.grid_rules.proofs.Ordered.{Ordered, ordered, one-test, both-true}
-use Rattle.grid_rules.proofs.Sound.{range-on, range-passes, levels-within, row-within, level-of, given-is, given-other}
+use Rattle.grid_rules.proofs.Sound.{range-on, range-passes, levels-within, row-within, level-of, given-is}
+use Rattle.grid_rules.proofs.Sound.{given-other}
 
 module _ (text : List ℕ) where
   abbrev lines : List (List ℕ)

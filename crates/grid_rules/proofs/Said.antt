@@ -15,7 +15,8 @@ use Rattle.text.specs.Same.{sameText}
 use Rattle.text.specs.Spelled.{bytes}
 use Rattle.text.proofs.Digits.{either, got-value}
 use Rattle.grid.specs.Row.{all, valuesOf, given, isValue, isRow, hasValues, rowGiven, levelIn, levelsOf}
-use Rattle.grid.specs.File.{ncols, nrows, xllcenter, yllcenter, cellsize, begins, numberAfter, numberAt, names, sixth, headOn, namedOn, frameOf, noDataOf, rowsOf, faultLine, rowsFit}
+use Rattle.grid.specs.File.{ncols, nrows, xllcenter, yllcenter, cellsize, begins, numberAfter, numberAt, names, sixth}
+use Rattle.grid.specs.File.{headOn, namedOn, frameOf, noDataOf, rowsOf, faultLine, rowsFit}
 use Rattle.grid.specs.Read.{textFrame, textLevels, readRefusal, headerAfter, levelsAfter}
 use Rattle.grid.proofs.ReadLaws.{fit-both, fit-length, Passed, passed}
 use Rattle.grid.proofs.Values.{key-line, value-is, same-equal, same-self}

@@ -7,7 +7,7 @@ use lib.ListN.{length, getD, take, drop}
 use Rattle.text.specs.Line.{linesOf}
 use Rattle.text.specs.Field.{countOf, fieldOf}
 use Rattle.text.specs.Number.{showWhole, showLevel}
-use Rattle.text.specs.Spelled.{bytes, byte, crlf}
+use Rattle.text.specs.Spelled.{bytes, byte}
 use Rattle.network.specs.declared.Frame.{Frame}
 
 -- line k of a text, counted from 0
@@ -73,4 +73,4 @@ levelsIn header levels = take (getD header 1 0 * getD header 0 0) levels
 pub record Written (text levels : List ℕ) (f : Frame) : Type 0 where
   pub laid : Laid text levels f 5
   pub before : List ℕ
-  pub ended : text ≡ before ++ crlf
+  pub ended : text ≡ before ++ bytes "\r\n"

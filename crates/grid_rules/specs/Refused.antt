@@ -36,7 +36,8 @@ pub record Naming (l : List ℕ) : Type 0 where
   pub point : Bool
   pub number : ℕ
   pub most : number < cond point 100000 10000000
-  pub is : l ≡ bytes "NODATA_value " ++ (cond minus (bytes "-") [] ++ cond point (showLevel number) (showWhole number))
+  pub is : l
+      ≡ bytes "NODATA_value " ++ (cond minus (bytes "-") [] ++ cond point (showLevel number) (showWhole number))
 
 -- a row: each value is a level or spelled as no data is
 abbrev pub RowOn : (nodata l : List ℕ) → Type 0

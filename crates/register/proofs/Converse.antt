@@ -24,8 +24,10 @@ use Rattle.text.proofs.Digits.{either, got-value}
 use Rattle.text.proofs.Fields.{fields-joined}
 use Rattle.text.proofs.Indices.{every-each, many-zero, many-full, listing-at, listing-same, length-listing}
 use Rattle.register.specs.Cell.{cellAt, gotAt, valueAt, blankAt, cellText, cellsOf}
-use Rattle.register.specs.Row.{eightFrom, fieldsOf, rowLayout, cellsLayout, layoutOf, faultOf, rowRefusal, answerNumber, RowRead}
-use Rattle.register.specs.Write.{columns, textAt, showLine, showRow, zeroWhereBlank, rowLevelsFit, writeFault, writeRefusal, writtenNumber, RowWritten}
+use Rattle.register.specs.Row.{eightFrom, fieldsOf, rowLayout, cellsLayout, layoutOf, faultOf, rowRefusal}
+use Rattle.register.specs.Row.{answerNumber, RowRead}
+use Rattle.register.specs.Write.{columns, textAt, showLine, showRow, zeroWhereBlank, rowLevelsFit, writeFault}
+use Rattle.register.specs.Write.{writeRefusal, writtenNumber, RowWritten}
 use Rattle.register.specs.declared.cell.Table.the-variants.{Register}
 use Rattle.register.specs.declared.row.Layout.{Layout}
 use Rattle.register.specs.declared.row.Answer.{Answer}

@@ -22,8 +22,10 @@ use Rattle.text.proofs.Indices.{every-all, many-no, many-all, listing-at, listi
 use Rattle.text.proofs.Lines.{bare-back}
 use Rattle.text.proofs.Shown.{level-least}
 use Rattle.register.specs.Cell.{rowCell, cellAt, gotAt, valueAt, blankAt, cellText, cellsOf, gotCells}
-use Rattle.register.specs.Row.{eightFrom, rowLayout, cellsLayout, layoutOf, faultOf, rowRefusal, answerNumber, answerValues, fieldList, RowRead}
-use Rattle.register.specs.Write.{columns, textAt, showLine, showRow, writeFault, writeRefusal, writtenNumber, RowWritten}
+use Rattle.register.specs.Row.{eightFrom, rowLayout, cellsLayout, layoutOf, faultOf, rowRefusal, answerNumber}
+use Rattle.register.specs.Row.{answerValues, fieldList, RowRead}
+use Rattle.register.specs.Write.{columns, textAt, showLine, showRow, writeFault, writeRefusal, writtenNumber}
+use Rattle.register.specs.Write.{RowWritten}
 use Rattle.register.specs.declared.cell.Table.the-variants.{Register}
 use Rattle.register.specs.declared.row.Fields.{Fields}
 use Rattle.register.specs.declared.row.Layout.{Layout}

@@ -124,7 +124,7 @@ pub fn read_layout(s: &[u8], points: u32) -> Layout
     if points == 0 {
         return off_layout();
     }
-    if 8 < points {
+    if MAX_POINTS < points as usize {
         return off_layout();
     }
     let n = bare_length(s);

@@ -9,6 +9,7 @@ use crate::column::TYPE;
 use crate::letter::put_letter;
 use crate::row::Fields;
 use crate::row::fault;
+use movement::limits::MAX_POINTS;
 use movement::rules::levels_fit;
 use refusal::all_within;
 use text::core::put_byte;
@@ -92,7 +93,8 @@ fn value_at(f: Fields, levels: &[u32], k: usize) -> u32
 // Writes a row's line; a column has at most eight bytes and a comma.
 fn put_line(out: &mut [u8], f: Fields, levels: &[u32]) -> usize
     requires { ⌜ Writable f (now levels) × (117 ≤ length (now out)) ⌝ }
-    ensures { λ r. ⌜ Wrote (now (out .entry)) 0 (showLine f (now (levels .entry))) (now (out .exit)) r × (r ≤ 117) ⌝ }
+    ensures { λ r. ⌜ Wrote (now (out .entry)) 0 (showLine f (now (levels .entry))) (now (out .exit)) r
+        × (r ≤ 117) ⌝ }
 {
     let mark = f.computed;
     let mut at = 0;
@@ -108,7 +110,8 @@ fn put_line(out: &mut [u8], f: Fields, levels: &[u32]) -> usize
 // Writes a row with its CRLF.
 fn put_row(out: &mut [u8], f: Fields, levels: &[u32]) -> usize
     requires { ⌜ Writable f (now levels) × (119 ≤ length (now out)) ⌝ }
-    ensures { λ r. ⌜ Wrote (now (out .entry)) 0 (showRow f (now (levels .entry))) (now (out .exit)) r × (r ≤ 119) ⌝ }
+    ensures { λ r. ⌜ Wrote (now (out .entry)) 0 (showRow f (now (levels .entry))) (now (out .exit)) r
+        × (r ≤ 119) ⌝ }
 {
     let at = put_line(out, f, levels);
     let end = put_byte(out, at, b'\r');
@@ -135,7 +138,7 @@ fn write_fault(f: Fields, levels: &[u32], points: u32) -> u32
     if points == 0 {
         return 9;
     }
-    if 8 < points {
+    if MAX_POINTS < points as usize {
         return 9;
     }
     if 1 < f.computed {

@@ -40,7 +40,8 @@ module _ (d : ℕ) (low : d < 46) where
   decimal-free k n =
       let t = showDigits k (n % 10 ^ k) in
       let rest : countOf d t ≡ 0 = ap (countOf d) (sym (append-nil t)) ∙ digits-free k (n % 10 ^ k) [] ∙ nil-free in
-      count-append d (showWhole (n / 10 ^ k)) (46 ∷ t) ∙ rw (shown-free 7 (n / 10 ^ k), byte-free 46 t (omega arith), rest)
+      count-append d (showWhole (n / 10 ^ k)) (46 ∷ t)
+      ∙ rw (shown-free 7 (n / 10 ^ k), byte-free 46 t (omega arith), rest)
 
   pub level-free : (n : ℕ) → countOf d (showLevel n) ≡ 0
   level-free n = decimal-free 2 n

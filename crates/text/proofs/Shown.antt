@@ -3,13 +3,15 @@ use Prim.Native.Nat.{ℕ, zero, suc, _+_, _-_, _*_, _/_, _%_, _<_, _≤_, _^_}
 use mathlib.Core.Path.{_≡_, refl, sym, ap, _∙_}
 use mathlib.Core.List.{List, [], _∷_, _++_}
 use mathlib.Core.Bool.{false, _&&_, and-false}
-use native.Mathlib.Nat.{pow-suc, pow-succ', pow-zero, pow-le-pow-right, zero-lt-suc, add-mul, mul-assoc, div-one, mod-lt, div-add-mod', div-lt-iff-lt-mul}
+use native.Mathlib.Nat.{pow-suc, pow-succ', pow-zero, pow-le-pow-right, zero-lt-suc, add-mul, mul-assoc, div-one}
+use native.Mathlib.Nat.{mod-lt, div-add-mod', div-lt-iff-lt-mul}
 use native.Mathlib.Omega.{arith}
 use borrow.Author.Tests.{le-leb, lt-ltb, le-ltb, ltb-true, ltb-false, ne-eqb, eqb-true, eqb-false}
 use lib.ListN.{length, getD, length-append, List·getD-append}
 use lib.Seq.{take-append-seam, drop-append-add, getD-append-seam}
 use lib.Dec.{ltb, eqb}
-use Rattle.text.specs.Number.{isDigit, digitsOf, wholeOf, decimalOf, levelOf, joined, shown, showNumber, showWhole, showDigits, showDecimal, showLevel}
+use Rattle.text.specs.Number.{isDigit, digitsOf, wholeOf, decimalOf, levelOf, joined, shown, showNumber}
+use Rattle.text.specs.Number.{showWhole, showDigits, showDecimal, showLevel}
 use Rattle.text.specs.declared.number.Number.the-variants.{Got, Off}
 use Rattle.text.proofs.Digits.{either, digit-yes}
 
@@ -141,7 +143,9 @@ whole-back n h =
 
 -- a unit has some parts
 pub parts-some : (d : ℕ) → 0 < 10 ^ d
-parts-some d = let p : 10 ^ 0 ≤ 10 ^ d = pow-le-pow-right {n = 10} (omega arith) {i = 0} {j = d} (omega arith) in omega arith
+parts-some d =
+    let p : 10 ^ 0 ≤ 10 ^ d = pow-le-pow-right {n = 10} (omega arith) {i = 0} {j = d} (omega arith) in
+    omega arith
 
 -- a digit, and those after it
 pub digits-front : (d n : ℕ) → showDigits (suc d) n ≡ (48 + n / 10 ^ d) ∷ showDigits d (n % 10 ^ d)
@@ -179,7 +183,8 @@ lead (suc d) n p h e l =
 pub carried : (v q r d : ℕ) → (v * 10 + q) * 10 ^ d + r ≡ v * 10 ^ suc d + (q * 10 ^ d + r)
 carried v q r d =
     let a : (v * 10 + q) * 10 ^ d ≡ v * 10 * 10 ^ d + q * 10 ^ d = add-mul (v * 10) q (10 ^ d) in
-    let b : v * 10 ^ suc d ≡ v * 10 * 10 ^ d = ap (λ x. v * x) (pow-succ' 10 d) ∙ sym (mul-assoc v 10 (10 ^ d)) in
+    let b : v * 10 ^ suc d ≡ v * 10 * 10 ^ d =
+    ap (λ x. v * x) (pow-succ' 10 d) ∙ sym (mul-assoc v 10 (10 ^ d)) in
     omega arith
 
 -- d digits read on after `v`, and alone
@@ -192,9 +197,11 @@ digits-after (suc d) v n h =
     let least : n < 10 * u = omega (arith, pow-succ' 10 d) in
     let small : q < 10 = div-lt-iff-lt-mul {k = u} {x = n} {y = 10} (parts-some d) .1 least in
     let w : v * 10 + (48 + q - 48) ≡ v * 10 + q = omega arith in
-    let sum : (v * 10 + q) * u + n % u ≡ v * 10 ^ suc d + n = carried v q (n % u) d ∙ ap (λ m. v * 10 ^ suc d + m) (div-add-mod' n u) in
+    let sum : (v * 10 + q) * u + n % u ≡ v * 10 ^ suc d + n =
+    carried v q (n % u) d ∙ ap (λ m. v * 10 ^ suc d + m) (div-add-mod' n u) in
     ap (digitsOf v) (digits-front d n)
-    ∙ rw (digit-yes (48 + q) (omega arith) (omega arith), w) (digits-after d (v * 10 + q) (n % u) (mod-lt n (parts-some d)) ∙ ap Got sum)
+    ∙ rw (digit-yes (48 + q) (omega arith) (omega arith), w)
+    (digits-after d (v * 10 + q) (n % u) (mod-lt n (parts-some d)) ∙ ap Got sum)
 
 pub digits-back : (d n : ℕ) → n < 10 ^ d → digitsOf 0 (showDigits d n) ≡ Got n
 digits-back d n h = digits-after d 0 n h ∙ (let e : 0 * 10 ^ d + n ≡ n = omega arith in ap Got e)

@@ -1,5 +1,5 @@
--- The lines of a text. Only CRLF ends a line: a bare one of the two is a byte of its line. The last CRLF may be missing,
--- and a text of no bytes has no line. Assumes nothing.
+-- The lines of a text. Only CRLF ends a line: a bare one of the two is a byte of its line. The last CRLF may be
+-- missing, and a text of no bytes has no line. Assumes nothing.
 use Prim.Native.Nat.{ℕ, _+_, _-_}
 use mathlib.Core.List.{List, [], _∷_}
 use mathlib.Core.Bool.{Bool, cond, _&&_}

@@ -3,7 +3,7 @@
 use crate::number::Number;
 use crate::number::whole;
 ghost use mathlib.Core.Path.{_≡_};
-ghost use Prim.Native.Nat.{_+_, _*_, _/_, _^_, _≤_, _<_};
+ghost use Prim.Native.Nat.{_+_, _*_, _^_, _≤_, _<_};
 ghost use mathlib.Core.List.{[], _∷_};
 ghost use lib.ListN.{length, drop};
 ghost use Rattle.text.specs.Number.{digitsOf, maxDecimals, decimalOf, showNumber, showWhole};
@@ -179,7 +179,8 @@ pub fn put_digits(out: &mut [u8], at: usize, n: u32, d: usize) -> usize
 
 // A number with d decimals: its units, a point and d digits.
 pub fn put_decimal(out: &mut [u8], at: usize, n: u32, d: usize) -> usize
-    requires { ⌜ (d ≤ maxDecimals) × (n < 10000000 * 10 ^ d) × (at + length (showDecimal d n) ≤ length (now out)) ⌝ }
+    requires { ⌜ (d ≤ maxDecimals) × (n < 10000000 * 10 ^ d)
+        × (at + length (showDecimal d n) ≤ length (now out)) ⌝ }
     ensures { λ r. ⌜ Wrote (now (out .entry)) at (showDecimal d n) (now (out .exit)) r ⌝ }
 {
     let parts = power(d);

@@ -1,4 +1,5 @@
-// What the texts of RULES, "Files and the report program", share: numbers, fields, lines, and putting bytes into a lent buffer.
+// What the texts of RULES, "Files and the report program", share: numbers, fields, lines, and putting bytes into a lent
+// buffer.
 pub mod core;
 pub mod line;
 pub mod number;

@@ -8,7 +8,8 @@ use lib.Dec.{eqb}
 use lib.ListN.{length}
 use Rattle.grid.specs.Row.{isValue}
 use Rattle.grid.specs.InnerSteps.{isSound}
-use Rattle.grid.proofs.ValueLaws.{between, end-within, value-off, value-on, RowAt, row-start, row-off, row-last, row-next}
+use Rattle.grid.proofs.ValueLaws.{between, end-within, value-off, value-on, RowAt, row-start, row-off}
+use Rattle.grid.proofs.ValueLaws.{row-last, row-next}
 use Rattle.grid.proofs.judge.judge_row.Statement.{statement}
 use Rattle.grid.proofs.judge.judge_row.Tie as tie
 

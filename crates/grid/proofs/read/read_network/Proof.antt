@@ -6,7 +6,8 @@ use Rattle.room.specs.Room.{front}
 use Rattle.grid.specs.Read.{numbersOf}
 use Rattle.grid.specs.InnerSteps.{fileRead, shapeRefusal}
 use Rattle.grid.specs.declared.judge.File.the-variants.{On}
-use Rattle.grid.proofs.ReadLaws.{off-layout, shape-refused, rows-ready, product-small, no-header, no-levels, roomy-both, refused-outcome, read-outcome}
+use Rattle.grid.proofs.ReadLaws.{off-layout, shape-refused, rows-ready, product-small, no-header, no-levels}
+use Rattle.grid.proofs.ReadLaws.{roomy-both, refused-outcome, read-outcome}
 use borrow.Author.Needs.{needs}
 use Rattle.grid.proofs.read.read_network.Statement.{statement}
 use Rattle.grid.proofs.read.read_network.Tie as tie

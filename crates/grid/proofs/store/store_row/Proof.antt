@@ -9,7 +9,8 @@ use Rattle.room.specs.Room.{put}
 use Rattle.room.proofs.Laws.{put-step, wrote-none}
 use Rattle.grid.specs.Row.{rowLevels}
 use Rattle.grid.proofs.ValueLaws.{end-within}
-use Rattle.grid.proofs.StoreLaws.{StoreAt, store-start, store-here, store-room, store-next, store-last, length-levels}
+use Rattle.grid.proofs.StoreLaws.{StoreAt, store-start, store-here, store-room, store-next, store-last}
+use Rattle.grid.proofs.StoreLaws.{length-levels}
 use Rattle.grid.proofs.store.store_row.Statement.{statement}
 use Rattle.grid.proofs.store.store_row.Tie as tie
 

@@ -56,10 +56,16 @@ unfolding decimalOf
 opened c =
     let s = text c in
     let d = decimals c in
-    simp (le-leb (d + 2) (length s) (omega arith), le-leb (length s) (d + 4) (omega arith), eq-eqb (getD s (length s - (d + 1)) 0) 46 (c .if3 .left))
+    simp (
+      le-leb (d + 2) (length s) (omega arith),
+      le-leb (length s) (d + 4) (omega arith),
+      eq-eqb (getD s (length s - (d + 1)) 0) 46 (c .if3 .left),
+    )
 
 slice-aggregate-whole : tie.Need-slice-aggregate-whole
-slice-aggregate-whole c = let s = text (c .before) in sym (length-take-le (length s - (decimals (c .before) + 1)) s (omega arith))
+slice-aggregate-whole c =
+    let s = text (c .before) in
+    sym (length-take-le (length s - (decimals (c .before) + 1)) s (omega arith))
 
 returns-4 : tie.Need-returns-4
 returns-4 c =
@@ -95,7 +101,8 @@ small c =
     let s = text at-tests in
     let d = decimals at-tests in
     let point = length s - (d + 1) in
-    let few = whole-below (take point s) _ (rw (length-take-le point s (omega arith)) (omega arith)) (units (read at-parts)) in
+    let three : length (take point s) ≤ 3 = rw (length-take-le point s (omega arith)) (omega arith) in
+    let few = whole-below (take point s) _ three (units (read at-parts)) in
     let power : 10 ^ d ≤ 10 ^ 6 = pow-le-pow-right {n = 10} (omega arith) {i = d} {j = 6} (omega arith) in
     let most : c .power .result ≤ 1000000 = omega (arith, c .power .ensures) in
     let less : read at-parts .before .units .given .0 .0 ≤ 999 = omega arith in

@@ -17,7 +17,8 @@ abbrev μ-loop : tie.MeasureT-loop
 mul-parts : tie.Need-mul-parts Inv-loop μ-loop
 mul-parts c =
     let l = c .before .loop in
-    let few : 10 ^ l .i ≤ 10 ^ 6 = pow-le-pow-right {n = 10} (omega arith) {i = l .i} {j = 6} (omega (arith, c .before .before .pre)) in
+    let fewer : l .i ≤ 6 = omega (arith, c .before .before .pre) in
+    let few : 10 ^ l .i ≤ 10 ^ 6 = pow-le-pow-right {n = 10} (omega arith) {i = l .i} {j = 6} fewer in
     omega (arith, l .inv .0)
 
 loop-again : tie.Need-loop-again Inv-loop μ-loop

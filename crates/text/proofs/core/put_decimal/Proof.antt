@@ -1,4 +1,5 @@
--- `text::core::put_decimal` meets its contract: the units, a point and the decimals, each past the other. Assumes nothing.
+-- `text::core::put_decimal` meets its contract: the units, a point and the decimals, each past the other.
+-- Assumes nothing.
 use Prim.Native.Nat.{_+_, _*_, _/_, _%_, _^_, _≤_, _<_}
 use mathlib.Core.Path.{_≡_}
 use native.Mathlib.Nat.{div-lt-iff-lt-mul, mod-lt}
@@ -15,11 +16,14 @@ use Rattle.text.proofs.core.put_decimal.Tie as tie
 units : (c : tie.After-power) → c .before .before .args .n / c .power .result < 10000000
 units c =
     let s = c .before .before in
-    rw (c .power .ensures) (div-lt-iff-lt-mul {k = 10 ^ s .args .d} {x = s .args .n} {y = 10000000} (parts-some (s .args .d)) .1 (s .pre .1))
+    let d = s .args .d in
+    rw (c .power .ensures) (div-lt-iff-lt-mul {k = 10 ^ d} {x = s .args .n} {y = 10000000} (parts-some d) .1 (s .pre .1))
 
 room : (c : tie.After-power) → let a = c .before .before .args in
     a .at + length (showWhole (a .n / c .power .result)) + 1 + a .d ≤ length (a .out .now)
-room c = let s = c .before .before in rw (c .power .ensures) (omega (arith, s .pre .2, decimal-long (s .args .d) (s .args .n)))
+room c =
+    let s = c .before .before in
+    rw (c .power .ensures) (omega (arith, s .pre .2, decimal-long (s .args .d) (s .args .n)))
 
 put-whole-requires : tie.Need-put-whole-requires
 put-whole-requires c κs = (units (c .before), omega (arith, room (c .before)))
@@ -54,7 +58,8 @@ returns c =
     let s = at-power .before .before in
     let long = digits-long (s .args .d) (s .args .n % 10 ^ s .args .d) in
     wrote-then (s .pre .2) (rw power at (whole .ensures))
-    (wrote-then (omega (arith, room at-power, whole .ensures .place, rw power at (whole .ensures .place), whole .kept .0)) (at-point .put-byte .ensures) (rw power at (digits .ensures)))
+    (wrote-then (omega (arith, room at-power, whole .ensures .place, whole .kept .0))
+    (at-point .put-byte .ensures) (rw power at (digits .ensures)))
 
 pub put-decimal-spec : {M : Type 1} → statement M
 put-decimal-spec =
