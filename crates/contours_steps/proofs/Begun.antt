@@ -11,6 +11,7 @@ use lib.Seq.{drop-append-le, drop-drop}
 use Rattle.text.specs.Line.{firstLine, linesOf}
 use Rattle.text.proofs.Digits.{either}
 use Rattle.text.proofs.Lines.{line-length, lines-step}
+use Rattle.text.proofs.Streams.{stream-line}
 use Rattle.grid.specs.File.{faultLine}
 use Rattle.contours_steps.specs.Sheet.{lineBegun, overlongLine}
 
@@ -24,25 +25,6 @@ line-room (c ∷ d ∷ s) h =
     (λ yes. rw yes (omega arith))
     (λ no. let l : suc (length (firstLine (d ∷ s))) < suc (suc (length s)) = rw no at h in
     rw no (omega (arith, line-room (d ∷ s) (omega arith))))
-
--- a line that is ended stays the first, whatever follows
-first-stays : (s t : List ℕ) → length (firstLine s) + 2 ≤ length s → firstLine (s ++ t) ≡ firstLine s
-unfolding firstLine
-first-stays [] t h = absurd (omega arith)
-first-stays (c ∷ []) t h = absurd (omega arith)
-first-stays (c ∷ (d ∷ s)) t h = go (eqb c 13 && eqb d 10) h (first-stays (d ∷ s) t)
-  where
-    go : (b : Bool) → length (cond b [] (c ∷ firstLine (d ∷ s))) + 2 ≤ suc (suc (length s))
-        → (length (firstLine (d ∷ s)) + 2 ≤ suc (length s) → firstLine ((d ∷ s) ++ t) ≡ firstLine (d ∷ s))
-        → cond b [] (c ∷ firstLine ((d ∷ s) ++ t)) ≡ cond b [] (c ∷ firstLine (d ∷ s))
-    go true h r = refl
-    go false h r = ap (λ (l : List ℕ). c ∷ l) (r (omega arith))
-
-pub stream-line : (s t : List ℕ) → length (firstLine s) + 2 ≤ length s
-    → linesOf (s ++ t) ≡ firstLine s ∷ linesOf (drop (length (firstLine s) + 2) s ++ t)
-stream-line s t h =
-    lines-step (s ++ t) (rw (length-append s t) (omega arith))
-    ∙ rw (first-stays s t h, drop-append-le (length (firstLine s) + 2) s t h) refl
 
 -- with no line end ahead the next byte stands in the first line
 pub unended : (s : List ℕ) → length s ≤ length (firstLine s)

@@ -24,7 +24,7 @@ use Rattle.grid.specs.File.{begins, ncols, nrows, xllcenter, yllcenter, cellsiz
 use Rattle.grid.specs.Read.{linesRefusal}
 use Rattle.grid.proofs.ReadLaws.{fit-both}
 use Rattle.grid.proofs.ValueLaws.{all-cons}
-use Rattle.grid.proofs.Values.{same-equal}
+use Rattle.text.proofs.Sames.{same-equal}
 use Rattle.contours_steps.specs.Sheet.{textRefusal, maxText}
 
 -- ---- lists of texts, each with `more` bytes behind it

@@ -17,7 +17,8 @@ use Rattle.grid.specs.File.{ncols, nrows, xllcenter, yllcenter, cellsize, unnam
 use Rattle.contours_steps.specs.Sheet.{lineBegun, maxText, overlongLine}
 use Rattle.contours_steps.specs.Told.{FillsRoom}
 use Rattle.contours_steps.proofs.Overlong.{overlong-twelve}
-use Rattle.contours_steps.proofs.Begun.{line-room, stream-line, unended}
+use Rattle.text.proofs.Streams.{stream-line}
+use Rattle.contours_steps.proofs.Begun.{line-room, unended}
 
 -- ---- a line that is ended stays, whatever follows
 

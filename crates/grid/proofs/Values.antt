@@ -20,6 +20,7 @@ use Rattle.text.proofs.Exact.{whole-exact, level-exact}
 use Rattle.text.proofs.Free.{shown-free, level-free}
 use Rattle.text.proofs.Fields.{count-append}
 use Rattle.network.specs.Limits.{maxNetworkLevel}
+use Rattle.text.proofs.Sames.{same-equal, same-self}
 use Rattle.grid.specs.Row.{all, valuesOf, given, isValue, levelIn}
 use Rattle.grid.specs.File.{unnamed, begins, numberAfter, names}
 use Rattle.grid.specs.Write.{keyLine, rowLine, textOf}
@@ -77,23 +78,6 @@ row-free [] = refl
 row-free (v ∷ []) = level-free 13 (omega arith) v
 row-free (v ∷ w ∷ vs) =
     count-append 13 (showLevel v) (32 ∷ joinedBy 32 (map showLevel (w ∷ vs))) ∙ omega (arith, level-free 13 (omega arith) v, row-free (w ∷ vs))
-
--- ---- a text is itself, and no other
-
-pub same-self : (s : List ℕ) → sameText s s ≡ true
-unfolding sameText
-same-self [] = refl
-same-self (c ∷ s) = rw (eq-eqb c c refl) (same-self s)
-
-pub same-equal : (a b : List ℕ) → sameText a b ≡ true → a ≡ b
-unfolding sameText
-same-equal [] [] e = refl
-same-equal [] (y ∷ b) e = absurd (true≢false (sym e))
-same-equal (x ∷ a) [] e = absurd (true≢false (sym e))
-same-equal (x ∷ a) (y ∷ b) e =
-    let p = eqb-true x y (and-left (eqb x y) (sameText a b) e) in
-    let q = same-equal a b (and-right (eqb x y) (sameText a b) e) in
-    rw (p, q)
 
 -- ---- levels that were written
 

@@ -24,7 +24,8 @@ use Rattle.grid.specs.Row.{all, valuesOf, isValue, isRow}
 use Rattle.grid.specs.File.{unnamed, numberAfter, isNumber, isSpelling, namesWell, headOn, namedOn, noDataOf, rowsOf}
 use Rattle.grid.specs.File.{firstOff, faultLine}
 use Rattle.grid.proofs.ValueLaws.{all-cons, all-none}
-use Rattle.grid.proofs.Values.{same-equal, same-self, number-back, key-line}
+use Rattle.text.proofs.Sames.{same-equal, same-self}
+use Rattle.grid.proofs.Values.{number-back, key-line}
 use Rattle.grid_rules.specs.Laid.{line, Named, Behind}
 use Rattle.grid_rules.specs.Refused.{keys, Keyed, Level, Naming, RowOn, LineOn, Fault}
 use Rattle.grid_rules.proofs.Places.{test-at, all-at, map-at, value-field, value-count}

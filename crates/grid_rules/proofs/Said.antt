@@ -19,7 +19,8 @@ use Rattle.grid.specs.File.{ncols, nrows, xllcenter, yllcenter, cellsize, begin
 use Rattle.grid.specs.File.{headOn, namedOn, frameOf, noDataOf, rowsOf, faultLine, rowsFit}
 use Rattle.grid.specs.Read.{textFrame, textLevels, readRefusal, headerAfter, levelsAfter}
 use Rattle.grid.proofs.ReadLaws.{fit-both, fit-length, Passed, passed}
-use Rattle.grid.proofs.Values.{key-line, value-is, same-equal, same-self}
+use Rattle.text.proofs.Sames.{same-equal, same-self}
+use Rattle.grid.proofs.Values.{key-line, value-is}
 use Rattle.grid_rules.specs.Laid.{line, Named, Headed, Sized, Laid, Says, frameIn, levelsIn}
 use Rattle.grid_rules.proofs.Places.{test-at, all-at, map-at, value-field, value-count, level-at}
 

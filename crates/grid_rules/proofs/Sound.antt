@@ -19,7 +19,7 @@ use Rattle.network.specs.declared.Frame.{Frame}
 use Rattle.network.proofs.Refusals.{both, in-between}
 use Rattle.grid.specs.Row.{valuesOf, given, levelIn, rowLevels, levelsOf}
 use Rattle.grid.proofs.ReadLaws.{up-append}
-use Rattle.grid.proofs.Values.{same-equal, same-self}
+use Rattle.text.proofs.Sames.{same-equal, same-self}
 use Rattle.grid_rules.specs.Refused.{InRange}
 use Rattle.grid_rules.proofs.Places.{map-at, value-field, value-count}
 use Rattle.grid_rules.proofs.Ordered.{both-true}

@@ -11,7 +11,7 @@ use Rattle.network.specs.Refusals.{networkRefusal}
 use Rattle.network.specs.declared.Frame.{Frame}
 use Rattle.grid.specs.File.{begins, names}
 use Rattle.grid.specs.Write.{textOf, networkLines, showNetwork, writeRefusal, textAfter, sizeAfter}
-use Rattle.grid.proofs.Values.{same-self}
+use Rattle.text.proofs.Sames.{same-self}
 use Rattle.grid.proofs.Back.{lines-back, sixth-row, frame-back, levels-back, refusal-back, written-file}
 use Rattle.grid_rules.specs.Laid.{Named, Written}
 use Rattle.grid_rules.proofs.Said.{says}

@@ -33,7 +33,7 @@ use Rattle.register.specs.declared.row.Answer.{Answer}
 use Rattle.register.specs.declared.write.Written.{Written}
 use Rattle.register.proofs.Columns.{text-no-comma, text-back, text-blank, text-marked, shown-level}
 use Rattle.register.proofs.Writes.{Fine, fault-fine, fine-writable, column-level}
-use Rattle.register.proofs.Rows.{first-none}
+use Rattle.room.proofs.Answers.{first-none}
 
 -- the layout of a row with its levels, zero past them
 abbrev pub onLayout : Fields → List ℕ → Layout

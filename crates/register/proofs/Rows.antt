@@ -17,16 +17,10 @@ use Rattle.text.proofs.Digits.{either, passed}
 use Rattle.register.specs.Cell.{cellsOf}
 use Rattle.register.specs.Row.{pointsFit, layoutOf, faultOf, rowRefusal}
 use Rattle.register.specs.Header.{headerOf}
+use Rattle.room.proofs.Answers.{first-none}
 use Rattle.register.specs.declared.cell.Table.{Table}
 use Rattle.register.specs.declared.row.Layout.{Layout}
 use Rattle.register.proofs.Readings.{cells-other}
-
--- no refusal, and none after it
-pub first-none : (a b : ℕ) → first a b ≡ 0 → (a ≡ 0) × (b ≡ 0)
-first-none a b e =
-    either (eqb a 0)
-    (λ yes. (eqb-true a 0 yes, rw yes at e))
-    (λ no. let z : a ≡ 0 = rw no at e in (z, absurd (eqb-false a 0 no z)))
 
 -- a row that was read: its layout, its rules and its room
 pub row-none : (n : ℕ) (l : Layout) (room : ℕ) → rowRefusal n l room ≡ 0

@@ -6,15 +6,11 @@ use native.Mathlib.Nat.{zero-add}
 use native.Mathlib.Omega.{arith}
 use lib.ListN.{length, drop, length-append}
 use Rattle.room.specs.Room.{front, put, Wrote}
+use Rattle.room.proofs.Answers.{front-put}
 use Rattle.room.proofs.Laws.{wrote-then, wrote-none, length-wrote}
 
--- what is put at the start stands at the front
-pub put-front : {A : Type 0} (room answer : List A) → put room 0 answer ≡ front answer room
-unfolding put
-put-front room answer = ap (λ n. answer ++ drop n room) (zero-add (length answer))
-
 pub wrote-leaves : {old text new : List ℕ} {r : ℕ} → Wrote old 0 text new r → new ≡ front text old
-wrote-leaves {old} {text} w = w .bytes ∙ put-front old text
+wrote-leaves {old} {text} w = w .bytes ∙ front-put old text
 
 -- what of a text is done, and what is left of it
 pub record Writing (old : List ℕ) (from : ℕ) (text new : List ℕ) (at : ℕ) (rest : List ℕ) : Type 0 where

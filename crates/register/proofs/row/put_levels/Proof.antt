@@ -5,7 +5,7 @@ use native.Mathlib.Omega.{arith}
 use lib.ListN.{length, take, length-set}
 use Rattle.room.specs.Room.{put}
 use Rattle.room.proofs.Laws.{put-step, wrote-none}
-use Rattle.room.proofs.Writing.{put-front}
+use Rattle.room.proofs.Answers.{front-put}
 use borrow.Author.Needs.{needs}
 use Rattle.register.proofs.row.put_levels.Statement.{statement}
 use Rattle.register.proofs.row.put_levels.Tie as tie
@@ -32,7 +32,7 @@ loop-again c =
 returns : tie.Need-returns Inv-loop μ-loop
 returns c =
     let e : c .before .loop .i ≡ c .before .before .args .n = omega arith in
-    rw e at (c .before .loop .inv .0) ∙ put-front _ _
+    rw e at (c .before .loop .inv .0) ∙ front-put _ _
 
 pub put-levels-spec : {M : Type 1} → statement M
 put-levels-spec =
