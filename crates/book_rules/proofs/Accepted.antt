@@ -13,7 +13,8 @@ use Rattle.movement.specs.Limits.{maxIdentity, maxMass, typeCount, kindCount, s
 use Rattle.movement.specs.Aircraft.{aircraftNumbered, massFits}
 use Rattle.movement.specs.Rules.{fieldsFit, counts, movementRefusal, identityFits, levelsFit}
 use Rattle.book_rules.specs.Columns.{Book, indexOf, stands, sound}
-use Rattle.book_rules.specs.Calls.{Call, Called, refusedOr, enterRefusal, supplyRefusal, takeBackRefusal, withdrawRefusal, soundRefusal, refusal, changed, after}
+use Rattle.book_rules.specs.Calls.{Call, Called, refusedOr, enterRefusal, supplyRefusal, takeBackRefusal}
+use Rattle.book_rules.specs.Calls.{withdrawRefusal, soundRefusal, refusal, changed, after}
 
 -- The tests that an accepted call passed
 
@@ -42,18 +43,25 @@ entered ids x t k s m e =
     record { fields = r₁ .0; identity= = r₃ .0; new = r₄ .0; unused = r₆ .0 }
 
 -- type, kind and time of fields that fit are in range
-pub fields-in : (t k s m : ℕ) → fieldsFit t k s m ≡ true → (t < typeCount) × (k < kindCount) × (s < secondsADay)
+pub fields-in : (t k s m : ℕ) → fieldsFit t k s m ≡ true
+    → (t < typeCount) × (k < kindCount) × (s < secondsADay)
 unfolding fieldsFit
 fields-in t k s m e =
-    let a = and-left ((ltb t typeCount && ltb k kindCount) && (ltb s secondsADay && leb m maxMass)) (massFits (aircraftNumbered t) m) e in
+    let a = and-left ((ltb t typeCount && ltb k kindCount) && (ltb s secondsADay && leb m maxMass))
+    (massFits (aircraftNumbered t) m) e in
     let d = and-left (ltb t typeCount && ltb k kindCount) (ltb s secondsADay && leb m maxMass) a in
-    let c = and-right (ltb t typeCount && ltb k kindCount) (ltb s secondsADay && leb m maxMass) a in
-    (ltb-true t typeCount (and-left (ltb t typeCount) (ltb k kindCount) d), ltb-true k kindCount (and-right (ltb t typeCount) (ltb k kindCount) d), ltb-true s secondsADay (and-left (ltb s secondsADay) (leb m maxMass) c))
+    let c = and-right (ltb t typeCount && ltb k kindCount) (ltb s secondsADay && leb m maxMass) a in (
+      ltb-true t typeCount (and-left (ltb t typeCount) (ltb k kindCount) d),
+      ltb-true k kindCount (and-right (ltb t typeCount) (ltb k kindCount) d),
+      ltb-true s secondsADay (and-left (ltb s secondsADay) (leb m maxMass) c),
+    )
 
 pub identity-in : (x : ℕ) → identityFits x ≡ true → (1 ≤ x) × (x ≤ maxIdentity)
 unfolding identityFits
-identity-in x e =
-    (leb-true 1 x (and-left (leb 1 x) (leb x maxIdentity) e), leb-true x maxIdentity (and-right (leb 1 x) (leb x maxIdentity) e))
+identity-in x e = (
+  leb-true 1 x (and-left (leb 1 x) (leb x maxIdentity) e),
+  leb-true x maxIdentity (and-right (leb 1 x) (leb x maxIdentity) e),
+)
 
 pub levels-length : (p : ℕ) (ls : List ℕ) → levelsFit p ls ≡ true → length ls ≡ p
 unfolding levelsFit
@@ -96,7 +104,8 @@ unfolding enterRefusal
 enter-refused ids x t k s m h = rw (ne-eqb (movementRefusal t k s m) 0 h) refl
 
 pub enter-allowed : (ids : List ℕ) (x t k s m : ℕ) → movementRefusal t k s m ≡ 0
-    → enterRefusal ids x t k s m ≡ refuse 3 (identityFits x) (refuse 4 (not (stands x ids)) (refuse 6 (stands 0 ids) 0))
+    → enterRefusal ids x t k s m ≡ refuse 3 (identityFits x)
+    (refuse 4 (not (stands x ids)) (refuse 6 (stands 0 ids) 0))
 unfolding enterRefusal
 enter-allowed ids x t k s m e = rw e refl
 
@@ -128,7 +137,8 @@ unfolding after
 after-accepted p b c h = rw (eq-eqb (refusal p b c) 0 h) refl
 
 -- an accepted call finds a sound book, which refuses nothing
-pub accepted-sound : (p : ℕ) (b : Book) (c : Call) → refusal p b c ≡ 0 → (sound p b ≡ true) × (soundRefusal p b c ≡ 0)
+pub accepted-sound : (p : ℕ) (b : Book) (c : Call) → refusal p b c ≡ 0
+    → (sound p b ≡ true) × (soundRefusal p b c ≡ 0)
 unfolding refusal
 accepted-sound p b c e = refuse-none 9 (sound p b) (soundRefusal p b c) (omega arith) e
 
@@ -144,18 +154,21 @@ unsound {p} {b} {c} s =
     record { answer = sym e; book = sym (after-refused p b c (λ z. omega arith)) }
 
 -- a call that a sound book refuses keeps its promise if it changes nothing
-pub keeps : {p r : ℕ} {b : Book} {c : Call} → sound p b ≡ true → r ≡ soundRefusal p b c → (r ≡ 0 → ⊥) → Called p b c r b
+pub keeps : {p r : ℕ} {b : Book} {c : Call} → sound p b ≡ true → r ≡ soundRefusal p b c
+    → (r ≡ 0 → ⊥) → Called p b c r b
 keeps {p} {r} {b} {c} s e h =
     let a : r ≡ refusal p b c = e ∙ sym (refusal-sound p b c s) in
     record { answer = a; book = sym (after-refused p b c (λ z. h (a ∙ z))) }
 
 -- and one that it accepts if it makes the change
-pub meets : {p : ℕ} {b b′ : Book} {c : Call} → sound p b ≡ true → soundRefusal p b c ≡ 0 → b′ ≡ changed p b c
+pub meets : {p : ℕ} {b b′ : Book} {c : Call} → sound p b ≡ true → soundRefusal p b c ≡ 0
+    → b′ ≡ changed p b c
     → Called p b c 0 b′
 meets {p} {b} {b′} {c} s e h =
     let a : refusal p b c ≡ 0 = refusal-sound p b c s ∙ e in
     record { answer = sym a; book = h ∙ sym (after-accepted p b c a) }
 
 -- two outcomes of one call are equal: the contract is an equation for the answer and one for the book
-pub called-once : {p r s : ℕ} {b b′ b″ : Book} {c : Call} → Called p b c r b′ → Called p b c s b″ → (r ≡ s) × (b′ ≡ b″)
+pub called-once : {p r s : ℕ} {b b′ b″ : Book} {c : Call} → Called p b c r b′ → Called p b c s b″
+    → (r ≡ s) × (b′ ≡ b″)
 called-once x y = (x .answer ∙ sym (y .answer), x .book ∙ sym (y .book))

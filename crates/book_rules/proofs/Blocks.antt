@@ -5,8 +5,10 @@ use mathlib.Core.List.{List, [], _∷_, _++_, append-assoc}
 use Prim.Native.Nat.{ℕ, zero, suc, _+_, _*_, _≤_, _<_}
 use native.Mathlib.Nat.{suc-mul, zero-mul, add-mul, mul-le-mul-right}
 use native.Mathlib.Omega.{arith}
-use lib.ListN.{length, take, drop, replicate, length-append, length-replicate, take-append-drop, replicate-append-replicate}
-use lib.Seq.{take-at, drop-at, drop-drop, take-append-add, drop-append-add, take-append-le, drop-append-le, length-take-le}
+use lib.ListN.{length, take, drop, replicate, length-append, length-replicate, take-append-drop}
+use lib.ListN.{replicate-append-replicate}
+use lib.Seq.{take-at, drop-at, drop-drop, take-append-add, drop-append-add, take-append-le, drop-append-le}
+use lib.Seq.{length-take-le}
 use borrow.Author.Tests.{le-leb, lt-leb, eq-eqb, ne-eqb}
 use Rattle.room.specs.Room.{put}
 use Rattle.book_rules.specs.Columns.{opened, closed}
@@ -16,12 +18,14 @@ use Rattle.book_rules.specs.History.{Held, Movement, movement, added, ho
 pub data Place (x : ℕ) : List Movement → ℕ → Type 0 where
   last : Place x [] zero
   here : {a : Movement} {ms : List Movement} → x ≤ a .identity → Place x (a ∷ ms) zero
-  there : {a : Movement} {ms : List Movement} {k : ℕ} → a .identity < x → Place x ms k → Place x (a ∷ ms) (suc k)
+  there : {a : Movement} {ms : List Movement} {k : ℕ} → a .identity < x → Place x ms k
+      → Place x (a ∷ ms) (suc k)
 
 -- row k is that of the identity x
 pub data Found (x : ℕ) : List Movement → ℕ → Type 0 where
   this : {a : Movement} {ms : List Movement} → a .identity ≡ x → Found x (a ∷ ms) zero
-  later : {a : Movement} {ms : List Movement} {k : ℕ} → (a .identity ≡ x → ⊥) → Found x ms k → Found x (a ∷ ms) (suc k)
+  later : {a : Movement} {ms : List Movement} {k : ℕ} → (a .identity ≡ x → ⊥) → Found x ms k
+      → Found x (a ∷ ms) (suc k)
 
 pub place-length : {x k : ℕ} {ms : List Movement} → Place x ms k → k ≤ length ms
 place-length last = omega arith
@@ -34,11 +38,13 @@ pub added-last : (m : Movement) → added m [] ≡ m ∷ []
 unfolding added
 added-last m = refl
 
-pub added-here : (m a : Movement) (ms : List Movement) → m .identity ≤ a .identity → added m (a ∷ ms) ≡ m ∷ (a ∷ ms)
+pub added-here : (m a : Movement) (ms : List Movement) → m .identity ≤ a .identity
+    → added m (a ∷ ms) ≡ m ∷ (a ∷ ms)
 unfolding added
 added-here m a ms h = rw (le-leb (m .identity) (a .identity) h) refl
 
-pub added-there : (m a : Movement) (ms : List Movement) → a .identity < m .identity → added m (a ∷ ms) ≡ a ∷ added m ms
+pub added-there : (m a : Movement) (ms : List Movement) → a .identity < m .identity
+    → added m (a ∷ ms) ≡ a ∷ added m ms
 unfolding added
 added-there m a ms h = rw (lt-leb (m .identity) (a .identity) h) refl
 
@@ -82,7 +88,14 @@ module _ (f : Movement → List ℕ) (w : ℕ) where
   length-column u [] s = length-replicate (u * w) 0 ∙ ap (λ n. n * w) (omega arith)
   length-column u (a ∷ ms) s =
       let e : u + suc (length ms) ≡ suc (u + length ms) = omega arith in
-      omega (arith, length-append (f a) (column f w u ms), s .0, length-column u ms (s .1), suc-mul (u + length ms) w, ap (λ n. n * w) e)
+      omega (
+        arith,
+        length-append (f a) (column f w u ms),
+        s .0,
+        length-column u ms (s .1),
+        suc-mul (u + length ms) w,
+        ap (λ n. n * w) e,
+      )
 
   -- an unused row more
   pub column-more : (u : ℕ) (ms : List Movement) → column f w (suc u) ms ≡ column f w u ms ++ replicate w 0
@@ -144,7 +157,8 @@ put-is n vs xs =
 -- A change of a column is the change of the list
 
 module _ (f : Movement → List ℕ) (w : ℕ) where
-  place-bound : {x k : ℕ} {ms : List Movement} (u : ℕ) → Sized f w ms → Place x ms k → k * w ≤ length (column f w u ms)
+  place-bound : {x k : ℕ} {ms : List Movement} (u : ℕ) → Sized f w ms → Place x ms k
+      → k * w ≤ length (column f w u ms)
   place-bound {x} {k} {ms} u s h =
       omega (arith, length-column f w u ms s, mul-le-mul-right w (place-length h), add-mul u (length ms) w)
 
@@ -160,7 +174,8 @@ module _ (f : Movement → List ℕ) (w : ℕ) where
       ∙ ap (column f w u) (sym (added-there m a ms h))
 
   -- a row goes in, and takes an unused one
-  pub column-in : {n k : ℕ} {ms : List Movement} (u : ℕ) (m : Movement) → n ≡ k * w → length (f m) ≡ w → Sized f w ms
+  pub column-in : {n k : ℕ} {ms : List Movement} (u : ℕ) (m : Movement) → n ≡ k * w → length (f m) ≡ w
+      → Sized f w ms
       → Place (m .identity) ms k
       → opened n (f m) (column f w (suc u) ms) ≡ column f w u (added m ms)
   column-in {n} {k} {ms} u m e g s h =
@@ -203,7 +218,8 @@ module _ (f : Movement → List ℕ) (w : ℕ) where
       ∙ ap (column f w u) (sym (holding-later x h a ms e))
 
   -- a row's values are replaced
-  pub column-held : {x n k : ℕ} {ms : List Movement} (vs : List ℕ) (u : ℕ) (h : Held) → n ≡ k * w → Sized f w ms
+  pub column-held : {x n k : ℕ} {ms : List Movement} (vs : List ℕ) (u : ℕ) (h : Held) → n ≡ k * w
+      → Sized f w ms
       → length vs ≡ w
       → ((a : Movement) → f (movement (a .identity) (a .group) h) ≡ vs) → Found x ms k
       → put (column f w u ms) n vs ≡ column f w u (holding x h ms)

@@ -1,6 +1,5 @@
 -- Demand 3 for the book: after any calls on an empty book, refused ones included, the columns are the rows of the list
--- of movements that the
--- accepted calls define, each call is answered as that list says, and the book stays sound. Assumes nothing.
+-- of movements that the accepted calls define, each call is answered as that list says, and the book stays sound. Assumes nothing.
 use mathlib.Core.Path.{_≡_, refl, sym, ap, subst, _∙_}
 use mathlib.Core.Bool.{Bool, true, false, cond, not, _&&_, _||_, true≢false}
 use mathlib.Core.List.{List, [], _∷_}
@@ -13,9 +12,13 @@ use borrow.Author.Tests.{lt-ltb, le-ltb, eq-eqb, ne-eqb, eqb-true, eqb-false}
 use Rattle.refusal.specs.Refuse.{refuse}
 use Rattle.movement.specs.Rules.{movementRefusal, identityFits, levelsFit}
 use Rattle.book_rules.specs.Columns.{Book, firstAt, indexOf, stands, sound}
-use Rattle.book_rules.specs.Calls.{Call, refusedOr, enterRefusal, supplyRefusal, takeBackRefusal, withdrawRefusal, soundRefusal, refusal, changed, after}
+use Rattle.book_rules.specs.Calls.{Call, refusedOr, enterRefusal, supplyRefusal, takeBackRefusal}
+use Rattle.book_rules.specs.Calls.{withdrawRefusal, soundRefusal, refusal, changed, after}
 use Rattle.book_rules.specs.Calls.Call.{enter, supply, takeBack, withdraw}
-use Rattle.book_rules.specs.History.{Held, Movement, Made, made, step, listOf, booked, answered, acceptedByRows, accepted, listAnswered, movements, standing, hasLevels, computed, sizesFit, standingRefusal, listRefusal, markOf, column, identityCell, markCell, levelCells, rowsOf, emptyBook, howOften, inOrder, HistoryHolds}
+use Rattle.book_rules.specs.History.{Held, Movement, Made, made, step, listOf, booked, answered, acceptedByRows}
+use Rattle.book_rules.specs.History.{accepted, listAnswered, movements, standing, hasLevels, computed, sizesFit}
+use Rattle.book_rules.specs.History.{standingRefusal, listRefusal, markOf, column, identityCell, markCell}
+use Rattle.book_rules.specs.History.{levelCells, rowsOf, emptyBook, howOften, inOrder, HistoryHolds}
 use Rattle.book_rules.specs.History.Held.{none, holds}
 use Rattle.book_rules.proofs.Shapes.{sound-fits}
 use Rattle.book_rules.proofs.Accepted.{identity-in, accepted-sound, after-refused, after-accepted}
@@ -23,97 +26,7 @@ use Rattle.book_rules.proofs.Blocks.{Found, length-column}
 use Rattle.book_rules.proofs.Blocks.Found.{this, later}
 use Rattle.book_rules.proofs.Standing.{AllGood, Below, Rising, sized-levels, book-sound}
 use Rattle.book_rules.proofs.Steps.{ids, none-zeros, first-cons, first-unused, length-ids, stood-at, stepped}
-
--- One call is refused as the list of movements says
-
-stands-is : (x u : ℕ) (ms : List Movement) → 1 ≤ x → stands x (ids u ms) ≡ standing x ms
-unfolding stands standing indexOf column
-stands-is x u [] l =
-    le-ltb _ _ (le-of-eq (length-replicate {A = ℕ} (u * 1) 0 ∙ sym (none-zeros (λ y. eqb y x) (u * 1) (ne-eqb 0 x (omega arith)))))
-stands-is x u (a ∷ ms) l = by (eqb (a .identity) x) refl (stands-is x u ms l)
-  where
-    at : ℕ → Bool
-    at y = eqb y x
-
-    by : (t : Bool) → eqb (a .identity) x ≡ t → ltb (firstAt at (ids u ms)) (length (ids u ms)) ≡ standing x ms
-        → ltb (firstAt at (ids u (a ∷ ms))) (suc (length (ids u ms))) ≡ (t || standing x ms)
-    by true e ih = rw (first-cons at u a ms e) (lt-ltb 0 (suc (length (ids u ms))) (omega arith))
-    by false e ih = rw (first-cons at u a ms e) (leb·suc-suc (suc (firstAt at (ids u ms))) (length (ids u ms)) ∙ ih)
-
-unused-is : (p u : ℕ) (ms : List Movement) → AllGood p ms → stands 0 (ids u ms) ≡ ltb (length ms) (u + length ms)
-unfolding stands
-unused-is p u ms g = rw (first-unused p u ms g, length-ids u ms) refl
-
-mark-held : (h : Held) → eqb (markOf h) 1 ≡ hasLevels h
-unfolding markOf hasLevels
-mark-held none = refl
-mark-held (holds ls) = refl
-
-mark-is : {x k : ℕ} {ms : List Movement} (u : ℕ) → Found x ms k
-    → eqb (getD (column markCell 1 u ms) k 0) 1 ≡ computed x ms
-unfolding column computed
-mark-is {x} u (this {a} {ms} e) = rw (eq-eqb (a .identity) x e) (mark-held (a .held))
-mark-is {x} u (later {a} {ms} e r) = rw (ne-eqb (a .identity) x e) (mark-is u r)
-
--- two refusals are the same where their tests are, and what follows a test may rely on it
-refuse-same : (n : ℕ) (t : Bool) {s : Bool} {a b : ℕ} → t ≡ s → (t ≡ true → a ≡ b) → refuse n t a ≡ refuse n s b
-refuse-same n t {s} {a} {b} e h = under t h ∙ ap (λ (k : Bool). refuse n k b) e
-  where
-    under : (r : Bool) → (r ≡ true → a ≡ b) → refuse n r a ≡ refuse n r b
-    under true f = f refl
-    under false f = refl
-
--- a book of these movements is sound for its own number of points only, and if its size is in range
-
-points-same : (p q u : ℕ) (ms : List Movement) → AllGood p ms → sound q (rowsOf p u ms) ≡ true → q ≡ p
-unfolding rowsOf
-points-same p q u ms g s =
-    let f = sound-fits q (rowsOf p u ms) s in
-    let n = u + length ms in
-    let e : n * q ≡ n * p = ap (λ k. k * q) (sym (length-ids u ms)) ∙ sym (f .levels=) ∙ length-column (levelCells p) p u ms (sized-levels p ms g) in
-    let some : 0 < n = omega (arith, f .rows≥, length-ids u ms) in
-    sym (mul-div-cancel-left q some) ∙ ap (λ k. k / n) e ∙ mul-div-cancel-left p some
-
-sound-points : (p q u : ℕ) (ms : List Movement) → AllGood p ms → Rising ms
-    → sound q (rowsOf p u ms) ≡ (eqb q p && sizesFit p (u + length ms))
-sound-points p q u ms g r = by (eqb q p) refl
-  where
-    never : (t : Bool) → sound q (rowsOf p u ms) ≡ t → (q ≡ p → ⊥) → t ≡ false
-    never false e n = refl
-    never true e n = absurd (n (points-same p q u ms g e))
-
-    by : (t : Bool) → eqb q p ≡ t → sound q (rowsOf p u ms) ≡ (t && sizesFit p (u + length ms))
-    by true e = ap (λ k. sound k (rowsOf p u ms)) (eqb-true q p e) ∙ book-sound p u ms g r
-    by false e = never (sound q (rowsOf p u ms)) refl (eqb-false q p e)
-
-sound-by-list : (p u : ℕ) (ms : List Movement) (c : Call) → AllGood p ms
-    → soundRefusal p (rowsOf p u ms) c ≡ standingRefusal p (u + length ms) ms c
-unfolding soundRefusal enterRefusal supplyRefusal takeBackRefusal withdrawRefusal standingRefusal rowsOf
-sound-by-list p u ms (enter x t k s m) g =
-    ap (refusedOr (movementRefusal t k s m))
-    (refuse-same 3 (identityFits x) refl λ e.
-    refuse-same 4 (not (stands x (ids u ms))) (ap not (stands-is x u ms (identity-in x e .0))) λ _.
-    refuse-same 6 (stands 0 (ids u ms)) (unused-is p u ms g) λ _. refl)
-sound-by-list p u ms (supply x ls) g =
-    refuse-same 3 (identityFits x) refl λ e.
-    refuse-same 7 (levelsFit p ls) refl λ _.
-    refuse-same 5 (stands x (ids u ms)) (stands-is x u ms (identity-in x e .0)) λ _. refl
-sound-by-list p u ms (takeBack x) g =
-    refuse-same 3 (identityFits x) refl λ e.
-    refuse-same 5 (stands x (ids u ms)) (stands-is x u ms (identity-in x e .0)) λ h.
-    refuse-same 8 (eqb (getD (column markCell 1 u ms) (indexOf x (ids u ms)) 0) 1) (mark-is u (stood-at p u x ms e h)) λ _. refl
-sound-by-list p u ms (withdraw x) g =
-    refuse-same 3 (identityFits x) refl λ e.
-    refuse-same 5 (stands x (ids u ms)) (stands-is x u ms (identity-in x e .0)) λ _. refl
-
--- a call, for any number of points, is refused as the list of movements says
-pub refusal-by-list : (p u : ℕ) (ms : List Movement) (c : Made) → AllGood p ms → Rising ms
-    → refusal (c .points) (rowsOf p u ms) (c .call) ≡ listRefusal p (u + length ms) ms c
-unfolding refusal listRefusal
-refusal-by-list p u ms c g r =
-    refuse-same 9 (sound (c .points) (rowsOf p u ms)) (sound-points p (c .points) u ms g r) λ s.
-    ap (λ k. soundRefusal k (rowsOf p u ms) (c .call)) (points-same p (c .points) u ms g s)
-    ∙ sound-by-list p u ms (c .call) g
+use Rattle.book_rules.proofs.ByList.{points-same, refusal-by-list}
 
 -- Any calls
 
@@ -133,20 +46,24 @@ refusal-told p n b ms c t =
     ∙ ap (λ k. listRefusal p k ms c) (t .same)
 
 -- an accepted call changes book and list alike
-told-step : (p n : ℕ) (b : Book) (ms : List Movement) (c : Made) → Told p n b ms → refusal (c .points) b (c .call) ≡ 0
+told-step : (p n : ℕ) (b : Book) (ms : List Movement) (c : Made) → Told p n b ms
+    → refusal (c .points) b (c .call) ≡ 0
     → Told p n (after (c .points) b (c .call)) (step ms (c .call))
 told-step p n b ms c t z =
     let q = c .points in
     let a = accepted-sound q b (c .call) z in
-    let k : q ≡ p = points-same p q (t .unused) ms (t .good) (subst (λ (x : Book). sound q x ≡ true) (t .rows) (a .0)) in
+    let k : q ≡ p = points-same p q (t .unused) ms (t .good)
+    (subst (λ (x : Book). sound q x ≡ true) (t .rows) (a .0)) in
     let e : soundRefusal p (rowsOf p (t .unused) ms) (c .call) ≡ 0 =
-    ap (λ i. soundRefusal i (rowsOf p (t .unused) ms) (c .call)) (sym k) ∙ ap (λ (x : Book). soundRefusal q x (c .call)) (sym (t .rows)) ∙ a .1 in
+    ap (λ i. soundRefusal i (rowsOf p (t .unused) ms) (c .call)) (sym k)
+    ∙ ap (λ (x : Book). soundRefusal q x (c .call)) (sym (t .rows)) ∙ a .1 in
     let s = stepped p (t .unused) ms (c .call) (t .good) (t .rising) e in
     record {
       unused = s .unused;
       same = s .same ∙ t .same;
       rows =
-          after-accepted q b (c .call) z ∙ ap (λ i. changed i b (c .call)) k ∙ ap (λ (x : Book). changed p x (c .call)) (t .rows) ∙ s .rows;
+          after-accepted q b (c .call) z ∙ ap (λ i. changed i b (c .call)) k
+          ∙ ap (λ (x : Book). changed p x (c .call)) (t .rows) ∙ s .rows;
       good = s .good;
       rising = s .rising;
     }
@@ -163,7 +80,9 @@ next p n b ms c t = by (eqb (listRefusal p n ms c) 0) refl
         → Told p n (after (c .points) b (c .call)) (cond a (step ms (c .call)) ms)
     by true e = told-step p n b ms c t (same ∙ eqb-true (listRefusal p n ms c) 0 e)
     by false e =
-        subst (λ (k : Book). Told p n k ms) (sym (after-refused (c .points) b (c .call) (λ z. eqb-false (listRefusal p n ms c) 0 e (sym same ∙ z)))) t
+        subst (λ (k : Book). Told p n k ms)
+        (sym (after-refused (c .points) b (c .call)
+        (λ z. eqb-false (listRefusal p n ms c) 0 e (sym same ∙ z)))) t
 
 pub told : (p n : ℕ) (cs : List Made) (b : Book) (ms : List Movement) → Told p n b ms
     → Told p n (booked b cs) (listOf ms (accepted p n ms cs))
@@ -173,8 +92,10 @@ told p n (c ∷ cs) b ms t =
     by (eqb (listRefusal p n ms c) 0) (next p n b ms c t) (told p n cs (after (c .points) b (c .call)))
   where
     by : (a : Bool) → Told p n (after (c .points) b (c .call)) (cond a (step ms (c .call)) ms)
-        → ((ns : List Movement) → Told p n (after (c .points) b (c .call)) ns → Told p n (booked (after (c .points) b (c .call)) cs) (listOf ns (accepted p n ns cs)))
-        → Told p n (booked (after (c .points) b (c .call)) cs) (listOf ms (cond a (c .call ∷ accepted p n (step ms (c .call)) cs) (accepted p n ms cs)))
+        → ((ns : List Movement) → Told p n (after (c .points) b (c .call)) ns
+        → Told p n (booked (after (c .points) b (c .call)) cs) (listOf ns (accepted p n ns cs)))
+        → Told p n (booked (after (c .points) b (c .call)) cs)
+        (listOf ms (cond a (c .call ∷ accepted p n (step ms (c .call)) cs) (accepted p n ms cs)))
     by true t ih = ih (step ms (c .call)) t
     by false t ih = ih ms t
 
@@ -185,7 +106,8 @@ unfolding answered listAnswered
 answers-by-list p n [] b ms t = refl
 answers-by-list p n (c ∷ cs) b ms t =
     let head = refusal-told p n b ms c t in
-    let rest = answers-by-list p n cs (after (c .points) b (c .call)) (cond (eqb (listRefusal p n ms c) 0) (step ms (c .call)) ms) (next p n b ms c t) in
+    let rest = answers-by-list p n cs (after (c .points) b (c .call))
+    (cond (eqb (listRefusal p n ms c) 0) (step ms (c .call)) ms) (next p n b ms c t) in
     λ i. head i ∷ rest i
 
 pub accepted-by-list : (p n : ℕ) (cs : List Made) (b : Book) (ms : List Movement) → Told p n b ms
@@ -193,11 +115,15 @@ pub accepted-by-list : (p n : ℕ) (cs : List Made) (b : Book) (ms : List Moveme
 unfolding acceptedByRows accepted
 accepted-by-list p n [] b ms t = refl
 accepted-by-list p n (c ∷ cs) b ms t =
-    rw (refusal-told p n b ms c t) (by (eqb (listRefusal p n ms c) 0) (next p n b ms c t) (accepted-by-list p n cs (after (c .points) b (c .call))))
+    rw (refusal-told p n b ms c t)
+    (by (eqb (listRefusal p n ms c) 0) (next p n b ms c t)
+    (accepted-by-list p n cs (after (c .points) b (c .call))))
   where
     by : (a : Bool) → Told p n (after (c .points) b (c .call)) (cond a (step ms (c .call)) ms)
-        → ((ns : List Movement) → Told p n (after (c .points) b (c .call)) ns → acceptedByRows (after (c .points) b (c .call)) cs ≡ accepted p n ns cs)
-        → cond a (c .call ∷ acceptedByRows (after (c .points) b (c .call)) cs) (acceptedByRows (after (c .points) b (c .call)) cs)
+        → ((ns : List Movement) → Told p n (after (c .points) b (c .call)) ns
+        → acceptedByRows (after (c .points) b (c .call)) cs ≡ accepted p n ns cs)
+        → cond a (c .call ∷ acceptedByRows (after (c .points) b (c .call)) cs)
+        (acceptedByRows (after (c .points) b (c .call)) cs)
         ≡ cond a (c .call ∷ accepted p n (step ms (c .call)) cs) (accepted p n ms cs)
     by true t ih = ap (λ (l : List Call). c .call ∷ l) (ih (step ms (c .call)) t)
     by false t ih = ih ms t
@@ -255,7 +181,8 @@ unfolding howOften
 times-zeros x zero l = refl
 times-zeros x (suc n) l = rw (ne-eqb 0 x (omega arith)) (times-zeros x n l)
 
-times-once : (x u : ℕ) (ms : List Movement) → 1 ≤ x → Rising ms → howOften x (ids u ms) ≡ cond (standing x ms) 1 0
+times-once : (x u : ℕ) (ms : List Movement) → 1 ≤ x → Rising ms
+    → howOften x (ids u ms) ≡ cond (standing x ms) 1 0
 unfolding howOften standing column
 times-once x u [] l r = times-zeros x (u * 1) l
 times-once x u (a ∷ ms) l r = by (eqb (a .identity) x) refl (times-once x u ms l (r .1))
@@ -277,7 +204,8 @@ history p n cs =
       rows = history-rows p n cs;
       order = order-of (movements p n cs) (t .rising);
       once =
-          λ x l. ap (λ (b : Book). howOften x (b .identities)) (t .rows) ∙ times-once x (t .unused) (movements p n cs) l (t .rising);
+          λ x l. ap (λ (b : Book). howOften x (b .identities)) (t .rows)
+          ∙ times-once x (t .unused) (movements p n cs) l (t .rising);
       room = omega (arith, t .same);
       answers = answers-by-list p n cs (emptyBook p n) [] (told-empty p n);
       same = accepted-by-list p n cs (emptyBook p n) [] (told-empty p n);

@@ -22,7 +22,8 @@ changed-sound : (p : ℕ) (b : Book) (c : Call) → sound p b ≡ true → sound
 changed-sound p b c s z =
     let r = book-read p b s in
     let e = read-rows r in
-    let w = stepped p (r .unused) (r .list) c (r .good) (r .rising) (subst (λ (k : Book). soundRefusal p k c ≡ 0) e z) in
+    let w = stepped p (r .unused) (r .list) c (r .good) (r .rising)
+    (subst (λ (k : Book). soundRefusal p k c ≡ 0) e z) in
     ap (λ (k : Book). sound p (changed p k c)) e
     ∙ ap (sound p) (w .rows)
     ∙ book-sound p (w .unused) _ (w .good) (w .rising)
@@ -45,5 +46,6 @@ after-sound p q b c s k = by (eqb (refusal q b c) 0) refl
         ∙ subst (λ n. sound n (changed q b c) ≡ true) (k (a .0)) (changed-sound q b c (a .0) (a .1))
 
 -- what a core promises keeps the book sound
-pub called-sound : {p r : ℕ} {b b′ : Book} {c : Call} → sound p b ≡ true → Called p b c r b′ → sound p b′ ≡ true
+pub called-sound : {p r : ℕ} {b b′ : Book} {c : Call} → sound p b ≡ true → Called p b c r b′
+    → sound p b′ ≡ true
 called-sound {p} {r} {b} {b′} {c} s k = ap (sound p) (k .book) ∙ after-sound p p b c s (λ _. refl)

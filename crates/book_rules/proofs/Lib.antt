@@ -14,6 +14,7 @@ pub mod Reading
 pub mod Steps
 pub mod Kept
 pub mod Rooms
+pub mod ByList
 pub mod History
 pub mod SoundBook
 pub mod Chain

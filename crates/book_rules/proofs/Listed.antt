@@ -9,11 +9,13 @@ use lib.ListN.{drop, replicate}
 use lib.Seq.{take-at, drop-at}
 use lib.Dec.{eqb}
 use borrow.Author.Tests.{eq-eqb, ne-eqb}
-use Rattle.book_rules.specs.History.{Held, Movement, movement, added, holding, without, markOf, levelsOf, column, identityCell, groupCell, markCell, levelCells, rowsOf}
+use Rattle.book_rules.specs.History.{Held, Movement, movement, added, holding, without, markOf, levelsOf}
+use Rattle.book_rules.specs.History.{column, identityCell, groupCell, markCell, levelCells, rowsOf}
 use Rattle.book_rules.specs.History.Held.{none, holds}
 use Rattle.book_rules.specs.Lookup.{Row, foundFrom, found, groupFound, rowHeld, listed}
 use Rattle.book_rules.specs.Lookup.Row.{nowhere, row}
-use Rattle.book_rules.proofs.Blocks.{Place, Found, added-last, added-here, added-there, without-this, without-later, holding-this, holding-later}
+use Rattle.book_rules.proofs.Blocks.{Place, Found, added-last, added-here, added-there, without-this}
+use Rattle.book_rules.proofs.Blocks.{without-later, holding-this, holding-later}
 use Rattle.book_rules.proofs.Blocks.Place.{last, here, there}
 use Rattle.book_rules.proofs.Blocks.Found.{this, later}
 use Rattle.book_rules.proofs.Standing.{AllGood, Below, Rising}
@@ -32,7 +34,8 @@ row-held p g none = refl
 row-held p g (holds ls) = refl
 
 found-listed : (x p u : ℕ) (ms : List Movement) → 1 ≤ x → AllGood p ms
-    → foundFrom x p (column identityCell 1 u ms) (column groupCell 1 u ms) (column markCell 1 u ms) (column (levelCells p) p u ms) ≡ listed x p ms
+    → foundFrom x p (column identityCell 1 u ms) (column groupCell 1 u ms) (column markCell 1 u ms)
+    (column (levelCells p) p u ms) ≡ listed x p ms
 unfolding column foundFrom listed
 found-listed x p u [] l g = none-found x p (u * 1) _ _ _ l
 found-listed x p u (a ∷ ms) l g =
@@ -44,7 +47,8 @@ found-listed x p u (a ∷ ms) l g =
       row-held p (a .group) (a .held),
     )
 
-pub rows-found : (x p u : ℕ) (ms : List Movement) → 1 ≤ x → AllGood p ms → found x p (rowsOf p u ms) ≡ listed x p ms
+pub rows-found : (x p u : ℕ) (ms : List Movement) → 1 ≤ x → AllGood p ms
+    → found x p (rowsOf p u ms) ≡ listed x p ms
 unfolding rowsOf
 rows-found x p u ms l g = found-listed x p u ms l g
 

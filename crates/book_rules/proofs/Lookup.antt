@@ -19,19 +19,22 @@ use Rattle.book_rules.specs.Calls.Call.{enter, supply, takeBack, withdra
 use Rattle.book_rules.specs.History.{Held, Movement, movement, holding, without, step, column, markCell, rowsOf}
 use Rattle.book_rules.specs.History.Held.{none, holds}
 use Rattle.book_rules.specs.Reasons.{Full}
-use Rattle.book_rules.specs.Lookup.{Row, found, groupFound, bare, rowHeld, listed, KeepsOthers, Enters, Supplies, TakesBack, Withdraws, Does}
+use Rattle.book_rules.specs.Lookup.{Row, found, groupFound, bare, rowHeld, listed, KeepsOthers, Enters}
+use Rattle.book_rules.specs.Lookup.{Supplies, TakesBack, Withdraws, Does}
 use Rattle.book_rules.specs.Lookup.Row.{nowhere, row}
 use Rattle.book_rules.proofs.Blocks.{Found}
 use Rattle.book_rules.proofs.Blocks.Place.{there}
 use Rattle.book_rules.proofs.Standing.{AllGood, Rising, length-without}
-use Rattle.book_rules.proofs.Accepted.{entered, supplied, taken-back, withdrawn, identity-in, fields-in, accepted-sound, after-accepted}
+use Rattle.book_rules.proofs.Accepted.{entered, supplied, taken-back, withdrawn, identity-in, fields-in}
+use Rattle.book_rules.proofs.Accepted.{accepted-sound, after-accepted}
 use Rattle.book_rules.proofs.Reading.{book-read}
 use Rattle.book_rules.proofs.Steps.{ids, Stepped, stepped, place-at, stood-at, length-ids, first-unused}
 use Rattle.book_rules.proofs.Kept.{read-rows, called-sound}
 use Rattle.book_rules.proofs.SoundBook.{sound-exactly}
 use Rattle.book_rules.proofs.Search.{index-is, stands-index}
 use Rattle.book_rules.proofs.Order.{not-standing, standing-found, mark-found, refusal-order}
-use Rattle.book_rules.proofs.Listed.{rows-found, added-found, added-other, holding-found, holding-other, without-found, without-other}
+use Rattle.book_rules.proofs.Listed.{rows-found, added-found, added-other, holding-found, holding-other}
+use Rattle.book_rules.proofs.Listed.{without-found, without-other}
 
 -- An accepted call
 
@@ -74,7 +77,8 @@ module _ {p : ℕ} {b b′ : Book} {c : Call} (a : Acted p b c b′) where
   found-before y l = ap (found y p) (a .before) ∙ rows-found y p (a .unused) (a .list) l (a .good)
 
   found-after : (y : ℕ) → 1 ≤ y → found y p b′ ≡ listed y p (step (a .list) c)
-  found-after y l = ap (found y p) (a .after=) ∙ rows-found y p (a .step= .unused) (step (a .list) c) l (a .step= .good)
+  found-after y l = ap (found y p) (a .after=)
+      ∙ rows-found y p (a .step= .unused) (step (a .list) c) l (a .step= .good)
 
   same-rows : length (b′ .identities) ≡ length (b .identities)
   unfolding rowsOf
@@ -84,7 +88,8 @@ module _ {p : ℕ} {b b′ : Book} {c : Call} (a : Acted p b c b′) where
       ∙ a .step= .same
       ∙ sym (ap (λ (v : Book). length (v .identities)) (a .before) ∙ length-ids (a .unused) (a .list))
 
-  keeps-others : (x : ℕ) → ((y : ℕ) → (y ≡ x → ⊥) → listed y p (step (a .list) c) ≡ listed y p (a .list))
+  keeps-others : (x : ℕ) → ((y : ℕ) → (y ≡ x → ⊥)
+      → listed y p (step (a .list) c) ≡ listed y p (a .list))
       → KeepsOthers p x b b′
   keeps-others x h =
       record {
@@ -117,7 +122,8 @@ enter-does {p} {x} {t} {k} {s} {m} {b} {b′} q =
     let at = place-at p x (a .unused) (a .list) (a .good) in
     let new = subst (λ (w : Book). stands x (w .identities) ≡ false) (sym (a .before)) (not-true _ (e .new)) in
     let stored : (n : ℕ) → periodNumber (periodOf s) ≡ n → found x p b′ ≡ bare p (6 * t + 3 * k + n) =
-    λ n z. found-after a x low ∙ added-found p v at ∙ ap (bare p) (group-of t k s (f .0) (f .1) ∙ ap (λ i. 6 * t + 3 * k + i) z) in
+    λ n z. found-after a x low
+    ∙ added-found p v at ∙ ap (bare p) (group-of t k s (f .0) (f .1) ∙ ap (λ i. 6 * t + 3 * k + i) z) in
     record {
       kept = keeps-others a x (λ y n. added-other y p v (λ z. n (sym z)) at);
       new = not-standing x p b new;
@@ -203,7 +209,8 @@ take-back-does {p} {x} {b} {b′} q =
     record {
       kept = held-others a x i e none refl;
       held =
-          sym (mark-found x p (b .identities) (b .groups) (b .marks) (b .levels) there) ∙ taken-mark (b .identities) (b .marks) x y;
+          sym (mark-found x p (b .identities) (b .groups) (b .marks) (b .levels) there)
+          ∙ taken-mark (b .identities) (b .marks) x y;
       found= = held-after a x i e none refl;
     }
 
@@ -221,7 +228,8 @@ withdraw-does {p} {x} {b} {b′} q =
       stood = stood-before a x i e;
       gone = gone;
       free = λ t k s m f h.
-          let book = refusal-order p b′ (enter x t k s m) .otherwise (λ n. n (sound-exactly p b′ .only (a .is-sound))) in
+          let book = refusal-order p b′ (enter x t k s m) .otherwise
+          (λ n. n (sound-exactly p b′ .only (a .is-sound))) in
           let fields = book .otherwise (λ n. n f) .otherwise (λ l. omega arith) in
           let new = fields .otherwise (⊎-elim (λ z. omega arith) (λ z. omega arith)) .otherwise (λ n. n gone) in
           new .otherwise (room-after a x i e refl);

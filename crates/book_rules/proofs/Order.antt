@@ -18,7 +18,8 @@ use Rattle.movement.specs.Limits.{typeCount, kindCount, secondsADay, maxMass, m
 use Rattle.movement.specs.Aircraft.{aircraftNumbered, massFits}
 use Rattle.movement.specs.Rules.{fieldsFit, counts, movementRefusal, identityFits, levelsFit}
 use Rattle.book_rules.specs.Columns.{Book, firstAt, indexOf, stands, sound}
-use Rattle.book_rules.specs.Calls.{Call, Called, refusedOr, enterRefusal, supplyRefusal, takeBackRefusal, withdrawRefusal, soundRefusal, refusal}
+use Rattle.book_rules.specs.Calls.{Call, Called, refusedOr, enterRefusal, supplyRefusal, takeBackRefusal}
+use Rattle.book_rules.specs.Calls.{withdrawRefusal, soundRefusal, refusal}
 use Rattle.book_rules.specs.Calls.Call.{enter, supply, takeBack, withdraw}
 use Rattle.book_rules.specs.Reasons.{Fields, Levels, NoIdentity, Full}
 use Rattle.book_rules.specs.SoundBook.{SoundBook}
@@ -35,12 +36,14 @@ pub record Decides (ok : Bool) (Reason : Type 0) : Type 0 where
   pub fails : Reason → ok ≡ false
   pub passes : (Reason → ⊥) → ok ≡ true
 
-pub decides : {Reason : Type 0} (ok : Bool) → (ok ≡ true → Reason → ⊥) → (ok ≡ false → Reason) → Decides ok Reason
+pub decides : {Reason : Type 0} (ok : Bool) → (ok ≡ true → Reason → ⊥) → (ok ≡ false → Reason)
+    → Decides ok Reason
 decides true never known = record { fails = λ r. absurd (never refl r); passes = λ _. refl }
 decides false never known = record { fails = λ _. refl; passes = λ n. absurd (n (known refl)) }
 
 -- the test passes exactly if this holds
-decides-not : {Holds : Type 0} (ok : Bool) → (ok ≡ true → Holds) → (Holds → ok ≡ true) → Decides ok (Holds → ⊥)
+decides-not : {Holds : Type 0} (ok : Bool) → (ok ≡ true → Holds) → (Holds → ok ≡ true)
+    → Decides ok (Holds → ⊥)
 decides-not ok holds back = decides ok (λ e n. n (holds e)) (λ e h. true≢false (sym (back h) ∙ e))
 
 -- one number of the order
@@ -72,7 +75,8 @@ fields-decide t k s m = decides-not (fieldsFit t k s m) holds back
   where
     holds : fieldsFit t k s m ≡ true → Fields t k s m
     holds e =
-        let a = and-left ((ltb t typeCount && ltb k kindCount) && (ltb s secondsADay && leb m maxMass)) (massFits (aircraftNumbered t) m) e in
+        let a = and-left ((ltb t typeCount && ltb k kindCount) && (ltb s secondsADay && leb m maxMass))
+        (massFits (aircraftNumbered t) m) e in
         let d = and-left (ltb t typeCount && ltb k kindCount) (ltb s secondsADay && leb m maxMass) a in
         let c = and-right (ltb t typeCount && ltb k kindCount) (ltb s secondsADay && leb m maxMass) a in
         record {
@@ -81,7 +85,8 @@ fields-decide t k s m = decides-not (fieldsFit t k s m) holds back
           time = omega (arith, ltb-true s secondsADay (and-left (ltb s secondsADay) _ c));
           mass = leb-true m maxMass (and-right (ltb s secondsADay) _ c);
           small =
-              small-fits t m (and-right ((ltb t typeCount && ltb k kindCount) && (ltb s secondsADay && leb m maxMass)) _ e);
+              small-fits t m (and-right
+              ((ltb t typeCount && ltb k kindCount) && (ltb s secondsADay && leb m maxMass)) _ e);
         }
 
     back : Fields t k s m → fieldsFit t k s m ≡ true
@@ -122,7 +127,8 @@ levels-decide p ls =
       number = eqb-true (length ls) p (and-left (eqb (length ls) p) _ e);
       range = λ j h. within-at maxLevel ls j (and-right (eqb (length ls) p) _ e);
     })
-    (λ l. rw (eq-eqb (length ls) p (l .number)) (all-within maxLevel ls (λ j h. l .range j (omega (arith, l .number)))))
+    (λ l. rw (eq-eqb (length ls) p (l .number))
+    (all-within maxLevel ls (λ j h. l .range j (omega (arith, l .number)))))
 
 -- an identity that stands is found
 isFound : Row → Bool
@@ -137,9 +143,11 @@ stands-found x p (y ∷ ys) gs ms ls = by (eqb y x) (stands-found x p ys (drop 1
     at : ℕ → Bool
     at z = eqb z x
 
-    by : (t : Bool) → ltb (firstAt at ys) (length ys) ≡ isFound (foundFrom x p ys (drop 1 gs) (drop 1 ms) (drop p ls))
+    by : (t : Bool) → ltb (firstAt at ys) (length ys)
+        ≡ isFound (foundFrom x p ys (drop 1 gs) (drop 1 ms) (drop p ls))
         → ltb (cond t 0 (suc (firstAt at ys))) (suc (length ys))
-        ≡ isFound (cond t (row (getD gs 0 0) (getD ms 0 0) (take p ls)) (foundFrom x p ys (drop 1 gs) (drop 1 ms) (drop p ls)))
+        ≡ isFound (cond t (row (getD gs 0 0) (getD ms 0 0) (take p ls))
+        (foundFrom x p ys (drop 1 gs) (drop 1 ms) (drop p ls)))
     by true ih = lt-ltb 0 (suc (length ys)) (omega arith)
     by false ih = leb·suc-suc (suc (firstAt at ys)) (length ys) ∙ ih
 
@@ -188,7 +196,12 @@ room-decides b = decides (stands 0 (b .identities)) never full
         by true k = leb-true 1 (getD (b .identities) i 0) k
         by false k =
             let z : getD (b .identities) i 0 ≡ 0 = omega (arith, leb-false 1 (getD (b .identities) i 0) k) in
-            absurd (omega (arith, index-before 0 (b .identities) i h z, ltb-false (indexOf 0 (b .identities)) (length (b .identities)) e))
+            absurd (omega (
+              arith,
+              index-before 0 (b .identities) i h z,
+              ltb-false (indexOf 0 (b .identities))
+                  (length (b .identities)) e,
+            ))
 
 -- the mark of a row that stands
 pub mark-found : (x p : ℕ) (xs gs ms ls : List ℕ) → indexOf x xs < length xs
@@ -201,9 +214,11 @@ mark-found x p (y ∷ ys) gs ms ls h = by (eqb y x) h (mark-found x p ys (drop 1
     at z = eqb z x
 
     by : (t : Bool) → cond t 0 (suc (firstAt at ys)) < suc (length ys)
-        → (firstAt at ys < length ys → getD (drop 1 ms) (firstAt at ys) 0 ≡ markFound (foundFrom x p ys (drop 1 gs) (drop 1 ms) (drop p ls)))
+        → (firstAt at ys < length ys
+        → getD (drop 1 ms) (firstAt at ys) 0 ≡ markFound (foundFrom x p ys (drop 1 gs) (drop 1 ms) (drop p ls)))
         → getD ms (cond t 0 (suc (firstAt at ys))) 0
-        ≡ markFound (cond t (row (getD gs 0 0) (getD ms 0 0) (take p ls)) (foundFrom x p ys (drop 1 gs) (drop 1 ms) (drop p ls)))
+        ≡ markFound (cond t (row (getD gs 0 0) (getD ms 0 0) (take p ls))
+        (foundFrom x p ys (drop 1 gs) (drop 1 ms) (drop p ls)))
     by true h ih = refl
     by false h ih =
         let e : suc (firstAt at ys) ≡ 1 + firstAt at ys = omega arith in
@@ -227,7 +242,8 @@ rules-first true true rest = refl
 
 enter-rules : (ids : List ℕ) (x t k s m : ℕ)
     → enterRefusal ids x t k s m
-    ≡ refuse 1 (fieldsFit t k s m) (refuse 2 (counts m) (refuse 3 (identityFits x) (refuse 4 (not (stands x ids)) (refuse 6 (stands 0 ids) 0))))
+    ≡ refuse 1 (fieldsFit t k s m)
+    (refuse 2 (counts m) (refuse 3 (identityFits x) (refuse 4 (not (stands x ids)) (refuse 6 (stands 0 ids) 0))))
 unfolding enterRefusal movementRefusal
 enter-rules ids x t k s m = rules-first (fieldsFit t k s m) (counts m) _
 
@@ -249,7 +265,8 @@ refusal-order p b (takeBack x) =
     given-by (sound p b) refl (sound-decides p b) λ s e₉.
     given-by (identityFits x) e₉ (identity-decides x) λ _ e₃.
     given-by (stands x (b .identities)) e₃ (stands-decides x p b) λ t e₅.
-    given-by (eqb (getD (b .marks) (indexOf x (b .identities)) 0) 1) e₅ (held-decides x p b (sound-exactly p b .only s) t) λ _ e₈. e₈
+    given-by (eqb (getD (b .marks) (indexOf x (b .identities)) 0) 1) e₅
+    (held-decides x p b (sound-exactly p b .only s) t) λ _ e₈. e₈
 refusal-order p b (withdraw x) =
     given-by (sound p b) refl (sound-decides p b) λ _ e₉.
     given-by (identityFits x) e₉ (identity-decides x) λ _ e₃.

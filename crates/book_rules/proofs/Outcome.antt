@@ -10,7 +10,8 @@ use borrow.Author.Tests.{le-leb, ltb-true, ltb-false, eqb-true, eqb-false}
 use Rattle.movement.specs.Limits.{maxPoints, maxRows}
 use Rattle.book_rules.specs.Columns.{Book}
 use Rattle.book_rules.specs.Calls.{Call, Called, refusal}
-use Rattle.book_rules.specs.History.{Held, Movement, movement, Made, movements, booked, emptyBook, rowsOf, sizesFit}
+use Rattle.book_rules.specs.History.{Held, Movement, movement, Made, movements, booked, emptyBook, rowsOf}
+use Rattle.book_rules.specs.History.{sizesFit}
 use Rattle.book_rules.specs.History.Held.{none, holds}
 use Rattle.book_rules.specs.Lookup.{found, rowHeld, listed}
 use Rattle.book_rules.specs.Lookup.Row.{nowhere}
@@ -23,7 +24,8 @@ use Rattle.book_rules.proofs.Kept.{read-rows}
 use Rattle.book_rules.proofs.History.{told-all, history-sound}
 use Rattle.book_rules.proofs.SoundBook.{sound-exactly}
 use Rattle.book_rules.proofs.Order.{refusal-order}
-use Rattle.book_rules.proofs.Listed.{none-found, rows-found, listed-none, listed-this, listed-later, below-none}
+use Rattle.book_rules.proofs.Listed.{none-found, rows-found, listed-none, listed-this, listed-later}
+use Rattle.book_rules.proofs.Listed.{below-none}
 use Rattle.book_rules.proofs.Lookup.{call-does}
 
 pub call-holds : {p r : ℕ} {b b′ : Book} {c : Call} → Called p b c r b′ → CallHolds p b c r b′
@@ -47,7 +49,12 @@ empty-holds p n =
       none = λ x l. none-found x p n _ _ _ l;
       sound= = λ hp hn.
           sound-exactly p (emptyBook p n) .only
-          (history-sound p n [] ∙ rw (le-leb 1 p (hp .0), le-leb p maxPoints (hp .1), le-leb 1 n (hn .0), le-leb n maxRows (hn .1)) refl);
+          (history-sound p n [] ∙ rw (
+            le-leb 1 p (hp .0),
+            le-leb p maxPoints (hp .1),
+            le-leb 1 n (hn .0),
+            le-leb n maxRows (hn .1),
+          ) refl);
     }
 
 -- Look-up says everything
@@ -68,20 +75,24 @@ row-same p g i (holds ls) (holds ks) e = (cc, cc)
 not-lower : (p : ℕ) (a c : Movement) (ms ns : List Movement) → Rising (c ∷ ns)
     → listed (a .identity) p (a ∷ ms) ≡ listed (a .identity) p (c ∷ ns) → a .identity < c .identity → ⊥
 not-lower p a c ms ns r e l =
-    somewhere p (a .group) (a .held) (sym (listed-this (a .identity) p a ms refl) ∙ e ∙ below-none (a .identity) p (c ∷ ns) l r)
+    somewhere p (a .group) (a .held) (sym (listed-this (a .identity) p a ms refl) ∙ e
+    ∙ below-none (a .identity) p (c ∷ ns) l r)
 
 lists-same : (p : ℕ) (ms ns : List Movement) → AllGood p ms → AllGood p ns → Rising ms → Rising ns
     → ((x : ℕ) → 1 ≤ x → listed x p ms ≡ listed x p ns) → ms ≡ ns
 lists-same p [] [] g k r s h = refl
 lists-same p [] (c ∷ ns) g k r s h =
-    absurd (somewhere p (c .group) (c .held) (sym (h (c .identity) (k .0 .low) ∙ listed-this (c .identity) p c ns refl) ∙ listed-none (c .identity) p))
+    absurd (somewhere p (c .group) (c .held)
+    (sym (h (c .identity) (k .0 .low) ∙ listed-this (c .identity) p c ns refl) ∙ listed-none (c .identity) p))
 lists-same p (a ∷ ms) [] g k r s h =
-    absurd (somewhere p (a .group) (a .held) (sym (listed-this (a .identity) p a ms refl) ∙ h (a .identity) (g .0 .low) ∙ listed-none (a .identity) p))
+    absurd (somewhere p (a .group) (a .held) (sym (listed-this (a .identity) p a ms refl)
+    ∙ h (a .identity) (g .0 .low) ∙ listed-none (a .identity) p))
 lists-same p (a ∷ ms) (c ∷ ns) g k r s h =
     let here = h (a .identity) (g .0 .low) in
     let low = not-lower p a c ms ns s here in
     let high = not-lower p c a ns ms r (sym (h (c .identity) (k .0 .low))) in
-    let e : a .identity ≡ c .identity = order (ltb (a .identity) (c .identity)) (ltb (c .identity) (a .identity)) refl refl low high in
+    let e : a .identity ≡ c .identity =
+    order (ltb (a .identity) (c .identity)) (ltb (c .identity) (a .identity)) refl refl low high in
     let w = row-same p (a .group) (c .group) (a .held) (c .held)
     (sym (listed-this (a .identity) p a ms refl) ∙ here ∙ listed-this (a .identity) p c ns (sym e)) in
     let rest = lists-same p ms ns (g .1) (k .1) (r .1) (s .1) (λ x l. later (eqb (a .identity) x) x refl l e) in
@@ -112,6 +123,7 @@ found-alike p b b′ s s′ n h =
     λ x l. ap (found x p) (read-rows r) ∙ rows-found x p (r .unused) (r .list) l (r .good) in
     let k : (x : ℕ) → 1 ≤ x → found x p b′ ≡ listed x p (q .list) =
     λ x l. ap (found x p) (read-rows q) ∙ rows-found x p (q .unused) (q .list) l (q .good) in
-    let e = lists-same p (r .list) (q .list) (r .good) (q .good) (r .rising) (q .rising) (λ x l. sym (f x l) ∙ h x l ∙ k x l) in
+    let e = lists-same p (r .list) (q .list) (r .good) (q .good) (r .rising) (q .rising) (λ x l. sym (f x l)
+    ∙ h x l ∙ k x l) in
     let u : r .unused ≡ q .unused = omega (arith, r .same, q .same, ap length e) in
     read-rows r ∙ (λ i. rowsOf p (u i) (e i)) ∙ sym (read-rows q)

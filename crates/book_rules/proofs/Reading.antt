@@ -5,14 +5,17 @@ use mathlib.Core.List.{List, [], _∷_, _++_}
 use Prim.Native.Nat.{ℕ, zero, suc, _+_, _*_, _≤_}
 use native.Mathlib.Nat.{mul-one, suc-mul, zero-mul}
 use native.Mathlib.Omega.{arith}
-use lib.ListN.{length, take, drop, replicate, length-drop, length-replicate, take-append-drop, replicate-append-replicate}
+use lib.ListN.{length, take, drop, replicate, length-drop, length-replicate, take-append-drop}
+use lib.ListN.{replicate-append-replicate}
 use lib.Seq.{length-take-le}
 use lib.Dec.{eqb, leb, ltb}
 use borrow.Author.Tests.{leb-true, ltb-true, eqb-true, eqb-false, ne-eqb}
 use Rattle.refusal.specs.Range.{allWithin}
 use Rattle.refusal.proofs.Laws.{and-left, and-right}
-use Rattle.book_rules.specs.Columns.{Book, sound, rising, followed, follows, headSound, topLevel, rowSound, rowsSound}
-use Rattle.book_rules.specs.History.{Held, Movement, movement, markOf, levelsOf, column, identityCell, groupCell, markCell, levelCells}
+use Rattle.book_rules.specs.Columns.{Book, sound, rising, followed, follows, headSound, topLevel, rowSound}
+use Rattle.book_rules.specs.Columns.{rowsSound}
+use Rattle.book_rules.specs.History.{Held, Movement, movement, markOf, levelsOf, column, identityCell}
+use Rattle.book_rules.specs.History.{groupCell, markCell, levelCells}
 use Rattle.book_rules.specs.History.Held.{none, holds}
 use Rattle.book_rules.proofs.Shapes.{sound-fits, sound-rises, sound-rows, head-bounds}
 use Rattle.book_rules.proofs.Standing.{Filled, AllGood, Below, Rising, zeros-within}
@@ -33,12 +36,14 @@ pub record Zeros (p n : ℕ) (xs gs ms ls : List ℕ) : Type 0 where
   pub levels : ls ≡ replicate (n * p) 0
 
 -- an unused row is zero throughout
-row-zero : (p g m : ℕ) (l : List ℕ) → rowSound 0 g m l ≡ true → length l ≡ p → (g ≡ 0) × (m ≡ 0) × (l ≡ replicate p 0)
+row-zero : (p g m : ℕ) (l : List ℕ) → rowSound 0 g m l ≡ true → length l ≡ p
+    → (g ≡ 0) × (m ≡ 0) × (l ≡ replicate p 0)
 unfolding rowSound headSound topLevel
 row-zero p g m l e h =
     let head = and-left (eqb g 0 && eqb m 0) _ e in
     let z = eqb-true m 0 (and-right (eqb g 0) _ head) in
-    let w : allWithin 0 l ≡ true = subst (λ k. allWithin (topLevel k) l ≡ true) z (and-right (eqb g 0 && eqb m 0) _ e) in
+    let w : allWithin 0 l ≡ true =
+    subst (λ k. allWithin (topLevel k) l ≡ true) z (and-right (eqb g 0 && eqb m 0) _ e) in
     (eqb-true g 0 (and-left (eqb g 0) _ head), z, zeros-of l w ∙ ap (λ k. replicate k 0) h)
 
 nil-of : (ls : List ℕ) → length ls ≡ 0 → ls ≡ []
@@ -54,16 +59,25 @@ follows-zero x e = by (eqb x 0) refl e
     by false z e = absurd (true≢false (sym e))
 
 -- the levels of the first row, and those of the others
-first-levels : (p n : ℕ) (ls : List ℕ) → length ls ≡ suc n * p → (length (take p ls) ≡ p) × (length (drop p ls) ≡ n * p)
+first-levels : (p n : ℕ) (ls : List ℕ) → length ls ≡ suc n * p
+    → (length (take p ls) ≡ p) × (length (drop p ls) ≡ n * p)
 first-levels p n ls h =
     let s = suc-mul n p in
     (length-take-le p ls (omega arith), omega (arith, length-drop p ls))
 
 -- after an unused row come only unused ones
 zero-rows : (p : ℕ) (xs gs ms ls : List ℕ) → rising (0 ∷ xs) ≡ true → rowsSound p xs gs ms ls ≡ true
-    → length gs ≡ length xs → length ms ≡ length xs → length ls ≡ length xs * p → Zeros p (length xs) xs gs ms ls
+    → length gs ≡ length xs → length ms ≡ length xs → length ls ≡ length xs * p
+    → Zeros p (length xs) xs gs ms ls
 unfolding rising followed rowsSound
-zero-rows p [] [] [] ls r e hg hm hl = record { ids = refl; groups = refl; marks = refl; levels = nil-of ls (hl ∙ zero-mul p) ∙ ap (λ k. replicate k 0) (sym (zero-mul p)) }
+zero-rows p [] [] [] ls r e hg hm hl =
+    record {
+      ids = refl;
+      groups = refl;
+      marks = refl;
+      levels = nil-of ls (hl ∙ zero-mul p)
+          ∙ ap (λ k. replicate k 0) (sym (zero-mul p));
+    }
 zero-rows p [] (g ∷ gs) ms ls r e hg hm hl = absurd (omega arith)
 zero-rows p [] [] (m ∷ ms) ls r e hg hm hl = absurd (omega arith)
 zero-rows p (x ∷ xs) [] ms ls r e hg hm hl = absurd (omega arith)
@@ -72,8 +86,10 @@ zero-rows p (x ∷ xs) (g ∷ gs) (m ∷ ms) ls r e hg hm hl =
     let n = length xs in
     let z = follows-zero x (and-left (followed 0 (x ∷ xs)) _ r) in
     let q = first-levels p n ls hl in
-    let row = row-zero p g m (take p ls) (subst (λ k. rowSound k g m (take p ls) ≡ true) z (and-left (rowSound x g m (take p ls)) _ e)) (q .0) in
-    let rest = zero-rows p xs gs ms (drop p ls) (subst (λ k. rising (k ∷ xs) ≡ true) z (and-right (followed 0 (x ∷ xs)) _ r))
+    let row = row-zero p g m (take p ls)
+    (subst (λ k. rowSound k g m (take p ls) ≡ true) z (and-left (rowSound x g m (take p ls)) _ e)) (q .0) in
+    let rest = zero-rows p xs gs ms (drop p ls)
+    (subst (λ k. rising (k ∷ xs) ≡ true) z (and-right (followed 0 (x ∷ xs)) _ r))
     (and-right (rowSound x g m (take p ls)) _ e) (omega arith) (omega arith) (q .1) in
     let size : p + n * p ≡ suc n * p = omega (arith, suc-mul n p) in
     record {
@@ -81,7 +97,8 @@ zero-rows p (x ∷ xs) (g ∷ gs) (m ∷ ms) ls r e hg hm hl =
       groups = λ i. row .0 i ∷ rest .groups i;
       marks = λ i. row .1 i ∷ rest .marks i;
       levels =
-          sym (take-append-drop p ls) ∙ (λ i. row .2 i ++ rest .levels i) ∙ replicate-append-replicate p (n * p) 0 ∙ ap (λ k. replicate k 0) size;
+          sym (take-append-drop p ls) ∙ (λ i. row .2 i ++ rest .levels i)
+          ∙ replicate-append-replicate p (n * p) 0 ∙ ap (λ k. replicate k 0) size;
     }
 
 -- The list of a sound book
@@ -134,7 +151,8 @@ kept p (suc zero) l h k e = record { mark = refl; part = refl; filled = record {
 kept p (suc (suc m)) l h k e = absurd (omega arith)
 
 -- the next identity is higher
-below-next : (p u x : ℕ) (list : List Movement) → AllGood p list → followed x (column identityCell 1 u list) ≡ true
+below-next : (p u x : ℕ) (list : List Movement) → AllGood p list
+    → followed x (column identityCell 1 u list) ≡ true
     → Below x list
 unfolding column followed follows
 below-next p u x [] g e = tt
@@ -160,11 +178,15 @@ read-row p x g m xs gs ms ls n e w f r =
       marks = λ i. k .mark i ∷ r .marks i;
       levels = sym (take-append-drop p ls) ∙ (λ i. k .part i ++ r .levels i);
       good = (record { low = omega arith; high = head .0; group< = head .1; filled = k .filled }, r .good);
-      rising =
-          (below-next p (r .unused) x (r .list) (r .good) (subst (λ (l : List ℕ). followed x l ≡ true) (r .ids) f), r .rising);
+      rising = (
+        below-next p (r .unused) x (r .list) (r .good)
+            (subst (λ (l : List ℕ). followed x l ≡ true) (r .ids) f),
+        r .rising,
+      );
     }
 
-rise-zero : (x : ℕ) (xs : List ℕ) → eqb x 0 ≡ true → rising (x ∷ xs) ≡ true → rising (0 ∷ (x ∷ xs)) ≡ true
+rise-zero : (x : ℕ) (xs : List ℕ) → eqb x 0 ≡ true → rising (x ∷ xs) ≡ true
+    → rising (0 ∷ (x ∷ xs)) ≡ true
 unfolding rising followed follows
 rise-zero x xs z r = rw z r
 
@@ -172,7 +194,13 @@ read : (p : ℕ) (xs gs ms ls : List ℕ) → rising xs ≡ true → rowsSound p
     → length gs ≡ length xs → length ms ≡ length xs → length ls ≡ length xs * p → Read p xs gs ms ls
 unfolding rising rowsSound
 read p [] [] [] ls r e hg hm hl =
-    read-none (record { ids = refl; groups = refl; marks = refl; levels = nil-of ls (hl ∙ zero-mul p) ∙ ap (λ k. replicate k 0) (sym (zero-mul p)) })
+    read-none (record {
+      ids = refl;
+      groups = refl;
+      marks = refl;
+      levels = nil-of ls (hl ∙ zero-mul p)
+          ∙ ap (λ k. replicate k 0) (sym (zero-mul p));
+    })
 read p [] (g ∷ gs) ms ls r e hg hm hl = absurd (omega arith)
 read p [] [] (m ∷ ms) ls r e hg hm hl = absurd (omega arith)
 read p (x ∷ xs) [] ms ls r e hg hm hl = absurd (omega arith)
@@ -180,8 +208,10 @@ read p (x ∷ xs) (g ∷ gs) [] ls r e hg hm hl = absurd (omega arith)
 read p (x ∷ xs) (g ∷ gs) (m ∷ ms) ls r e hg hm hl =
     let q = first-levels p (length xs) ls hl in
     by (eqb x 0) refl
-    (λ z. read-row p x g m xs gs ms ls z (and-left (rowSound x g m (take p ls)) _ e) (q .0) (and-left (followed x xs) _ r)
-    (read p xs gs ms (drop p ls) (and-right (followed x xs) _ r) (and-right (rowSound x g m (take p ls)) _ e) (omega arith) (omega arith) (q .1)))
+    (λ z. read-row p x g m xs gs ms ls z (and-left (rowSound x g m (take p ls)) _ e) (q .0)
+    (and-left (followed x xs) _ r)
+    (read p xs gs ms (drop p ls) (and-right (followed x xs) _ r) (and-right (rowSound x g m (take p ls)) _ e)
+    (omega arith) (omega arith) (q .1)))
   where
     by : (t : Bool) → eqb x 0 ≡ t → ((x ≡ 0 → ⊥) → Read p (x ∷ xs) (g ∷ gs) (m ∷ ms) ls)
         → Read p (x ∷ xs) (g ∷ gs) (m ∷ ms) ls
@@ -189,7 +219,9 @@ read p (x ∷ xs) (g ∷ gs) (m ∷ ms) ls r e hg hm hl =
     by false z k = k (eqb-false x 0 z)
 
 -- a sound book is the rows of its list
-pub book-read : (p : ℕ) (b : Book) → sound p b ≡ true → Read p (b .identities) (b .groups) (b .marks) (b .levels)
+pub book-read : (p : ℕ) (b : Book) → sound p b ≡ true
+    → Read p (b .identities) (b .groups) (b .marks) (b .levels)
 book-read p b e =
     let f = sound-fits p b e in
-    read p (b .identities) (b .groups) (b .marks) (b .levels) (sound-rises p b e) (sound-rows p b e) (f .groups=) (f .marks=) (f .levels=)
+    read p (b .identities) (b .groups) (b .marks) (b .levels) (sound-rises p b e) (sound-rows p b e) (f .groups=)
+    (f .marks=) (f .levels=)

@@ -45,7 +45,8 @@ zero-column f w u n ms xs s e k =
     let d : u * w ≡ length xs - n = omega arith in
     record {
       inside = omega arith;
-      zeros = ap (drop n) e ∙ ap (λ i. drop i (column f w u ms)) k ∙ column-end f w u ms s ∙ ap (λ i. replicate i 0) d;
+      zeros = ap (drop n) e ∙ ap (λ i. drop i (column f w u ms)) k ∙ column-end f w u ms s
+          ∙ ap (λ i. replicate i 0) d;
     }
 
 record Ends (p : ℕ) (b : Book) (rows : ℕ) : Type 0 where
@@ -57,17 +58,22 @@ record Ends (p : ℕ) (b : Book) (rows : ℕ) : Type 0 where
 ends : (p : ℕ) (b : Book) (rows : ℕ) → sound p b ≡ true → rows ≡ indexOf 0 (b .identities) → Ends p b rows
 ends p b rows s e =
     let r = book-read p b s in
-    let n : rows ≡ length (r .list) = e ∙ ap (indexOf 0) (r .ids) ∙ first-unused p (r .unused) (r .list) (r .good) in
+    let n : rows ≡ length (r .list) = e ∙ ap (indexOf 0) (r .ids)
+    ∙ first-unused p (r .unused) (r .list) (r .good) in
     let one : rows ≡ length (r .list) * 1 = n ∙ sym (mul-one (length (r .list))) in
     record {
       ids =
-          zero-column identityCell 1 (r .unused) rows (r .list) (b .identities) (sized-one (λ a. a .identity) (r .list)) (r .ids) one;
+          zero-column identityCell 1 (r .unused) rows (r .list) (b .identities)
+          (sized-one (λ a. a .identity) (r .list)) (r .ids) one;
       groups =
-          zero-column groupCell 1 (r .unused) rows (r .list) (b .groups) (sized-one (λ a. a .group) (r .list)) (r .groups) one;
+          zero-column groupCell 1 (r .unused) rows (r .list) (b .groups) (sized-one (λ a. a .group) (r .list))
+          (r .groups) one;
       marks =
-          zero-column markCell 1 (r .unused) rows (r .list) (b .marks) (sized-one (λ a. markOf (a .held)) (r .list)) (r .marks) one;
+          zero-column markCell 1 (r .unused) rows (r .list) (b .marks)
+          (sized-one (λ a. markOf (a .held)) (r .list)) (r .marks) one;
       levels =
-          zero-column (levelCells p) p (r .unused) (rows * p) (r .list) (b .levels) (sized-levels p (r .list) (r .good)) (r .levels) (ap (λ i. i * p) n);
+          zero-column (levelCells p) p (r .unused) (rows * p) (r .list) (b .levels)
+          (sized-levels p (r .list) (r .good)) (r .levels) (ap (λ i. i * p) n);
     }
 
 zero-at : {m n : ℕ} {xs : List ℕ} → m ≡ n → ZeroFrom n xs → ZeroFrom m xs
@@ -83,7 +89,8 @@ pub record RoomIn (p : ℕ) (b : Book) (at rows : ℕ) : Type 0 where
   pub at-fits : Fits w64 (at * p)
   pub count-fits : Fits w64 ((rows - at) * p)
 
-pub room-in : (p : ℕ) (b : Book) (at rows : ℕ) → RowsTo p b at rows → rows < length (b .identities) → RoomIn p b at rows
+pub room-in : (p : ℕ) (b : Book) (at rows : ℕ) → RowsTo p b at rows → rows < length (b .identities)
+    → RoomIn p b at rows
 room-in p b at rows r h =
     let z = ends p b rows (r .sound=) (r .rows=) in
     let f = sound-fits p b (r .sound=) in
@@ -118,7 +125,8 @@ room-out p b at rows r h =
     let i = z .ids .inside in
     let n = rows - at - 1 in
     let e : at + (n + 1) ≡ rows = omega arith in
-    let q : at * p + (n * p + p) ≡ rows * p = omega (arith, add-mul at (n + 1) p, add-mul n 1 p, one-mul p, ap (λ k. k * p) e) in
+    let q : at * p + (n * p + p) ≡ rows * p =
+    omega (arith, add-mul at (n + 1) p, add-mul n 1 p, one-mul p, ap (λ k. k * p) e) in
     let m = product-fits rows p (omega (arith, f .rows≤)) (f .points) in
     record {
       ids = zero-at e (z .ids);
@@ -138,7 +146,8 @@ pub record RowOf (p : ℕ) (b : Book) (x at : ℕ) : Type 0 where
   pub fits : Fits w64 (at * p)
   pub used : at < indexOf 0 (b .identities)
 
-pub row-of : {p x at : ℕ} {b : Book} → sound p b ≡ true → Stood (b .identities) x → at ≡ placeOf x (b .identities)
+pub row-of : {p x at : ℕ} {b : Book} → sound p b ≡ true → Stood (b .identities) x
+    → at ≡ placeOf x (b .identities)
     → RowOf p b x at
 row-of {p} {x} {at} {b} s w e =
     let xs = b .identities in
@@ -146,7 +155,8 @@ row-of {p} {x} {at} {b} s w e =
     let low = identity-in x (w .identity=) in
     let i = stands-index x xs (w .stands=) in
     let same : indexOf x xs ≡ at = place-index x xs (low .0) (sound-rises p b s) i ∙ sym e in
-    let over : reached (maxIdentity + 1) x ≡ false = rw (ne-eqb x 0 (omega arith), lt-leb (maxIdentity + 1) x (omega arith)) refl in
+    let over : reached (maxIdentity + 1) x ≡ false =
+    rw (ne-eqb x 0 (omega arith), lt-leb (maxIdentity + 1) x (omega arith)) refl in
     let before = place-after (maxIdentity + 1) xs (indexOf x xs) (sound-rises p b s) i (rw (index-is x xs i) over) in
     let last = place-last maxIdentity xs (sound-identities p b s) in
     let l = room p at (at * p) (length xs) (length (b .levels)) refl (omega arith) (f .levels=) in

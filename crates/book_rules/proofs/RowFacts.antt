@@ -23,18 +23,21 @@ top-bound m = by (eqb m 0)
     by true = omega arith
     by false = omega arith
 
-pub row-at : (p : ℕ) (xs gs ms ls : List ℕ) (i : ℕ) → rowsSound p xs gs ms ls ≡ true → length gs ≡ length xs
+pub row-at : (p : ℕ) (xs gs ms ls : List ℕ) (i : ℕ) → rowsSound p xs gs ms ls ≡ true
+    → length gs ≡ length xs
     → length ms ≡ length xs → i < length xs
     → rowSound (getD xs i 0) (getD gs i 0) (getD ms i 0) (take p (drop (i * p) ls)) ≡ true
 unfolding rowsSound
 row-at p [] gs ms ls i e hg hm h = absurd (not-suc-le-zero h)
 row-at p (x ∷ xs) [] ms ls i e hg hm h = absurd (omega arith)
 row-at p (x ∷ xs) (g ∷ gs) [] ls i e hg hm h = absurd (omega arith)
-row-at p (x ∷ xs) (g ∷ gs) (m ∷ ms) ls zero e hg hm h = rw (zero-mul p) (and-left (rowSound x g m (take p ls)) _ e)
+row-at p (x ∷ xs) (g ∷ gs) (m ∷ ms) ls zero e hg hm h =
+    rw (zero-mul p) (and-left (rowSound x g m (take p ls)) _ e)
 row-at p (x ∷ xs) (g ∷ gs) (m ∷ ms) ls (suc i) e hg hm h =
     let q : suc i * p ≡ p + i * p = omega (arith, suc-mul i p) in
     rw (q, ← (drop-drop (i * p) p ls))
-    (row-at p xs gs ms (drop p ls) i (and-right (rowSound x g m (take p ls)) _ e) (omega arith) (omega arith) (le-of-suc-le-suc h))
+    (row-at p xs gs ms (drop p ls) i (and-right (rowSound x g m (take p ls)) _ e) (omega arith) (omega arith)
+    (le-of-suc-le-suc h))
 
 pub record RowFacts (p : ℕ) (b : Book) (i : ℕ) : Type 0 where
   pub identity≤ : getD (b .identities) i 0 ≤ maxIdentity
@@ -48,7 +51,8 @@ row-facts p b i e h =
     let f = sound-fits p b e in
     let rows = sound-rows p b e in
     let row = row-at p (b .identities) (b .groups) (b .marks) (b .levels) i rows (f .groups=) (f .marks=) h in
-    let head = head-bounds _ _ _ (and-left (headSound (getD (b .identities) i 0) (getD (b .groups) i 0) (getD (b .marks) i 0)) _ row) in
+    let head = head-bounds _ _ _
+    (and-left (headSound (getD (b .identities) i 0) (getD (b .groups) i 0) (getD (b .marks) i 0)) _ row) in
     let part = take p (drop (i * p) (b .levels)) in
     record {
       identity≤ = head .0;
@@ -57,7 +61,8 @@ row-facts p b i e h =
       level≤ = λ j k.
           omega (
             arith,
-            within-at (topLevel (getD (b .marks) i 0)) part j (and-right (headSound (getD (b .identities) i 0) (getD (b .groups) i 0) (getD (b .marks) i 0)) _ row),
+            within-at (topLevel (getD (b .marks) i 0)) part j
+                (and-right (headSound (getD (b .identities) i 0) (getD (b .groups) i 0) (getD (b .marks) i 0)) _ row),
             top-bound (getD (b .marks) i 0),
             getD-take p (drop (i * p) (b .levels)) j 0 k,
             getD-drop (i * p) (b .levels) j 0,

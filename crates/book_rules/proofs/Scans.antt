@@ -16,7 +16,8 @@ use Rattle.movement.specs.Limits.{maxRows, maxPoints}
 use Rattle.book_rules.specs.Columns.{follows, followed, rising, rowSound, rowsSound}
 
 -- the identities rise so far
-pub rise-more : (xs : List ℕ) (i : ℕ) {t : Bool} → i + 1 < length xs → t ≡ follows (getD xs i 0) (getD xs (i + 1) 0)
+pub rise-more : (xs : List ℕ) (i : ℕ) {t : Bool} → i + 1 < length xs
+    → t ≡ follows (getD xs i 0) (getD xs (i + 1) 0)
     → rising (drop i xs) ≡ (t && rising (drop (i + 1) xs))
 unfolding rising followed
 rise-more xs i {t} h e =
@@ -50,7 +51,8 @@ rows-more p xs gs ms ls i at {t} h hg hm e =
     let q : at + p - at ≡ p = omega arith in
     rw (drop-more xs i h, drop-more gs i (omega arith), drop-more ms i (omega arith), drop-drop p at ls, e, q) refl
 
-pub rows-end : (p : ℕ) (xs gs ms ls : List ℕ) (i : ℕ) → length xs ≤ i → rowsSound p (drop i xs) gs ms ls ≡ true
+pub rows-end : (p : ℕ) (xs gs ms ls : List ℕ) (i : ℕ) → length xs ≤ i
+    → rowsSound p (drop i xs) gs ms ls ≡ true
 unfolding rowsSound
 rows-end p xs gs ms ls i h = ap (λ (l : List ℕ). rowsSound p l gs ms ls) (drop-of-length-le xs h)
 

@@ -8,7 +8,8 @@ use native.Mathlib.Nat.{le-of-suc-le-suc, not-suc-le-zero}
 use native.Mathlib.Omega.{arith}
 use lib.ListN.{length, getD}
 use lib.Dec.{eqb, leb, ltb}
-use borrow.Author.Tests.{ltb-true, ltb-false, leb-true, leb-false, eqb-true, eqb-false, le-leb, lt-leb, lt-ltb, le-ltb, eq-eqb, ne-eqb}
+use borrow.Author.Tests.{ltb-true, ltb-false, leb-true, leb-false, eqb-true, eqb-false, le-leb, lt-leb, lt-ltb, le-ltb}
+use borrow.Author.Tests.{eq-eqb, ne-eqb}
 use Rattle.refusal.specs.Range.{allWithin}
 use Rattle.refusal.proofs.Laws.{and-left, and-right}
 use Rattle.book_rules.specs.Columns.{firstAt, indexOf, placeOf, stands, rising, followed, follows}
@@ -20,7 +21,8 @@ reached x y = eqb y 0 || leb x y
 -- Where a first value is
 
 -- a value that passes is not before the first
-pub first-before : (f : ℕ → Bool) (xs : List ℕ) (i : ℕ) → i < length xs → f (getD xs i 0) ≡ true → firstAt f xs ≤ i
+pub first-before : (f : ℕ → Bool) (xs : List ℕ) (i : ℕ) → i < length xs → f (getD xs i 0) ≡ true
+    → firstAt f xs ≤ i
 unfolding firstAt
 first-before f [] i h e = absurd (not-suc-le-zero h)
 first-before f (y ∷ ys) zero h e = rw e (omega arith)
@@ -31,7 +33,8 @@ first-before f (y ∷ ys) (suc i) h e = by (f y) (first-before f ys i (le-of-suc
     by false r = omega arith
 
 -- the first value passes
-pub first-passes : (f : ℕ → Bool) (xs : List ℕ) → firstAt f xs < length xs → f (getD xs (firstAt f xs) 0) ≡ true
+pub first-passes : (f : ℕ → Bool) (xs : List ℕ) → firstAt f xs < length xs
+    → f (getD xs (firstAt f xs) 0) ≡ true
 unfolding firstAt
 first-passes f [] h = absurd (not-suc-le-zero h)
 first-passes f (y ∷ ys) h = by (f y) refl h (first-passes f ys)
@@ -43,7 +46,8 @@ first-passes f (y ∷ ys) h = by (f y) refl h (first-passes f ys)
     by false e h r = r (omega arith)
 
 -- where one test passes only if another does, the other passes no later
-pub first-earlier : (f g : ℕ → Bool) → ((y : ℕ) → g y ≡ true → f y ≡ true) → (xs : List ℕ) → firstAt f xs ≤ firstAt g xs
+pub first-earlier : (f g : ℕ → Bool) → ((y : ℕ) → g y ≡ true → f y ≡ true) → (xs : List ℕ)
+    → firstAt f xs ≤ firstAt g xs
 unfolding firstAt
 first-earlier f g i [] = omega arith
 first-earlier f g i (y ∷ ys) = by (f y) (g y) refl refl (first-earlier f g i ys)
@@ -81,30 +85,36 @@ reached-next x y z f e = by (eqb z 0) refl f
         le-leb x z (omega (arith, low (eqb y 0) refl e p))
 
 -- once reached, x is reached at every later row
-pub reached-on : (x y : ℕ) (ys : List ℕ) (i : ℕ) → rising (y ∷ ys) ≡ true → reached x y ≡ true → i ≤ length ys
+pub reached-on : (x y : ℕ) (ys : List ℕ) (i : ℕ) → rising (y ∷ ys) ≡ true → reached x y ≡ true
+    → i ≤ length ys
     → reached x (getD (y ∷ ys) i 0) ≡ true
 unfolding rising followed
 reached-on x y ys zero r e h = e
 reached-on x y [] (suc i) r e h = absurd (not-suc-le-zero h)
 reached-on x y (z ∷ zs) (suc i) r e h =
-    reached-on x z zs i (and-right (follows y z) (rising (z ∷ zs)) r) (reached-next x y z (and-left (follows y z) (rising (z ∷ zs)) r) e) (le-of-suc-le-suc h)
+    reached-on x z zs i (and-right (follows y z) (rising (z ∷ zs)) r)
+    (reached-next x y z (and-left (follows y z) (rising (z ∷ zs)) r) e) (le-of-suc-le-suc h)
 
 -- a row at which x is not reached comes before the place of x
-pub place-after : (x : ℕ) (xs : List ℕ) (i : ℕ) → rising xs ≡ true → i < length xs → reached x (getD xs i 0) ≡ false
+pub place-after : (x : ℕ) (xs : List ℕ) (i : ℕ) → rising xs ≡ true → i < length xs
+    → reached x (getD xs i 0) ≡ false
     → i < placeOf x xs
 unfolding placeOf firstAt rising
 place-after x [] i r h e = absurd (not-suc-le-zero h)
 place-after x (y ∷ ys) i r h e = by (reached x y) refl i h e (place-after x ys)
   where
-    by : (t : Bool) → reached x y ≡ t → (i : ℕ) → i < suc (length ys) → reached x (getD (y ∷ ys) i 0) ≡ false
-        → ((i : ℕ) → rising ys ≡ true → i < length ys → reached x (getD ys i 0) ≡ false → i < firstAt (reached x) ys)
+    by : (t : Bool) → reached x y ≡ t → (i : ℕ) → i < suc (length ys)
+        → reached x (getD (y ∷ ys) i 0) ≡ false
+        → ((i : ℕ) → rising ys ≡ true → i < length ys → reached x (getD ys i 0) ≡ false
+        → i < firstAt (reached x) ys)
         → i < cond t 0 (suc (firstAt (reached x) ys))
     by true k i h e ih = absurd (true≢false (sym (reached-on x y ys i r k (le-of-suc-le-suc h)) ∙ e))
     by false k zero h e ih = omega arith
     by false k (suc i) h e ih = omega (arith, ih i (and-right (followed y ys) (rising ys) r) (le-of-suc-le-suc h) e)
 
 -- and one at which it is reached does not
-pub place-before : (x : ℕ) (xs : List ℕ) (i : ℕ) → i < length xs → reached x (getD xs i 0) ≡ true → placeOf x xs ≤ i
+pub place-before : (x : ℕ) (xs : List ℕ) (i : ℕ) → i < length xs → reached x (getD xs i 0) ≡ true
+    → placeOf x xs ≤ i
 unfolding placeOf
 place-before x xs i h e = first-before (reached x) xs i h e
 
@@ -117,7 +127,8 @@ pub place-last : (top : ℕ) (xs : List ℕ) → allWithin top xs ≡ true → p
 unfolding placeOf indexOf firstAt allWithin
 place-last top [] e = refl
 place-last top (y ∷ ys) e =
-    let k : leb (top + 1) y ≡ false = lt-leb (top + 1) y (omega (arith, leb-true y top (and-left (leb y top) (allWithin top ys) e))) in
+    let k : leb (top + 1) y ≡ false =
+    lt-leb (top + 1) y (omega (arith, leb-true y top (and-left (leb y top) (allWithin top ys) e))) in
     rw k (by (eqb y 0) (place-last top ys (and-right (leb y top) (allWithin top ys) e)))
   where
     by : (t : Bool) → firstAt (reached (top + 1)) ys ≡ firstAt (λ z. eqb z 0) ys
@@ -174,7 +185,8 @@ place-index x xs l r h = by (leb (indexOf x xs) (placeOf x xs)) refl
   where
     earlier : placeOf x xs < indexOf x xs → ⊥
     earlier k =
-        let over = reached-over x (getD xs (placeOf x xs) 0) (place-reached x xs (omega arith)) (λ e. omega (arith, index-before x xs (placeOf x xs) (omega arith) e)) in
+        let over = reached-over x (getD xs (placeOf x xs) 0) (place-reached x xs (omega arith))
+        (λ e. omega (arith, index-before x xs (placeOf x xs) (omega arith) e)) in
         let low = place-before (x + 1) xs (placeOf x xs) (omega arith) over in
         let high = place-after (x + 1) xs (indexOf x xs) r h (rw (index-is x xs h) (not-reached x l)) in
         omega arith
@@ -184,7 +196,8 @@ place-index x xs l r h = by (leb (indexOf x xs) (placeOf x xs)) refl
     by false e = absurd (earlier (leb-false (indexOf x xs) (placeOf x xs) e))
 
 -- x stands exactly if its place holds it
-pub stands-here : (x : ℕ) (xs : List ℕ) (at : ℕ) → 1 ≤ x → rising xs ≡ true → at ≡ placeOf x xs → at < length xs
+pub stands-here : (x : ℕ) (xs : List ℕ) (at : ℕ) → 1 ≤ x → rising xs ≡ true → at ≡ placeOf x xs
+    → at < length xs
     → eqb (getD xs at 0) x ≡ stands x xs
 unfolding stands
 stands-here x xs at l r e h = by (eqb (getD xs at 0) x) refl
@@ -201,7 +214,8 @@ stands-here x xs at l r e h = by (eqb (getD xs at 0) x) refl
             let same : indexOf x xs ≡ at = place-index x xs l r i ∙ sym e in
             absurd (eqb-false (getD xs at 0) x k (ap (λ n. getD xs n 0) (sym same) ∙ index-is x xs i))
 
-pub stands-past : (x : ℕ) (xs : List ℕ) (at : ℕ) → at ≡ placeOf x xs → length xs ≤ at → stands x xs ≡ false
+pub stands-past : (x : ℕ) (xs : List ℕ) (at : ℕ) → at ≡ placeOf x xs
+    → length xs ≤ at → stands x xs ≡ false
 unfolding stands
 stands-past x xs at e h = le-ltb (indexOf x xs) (length xs) (omega (arith, place-index≤ x xs))
 

@@ -62,8 +62,11 @@ head-bounds x g m e = by (eqb x 0) refl e
         let c = eqb-true m 0 (and-right (eqb g 0) _ e) in
         (omega arith, omega arith, omega arith)
     by false z e =
-        let r = and-right (leb x maxIdentity) _ e in
-        (leb-true x maxIdentity (and-left (leb x maxIdentity) _ e), ltb-true g groupCount (and-left (ltb g groupCount) _ r), leb-true m 1 (and-right (ltb g groupCount) _ r))
+        let r = and-right (leb x maxIdentity) _ e in (
+          leb-true x maxIdentity (and-left (leb x maxIdentity) _ e),
+          ltb-true g groupCount (and-left (ltb g groupCount) _ r),
+          leb-true m 1 (and-right (ltb g groupCount) _ r),
+        )
 
 pub sound-rises : (p : ℕ) (b : Book) → sound p b ≡ true → rising (b .identities) ≡ true
 unfolding sound
@@ -83,7 +86,8 @@ ids-within p (x ∷ xs) (g ∷ gs) [] ls e hg hm = absurd (omega arith)
 ids-within p (x ∷ xs) (g ∷ gs) (m ∷ ms) ls e hg hm =
     let row = and-left (rowSound x g m (take p ls)) _ e in
     let head = head-bounds x g m (and-left (headSound x g m) _ row) in
-    rw (le-leb x maxIdentity (head .0)) (ids-within p xs gs ms (drop p ls) (and-right (rowSound x g m (take p ls)) _ e) (omega arith) (omega arith))
+    rw (le-leb x maxIdentity (head .0))
+    (ids-within p xs gs ms (drop p ls) (and-right (rowSound x g m (take p ls)) _ e) (omega arith) (omega arith))
 
 pub sound-identities : (p : ℕ) (b : Book) → sound p b ≡ true → allWithin maxIdentity (b .identities) ≡ true
 sound-identities p b e =

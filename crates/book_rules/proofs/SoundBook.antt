@@ -14,7 +14,8 @@ use Rattle.refusal.specs.Range.{allWithin}
 use Rattle.refusal.proofs.Laws.{and-left, and-right}
 use Rattle.refusal.proofs.Ranges.{within-at}
 use Rattle.movement.specs.Limits.{maxRows, maxPoints, maxIdentity, maxLevel, groupCount}
-use Rattle.book_rules.specs.Columns.{Book, shapeFits, shaped, follows, followed, rising, headSound, topLevel, rowSound, rowsSound, sound}
+use Rattle.book_rules.specs.Columns.{Book, shapeFits, shaped, follows, followed, rising, headSound, topLevel}
+use Rattle.book_rules.specs.Columns.{rowSound, rowsSound, sound}
 use Rattle.book_rules.specs.Calls.{Call, refusal}
 use Rattle.book_rules.specs.SoundBook.{SoundRow, Later, SoundBook, SoundExactly, SizesRefused}
 use Rattle.book_rules.proofs.Scans.{room}
@@ -41,7 +42,8 @@ later-on x y z l (inl e) = inl e
 later-on x y z (inl e) (inr m) = absurd (omega (arith, m .0))
 later-on x y z (inr l) (inr m) = inr (l .0, omega (arith, l .1, m .1))
 
-first-later : (x : ℕ) (xs : List ℕ) (j : ℕ) → rising (x ∷ xs) ≡ true → j < length xs → Later x (getD xs j 0)
+first-later : (x : ℕ) (xs : List ℕ) (j : ℕ) → rising (x ∷ xs) ≡ true → j < length xs
+    → Later x (getD xs j 0)
 unfolding rising followed
 first-later x [] j r h = absurd (not-suc-le-zero h)
 first-later x (y ∷ ys) zero r h = follows-later x y (and-left (follows x y) _ r)
@@ -49,7 +51,8 @@ first-later x (y ∷ ys) (suc j) r h =
     later-on x y (getD ys j 0) (follows-later x y (and-left (follows x y) _ r))
     (first-later y ys j (and-right (follows x y) (rising (y ∷ ys)) r) (le-of-suc-le-suc h))
 
-rise-pairs : (xs : List ℕ) (i j : ℕ) → rising xs ≡ true → i < j → j < length xs → Later (getD xs i 0) (getD xs j 0)
+rise-pairs : (xs : List ℕ) (i j : ℕ) → rising xs ≡ true → i < j → j < length xs
+    → Later (getD xs i 0) (getD xs j 0)
 unfolding rising
 rise-pairs [] i j r l h = absurd (not-suc-le-zero h)
 rise-pairs (x ∷ xs) i zero r l h = absurd (not-suc-le-zero l)
@@ -57,7 +60,8 @@ rise-pairs (x ∷ xs) zero (suc j) r l h = first-later x xs j r (le-of-suc-le-su
 rise-pairs (x ∷ xs) (suc i) (suc j) r l h =
     rise-pairs xs i j (and-right (followed x xs) (rising xs) r) (le-of-suc-le-suc l) (le-of-suc-le-suc h)
 
-pairs-rise : (xs : List ℕ) → ((i j : ℕ) → i < j → j < length xs → Later (getD xs i 0) (getD xs j 0)) → rising xs ≡ true
+pairs-rise : (xs : List ℕ) → ((i j : ℕ) → i < j → j < length xs → Later (getD xs i 0) (getD xs j 0))
+    → rising xs ≡ true
 unfolding rising followed
 pairs-rise [] h = refl
 pairs-rise (x ∷ []) h = refl
@@ -67,10 +71,12 @@ pairs-rise (x ∷ (y ∷ ys)) h =
 
 -- One row
 
-pub all-within : (top : ℕ) (ls : List ℕ) → ((j : ℕ) → j < length ls → getD ls j 0 ≤ top) → allWithin top ls ≡ true
+pub all-within : (top : ℕ) (ls : List ℕ) → ((j : ℕ) → j < length ls → getD ls j 0 ≤ top)
+    → allWithin top ls ≡ true
 unfolding allWithin
 all-within top [] h = refl
-all-within top (l ∷ ls) h = rw (le-leb l top (h 0 (omega arith))) (all-within top ls (λ j k. h (suc j) (omega arith)))
+all-within top (l ∷ ls) h =
+    rw (le-leb l top (h 0 (omega arith))) (all-within top ls (λ j k. h (suc j) (omega arith)))
 
 zero-head : (x g m : ℕ) → headSound x g m ≡ true → x ≡ 0 → (g ≡ 0) × (m ≡ 0)
 unfolding headSound
@@ -78,7 +84,8 @@ zero-head x g m e z =
     let f : (eqb g 0 && eqb m 0) ≡ true = rw (eq-eqb x 0 z) at e in
     (eqb-true g 0 (and-left (eqb g 0) _ f), eqb-true m 0 (and-right (eqb g 0) _ f))
 
-head-of : (x g m : ℕ) → x ≤ 99999 → g < 18 → m ≤ 1 → (x ≡ 0 → (g ≡ 0) × (m ≡ 0)) → headSound x g m ≡ true
+head-of : (x g m : ℕ) → x ≤ 99999 → g < 18 → m ≤ 1 → (x ≡ 0 → (g ≡ 0) × (m ≡ 0))
+    → headSound x g m ≡ true
 unfolding headSound
 head-of x g m a b c u = by (eqb x 0) refl
   where
@@ -88,10 +95,12 @@ head-of x g m a b c u = by (eqb x 0) refl
     by false z = rw (le-leb x maxIdentity a, lt-ltb g groupCount b, le-leb m 1 c) refl
 
 -- a level of the row is one of the column
-level-at : (p i : ℕ) (ls : List ℕ) (j : ℕ) → j < p → getD (take p (drop (i * p) ls)) j 0 ≡ getD ls (i * p + j) 0
+level-at : (p i : ℕ) (ls : List ℕ) (j : ℕ) → j < p
+    → getD (take p (drop (i * p) ls)) j 0 ≡ getD ls (i * p + j) 0
 level-at p i ls j h = getD-take p (drop (i * p) ls) j 0 h ∙ getD-drop (i * p) ls j 0
 
-bare-level : (m : ℕ) (ls : List ℕ) (j : ℕ) {l : ℕ} → allWithin (topLevel m) ls ≡ true → m ≡ 0 → getD ls j 0 ≡ l → l ≡ 0
+bare-level : (m : ℕ) (ls : List ℕ) (j : ℕ) {l : ℕ} → allWithin (topLevel m) ls ≡ true → m ≡ 0
+    → getD ls j 0 ≡ l → l ≡ 0
 unfolding topLevel
 bare-level m ls j {l} w z e =
     let k : allWithin 0 ls ≡ true = rw (eq-eqb m 0 z) at w in omega (arith, within-at 0 ls j k)
@@ -104,7 +113,8 @@ row-words p b i e h =
     let g = getD (b .groups) i 0 in
     let m = getD (b .marks) i 0 in
     let part = take p (drop (i * p) (b .levels)) in
-    let s = row-at p (b .identities) (b .groups) (b .marks) (b .levels) i (sound-rows p b e) (f .groups=) (f .marks=) h in
+    let s = row-at p (b .identities) (b .groups) (b .marks) (b .levels) i (sound-rows p b e) (f .groups=)
+    (f .marks=) h in
     let r = row-facts p b i e h in
     record {
       identity = r .identity≤;
@@ -124,7 +134,8 @@ level-top m l v e h z = by (eqb m 0) refl
     by false k = omega arith
 
 row-passes : (p : ℕ) (b : Book) (i : ℕ) → SoundBook p b → i < length (b .identities)
-    → rowSound (getD (b .identities) i 0) (getD (b .groups) i 0) (getD (b .marks) i 0) (take p (drop (i * p) (b .levels))) ≡ true
+    → rowSound (getD (b .identities) i 0) (getD (b .groups) i 0) (getD (b .marks) i 0)
+    (take p (drop (i * p) (b .levels))) ≡ true
 unfolding rowSound
 row-passes p b i s h =
     let r = s .row i h in
@@ -132,22 +143,32 @@ row-passes p b i s h =
     let g = getD (b .groups) i 0 in
     let m = getD (b .marks) i 0 in
     let part = take p (drop (i * p) (b .levels)) in
-    let wide : length part ≡ p = length-take-le p (drop (i * p) (b .levels)) (omega (arith, length-drop (i * p) (b .levels), room p i (i * p) (length (b .identities)) (length (b .levels)) refl h (s .levels))) in
+    let wide : length part ≡ p =
+    length-take-le p (drop (i * p) (b .levels))
+    (omega (
+      arith,
+      length-drop (i * p) (b .levels),
+      room p i (i * p) (length (b .identities))
+          (length (b .levels)) refl h (s .levels),
+    )) in
     let top : (j : ℕ) → j < length part → getD part j 0 ≤ topLevel m =
-    λ j k. level-top m _ _ (level-at p i (b .levels) j (omega arith)) (r .level j (omega arith)) (λ z. r .bare z j (omega arith)) in
+    λ j k. level-top m _ _ (level-at p i (b .levels) j (omega arith)) (r .level j (omega arith))
+    (λ z. r .bare z j (omega arith)) in
     rw (head-of x g m (r .identity) (r .group) (r .mark) (r .unused)) (all-within (topLevel m) part top)
 
 -- All rows
 
 rows-pass : (p : ℕ) (xs gs ms ls : List ℕ) → length gs ≡ length xs → length ms ≡ length xs
-    → ((i : ℕ) → i < length xs → rowSound (getD xs i 0) (getD gs i 0) (getD ms i 0) (take p (drop (i * p) ls)) ≡ true)
+    → ((i : ℕ) → i < length xs
+    → rowSound (getD xs i 0) (getD gs i 0) (getD ms i 0) (take p (drop (i * p) ls)) ≡ true)
     → rowsSound p xs gs ms ls ≡ true
 unfolding rowsSound
 rows-pass p [] gs ms ls hg hm h = refl
 rows-pass p (x ∷ xs) [] ms ls hg hm h = refl
 rows-pass p (x ∷ xs) (g ∷ gs) [] ls hg hm h = refl
 rows-pass p (x ∷ xs) (g ∷ gs) (m ∷ ms) ls hg hm h =
-    let first : rowSound x g m (take p ls) ≡ true = subst (λ n. rowSound x g m (take p (drop n ls)) ≡ true) (zero-mul p) (h 0 (omega arith)) in
+    let first : rowSound x g m (take p ls) ≡ true =
+    subst (λ n. rowSound x g m (take p (drop n ls)) ≡ true) (zero-mul p) (h 0 (omega arith)) in
     rw first (rows-pass p xs gs ms (drop p ls) (omega arith) (omega arith) rest)
   where
     rest : (i : ℕ) → i < length xs
@@ -179,7 +200,8 @@ sound-exactly p b =
     record {
       passes = λ s.
           rw (shape-passes p b s, pairs-rise (b .identities) (s .rising))
-          (rows-pass p (b .identities) (b .groups) (b .marks) (b .levels) (s .groups) (s .marks) (λ i h. row-passes p b i s h));
+          (rows-pass p (b .identities) (b .groups) (b .marks) (b .levels) (s .groups) (s .marks)
+          (λ i h. row-passes p b i s h));
       only = λ e.
           let f = sound-fits p b e in
           record {

@@ -12,10 +12,13 @@ use lib.Dec.{leb}
 use borrow.Author.Tests.{le-leb, lt-ltb, eq-eqb, ne-eqb}
 use Rattle.refusal.specs.Range.{allWithin}
 use Rattle.movement.specs.Limits.{maxIdentity, groupCount}
-use Rattle.book_rules.specs.Columns.{sound, shaped, shapeFits, rising, followed, follows, headSound, topLevel, rowSound, rowsSound}
-use Rattle.book_rules.specs.History.{Held, Movement, movement, added, holding, without, markOf, levelsOf, column, identityCell, groupCell, markCell, levelCells, rowsOf, sizesFit}
+use Rattle.book_rules.specs.Columns.{sound, shaped, shapeFits, rising, followed, follows, headSound, topLevel}
+use Rattle.book_rules.specs.Columns.{rowSound, rowsSound}
+use Rattle.book_rules.specs.History.{Held, Movement, movement, added, holding, without, markOf, levelsOf}
+use Rattle.book_rules.specs.History.{column, identityCell, groupCell, markCell, levelCells, rowsOf, sizesFit}
 use Rattle.book_rules.specs.History.Held.{none, holds}
-use Rattle.book_rules.proofs.Blocks.{Place, Found, Sized, length-column, added-last, added-here, added-there, without-this, without-later, holding-this, holding-later}
+use Rattle.book_rules.proofs.Blocks.{Place, Found, Sized, length-column, added-last, added-here, added-there}
+use Rattle.book_rules.proofs.Blocks.{without-this, without-later, holding-this, holding-later}
 use Rattle.book_rules.proofs.Blocks.Place.{last, here, there}
 use Rattle.book_rules.proofs.Blocks.Found.{this, later}
 
@@ -50,7 +53,8 @@ New x (a ∷ ms) = (a .identity ≡ x → ⊥) × New x ms
 
 -- A movement goes in
 
-pub good-added : {p k : ℕ} {ms : List Movement} (m : Movement) → Good p m → AllGood p ms → Place (m .identity) ms k
+pub good-added : {p k : ℕ} {ms : List Movement} (m : Movement) → Good p m → AllGood p ms
+    → Place (m .identity) ms k
     → AllGood p (added m ms)
 good-added {p} m g s last = subst (AllGood p) (sym (added-last m)) (g, tt)
 good-added {p} m g s (here {a} {ms} h) = subst (AllGood p) (sym (added-here m a ms h)) (g, s)
@@ -63,7 +67,8 @@ length-added m last = ap length (added-last m)
 length-added m (here {a} {ms} h) = ap length (added-here m a ms h)
 length-added m (there {a} {ms} h r) = ap length (added-there m a ms h) ∙ ap suc (length-added m r)
 
-below-added : {x k : ℕ} {ms : List Movement} (m : Movement) → x < m .identity → Below x ms → Place (m .identity) ms k
+below-added : {x k : ℕ} {ms : List Movement} (m : Movement) → x < m .identity → Below x ms
+    → Place (m .identity) ms k
     → Below x (added m ms)
 below-added {x} m l s last = subst (Below x) (sym (added-last m)) l
 below-added {x} m l s (here {a} {ms} h) = subst (Below x) (sym (added-here m a ms h)) l
@@ -80,7 +85,8 @@ rising-added m n s (there {a} {ms} h r) =
 
 -- A movement goes out
 
-pub good-without : (p : ℕ) {x k : ℕ} {ms : List Movement} → AllGood p ms → Found x ms k → AllGood p (without x ms)
+pub good-without : (p : ℕ) {x k : ℕ} {ms : List Movement} → AllGood p ms → Found x ms k
+    → AllGood p (without x ms)
 good-without p {x} s (this {a} {ms} e) = subst (AllGood p) (sym (without-this x a ms e)) (s .1)
 good-without p {x} s (later {a} {ms} e r) =
     subst (AllGood p) (sym (without-later x a ms e)) (s .0, good-without p (s .1) r)
@@ -94,7 +100,8 @@ below-rest : (x : ℕ) (a : Movement) (ms : List Movement) → x < a .identity �
 below-rest x a [] h s = tt
 below-rest x a (b ∷ ms) h s = omega arith
 
-below-without : (y : ℕ) {x k : ℕ} {ms : List Movement} → Below y ms → Rising ms → Found x ms k → Below y (without x ms)
+below-without : (y : ℕ) {x k : ℕ} {ms : List Movement} → Below y ms → Rising ms → Found x ms k
+    → Below y (without x ms)
 below-without y {x} b s (this {a} {ms} e) = subst (Below y) (sym (without-this x a ms e)) (below-rest y a ms b (s .0))
 below-without y {x} b s (later {a} {ms} e r) = subst (Below y) (sym (without-later x a ms e)) b
 
@@ -108,19 +115,23 @@ rising-without {x} s (later {a} {ms} e r) =
 pub good-holding : {p x k : ℕ} {ms : List Movement} (h : Held) → Filled p h → AllGood p ms → Found x ms k
     → AllGood p (holding x h ms)
 good-holding {p} {x} h f s (this {a} {ms} e) =
-    subst (AllGood p) (sym (holding-this x h a ms e)) (record { low = s .0 .low; high = s .0 .high; group< = s .0 .group<; filled = f }, s .1)
+    subst (AllGood p) (sym (holding-this x h a ms e))
+    (record { low = s .0 .low; high = s .0 .high; group< = s .0 .group<; filled = f }, s .1)
 good-holding {p} {x} h f s (later {a} {ms} e r) =
     subst (AllGood p) (sym (holding-later x h a ms e)) (s .0, good-holding h f (s .1) r)
 
-pub length-holding : {x k : ℕ} {ms : List Movement} (h : Held) → Found x ms k → length (holding x h ms) ≡ length ms
+pub length-holding : {x k : ℕ} {ms : List Movement} (h : Held) → Found x ms k
+    → length (holding x h ms) ≡ length ms
 length-holding {x} h (this {a} {ms} e) = ap length (holding-this x h a ms e)
 length-holding {x} h (later {a} {ms} e r) = ap length (holding-later x h a ms e) ∙ ap suc (length-holding h r)
 
-below-holding : (y : ℕ) {x k : ℕ} {ms : List Movement} (h : Held) → Below y ms → Found x ms k → Below y (holding x h ms)
+below-holding : (y : ℕ) {x k : ℕ} {ms : List Movement} (h : Held) → Below y ms → Found x ms k
+    → Below y (holding x h ms)
 below-holding y {x} h b (this {a} {ms} e) = subst (Below y) (sym (holding-this x h a ms e)) b
 below-holding y {x} h b (later {a} {ms} e r) = subst (Below y) (sym (holding-later x h a ms e)) b
 
-pub rising-holding : {x k : ℕ} {ms : List Movement} (h : Held) → Rising ms → Found x ms k → Rising (holding x h ms)
+pub rising-holding : {x k : ℕ} {ms : List Movement} (h : Held) → Rising ms → Found x ms k
+    → Rising (holding x h ms)
 rising-holding {x} h s (this {a} {ms} e) = subst Rising (sym (holding-this x h a ms e)) s
 rising-holding {x} h s (later {a} {ms} e r) =
     subst Rising (sym (holding-later x h a ms e)) (below-holding (a .identity) h (s .0) r, rising-holding h (s .1) r)
@@ -153,7 +164,8 @@ unfolding followed follows
 zeros-follow x zero = refl
 zeros-follow x (suc n) = refl
 
-followed-column : (p u : ℕ) (a : Movement) (ms : List Movement) → Good p a → AllGood p ms → Below (a .identity) ms
+followed-column : (p u : ℕ) (a : Movement) (ms : List Movement) → Good p a → AllGood p ms
+    → Below (a .identity) ms
     → followed (a .identity) (column identityCell 1 u ms) ≡ true
 unfolding column followed follows
 followed-column p u a [] g s b = zeros-follow (a .identity) (u * 1)
@@ -192,17 +204,28 @@ zero-rows p zero = refl
 zero-rows p (suc u) =
     let e : suc u * p ≡ p + u * p = omega (arith, suc-mul u p) in
     let l = length-replicate {A = ℕ} p 0 in
-    let q : _≡_ {A = List ℕ} (replicate (suc u * p) 0) (replicate p 0 ++ replicate (u * p) 0) = ap (λ n. replicate n 0) e ∙ sym (replicate-append-replicate p (u * p) 0) in
-    rw (q, take-at (replicate p 0) (replicate (u * p) 0) p l, drop-at (replicate p 0) (replicate (u * p) 0) p l, zeros-within 0 p)
+    let q : _≡_ {A = List ℕ} (replicate (suc u * p) 0) (replicate p 0 ++ replicate (u * p) 0) =
+    ap (λ n. replicate n 0) e ∙ sym (replicate-append-replicate p (u * p) 0) in
+    rw (
+      q,
+      take-at (replicate p 0) (replicate (u * p) 0) p l,
+      drop-at (replicate p 0) (replicate (u * p) 0) p l,
+      zeros-within 0 p,
+    )
     (zero-rows p u)
 
 pub rows-good : (p u : ℕ) (ms : List Movement) → AllGood p ms
-    → rowsSound p (column identityCell 1 u ms) (column groupCell 1 u ms) (column markCell 1 u ms) (column (levelCells p) p u ms) ≡ true
+    → rowsSound p (column identityCell 1 u ms) (column groupCell 1 u ms) (column markCell 1 u ms)
+    (column (levelCells p) p u ms) ≡ true
 unfolding column rowsSound
 rows-good p u [] s = rw (mul-one u) (zero-rows p u)
 rows-good p u (a ∷ ms) s =
     let w = s .0 .filled .wide in
-    rw (take-at (levelsOf p (a .held)) (column (levelCells p) p u ms) p w, drop-at (levelsOf p (a .held)) (column (levelCells p) p u ms) p w, row-good p a (s .0))
+    rw (
+      take-at (levelsOf p (a .held)) (column (levelCells p) p u ms) p w,
+      drop-at (levelsOf p (a .held)) (column (levelCells p) p u ms) p w,
+      row-good p a (s .0),
+    )
     (rows-good p u ms (s .1))
 
 -- their book is sound exactly if its size is in range
@@ -211,6 +234,12 @@ pub book-sound : (p u : ℕ) (ms : List Movement) → AllGood p ms → Rising ms
 unfolding sound shaped shapeFits rowsOf sizesFit
 book-sound p u ms g r =
     let n = u + length ms in
-    let one : (f : Movement → ℕ) → length (column (λ a. f a ∷ []) 1 u ms) ≡ n = λ f. length-column (λ a. f a ∷ []) 1 u ms (sized-one f ms) ∙ mul-one n in
-    rw (one (λ a. a .identity), one (λ a. a .group), one (λ a. markOf (a .held)), length-column (levelCells p) p u ms (sized-levels p ms g))
+    let one : (f : Movement → ℕ) → length (column (λ a. f a ∷ []) 1 u ms) ≡ n =
+    λ f. length-column (λ a. f a ∷ []) 1 u ms (sized-one f ms) ∙ mul-one n in
+    rw (
+      one (λ a. a .identity),
+      one (λ a. a .group),
+      one (λ a. markOf (a .held)),
+      length-column (levelCells p) p u ms (sized-levels p ms g),
+    )
     (simp (eq-eqb n n refl, eq-eqb (n * p) (n * p) refl, column-rises p u ms g r, rows-good p u ms g, and-true))

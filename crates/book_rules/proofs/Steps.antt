@@ -18,15 +18,20 @@ use Rattle.movement.specs.Group.{groupOf}
 use Rattle.movement.specs.Rules.{identityFits, levelsFit}
 use Rattle.movement.proofs.Numbers.{group-below}
 use Rattle.book_rules.specs.Columns.{Book, bookOf, firstAt, indexOf, placeOf, stands, topLevel}
-use Rattle.book_rules.specs.Calls.{Call, enterRefusal, withdrawRefusal, soundRefusal, changed, rowIn, rowOut, rowMarked}
+use Rattle.book_rules.specs.Calls.{Call, enterRefusal, withdrawRefusal, soundRefusal, changed, rowIn, rowOut}
+use Rattle.book_rules.specs.Calls.{rowMarked}
 use Rattle.book_rules.specs.Calls.Call.{enter, supply, takeBack, withdraw}
-use Rattle.book_rules.specs.History.{Held, Movement, movement, added, holding, without, step, markOf, levelsOf, column, identityCell, groupCell, markCell, levelCells, rowsOf}
+use Rattle.book_rules.specs.History.{Held, Movement, movement, added, holding, without, step, markOf, levelsOf}
+use Rattle.book_rules.specs.History.{column, identityCell, groupCell, markCell, levelCells, rowsOf}
 use Rattle.book_rules.specs.History.Held.{none, holds}
 use Rattle.book_rules.proofs.Accepted.{entered, withdrawn, taken-back, supplied, identity-in, levels-length}
-use Rattle.book_rules.proofs.Blocks.{Place, Found, length-column, column-in, column-out, column-held, column-kept}
+use Rattle.book_rules.proofs.Blocks.{Place, Found, length-column, column-in, column-out, column-held}
+use Rattle.book_rules.proofs.Blocks.{column-kept}
 use Rattle.book_rules.proofs.Blocks.Place.{last, here, there}
 use Rattle.book_rules.proofs.Blocks.Found.{this, later}
-use Rattle.book_rules.proofs.Standing.{Filled, AllGood, Rising, New, good-added, length-added, rising-added, good-without, length-without, rising-without, good-holding, length-holding, rising-holding, sized-one, sized-levels, zeros-within}
+use Rattle.book_rules.proofs.Standing.{Filled, AllGood, Rising, New, good-added, length-added, rising-added}
+use Rattle.book_rules.proofs.Standing.{good-without, length-without, rising-without, good-holding}
+use Rattle.book_rules.proofs.Standing.{length-holding, rising-holding, sized-one, sized-levels, zeros-within}
 
 -- From a place in the column of identities to one in the list
 
@@ -71,7 +76,11 @@ found-at : (x u : ℕ) (ms : List Movement) → 1 ≤ x → indexOf x (ids u ms)
     → Found x ms (indexOf x (ids u ms))
 unfolding indexOf column
 found-at x u [] l h =
-    absurd (omega (arith, none-zeros (λ y. eqb y x) (u * 1) (ne-eqb 0 x (omega arith)), length-replicate {A = ℕ} (u * 1) 0))
+    absurd (omega (
+      arith,
+      none-zeros (λ y. eqb y x) (u * 1) (ne-eqb 0 x (omega arith)),
+      length-replicate {A = ℕ} (u * 1) 0,
+    ))
 found-at x u (a ∷ ms) l h = by (eqb (a .identity) x) refl (found-at x u ms l)
   where
     at : ℕ → Bool
@@ -82,7 +91,8 @@ found-at x u (a ∷ ms) l h = by (eqb (a .identity) x) refl (found-at x u ms l)
         → Found x (a ∷ ms) (firstAt at (ids u (a ∷ ms)))
     by true e r = subst (Found x (a ∷ ms)) (sym (first-cons at u a ms e)) (this (eqb-true (a .identity) x e))
     by false e r =
-        subst (Found x (a ∷ ms)) (sym (first-cons at u a ms e)) (later (eqb-false (a .identity) x e) (r (omega (arith, first-cons at u a ms e))))
+        subst (Found x (a ∷ ms)) (sym (first-cons at u a ms e))
+        (later (eqb-false (a .identity) x e) (r (omega (arith, first-cons at u a ms e))))
 
 new-at : (x u : ℕ) (ms : List Movement) → length (ids u ms) ≤ indexOf x (ids u ms) → New x ms
 unfolding indexOf column
@@ -92,7 +102,8 @@ new-at x u (a ∷ ms) h = by (eqb (a .identity) x) refl (new-at x u ms)
     at : ℕ → Bool
     at y = eqb y x
 
-    by : (t : Bool) → eqb (a .identity) x ≡ t → (length (ids u ms) ≤ firstAt at (ids u ms) → New x ms) → New x (a ∷ ms)
+    by : (t : Bool) → eqb (a .identity) x ≡ t → (length (ids u ms) ≤ firstAt at (ids u ms) → New x ms)
+        → New x (a ∷ ms)
     by true e r = absurd (omega (arith, first-cons at u a ms e))
     by false e r = (eqb-false (a .identity) x e, r (omega (arith, first-cons at u a ms e)))
 
@@ -136,7 +147,8 @@ unfolding rowMarked rowsOf
 rows-held p x k u h ms s f r =
     let a = column-kept identityCell 1 u h (λ a. refl) r in
     let b = column-kept groupCell 1 u h (λ a. refl) r in
-    let c = column-held markCell 1 (markOf h ∷ []) u h (sym (mul-one k)) (sized-one (λ a. markOf (a .held)) ms) refl (λ a. refl) r in
+    let c = column-held markCell 1 (markOf h ∷ []) u h (sym (mul-one k)) (sized-one (λ a. markOf (a .held)) ms)
+    refl (λ a. refl) r in
     let d = column-held (levelCells p) p (levelsOf p h) u h refl (sized-levels p ms s) (f .wide) (λ a. refl) r in
     λ i. bookOf (a i) (b i) (c i) (d i)
 
@@ -162,7 +174,8 @@ group-bound : (t k s : ℕ) → groupOf t k s < groupCount
 unfolding groupOf
 group-bound t k s = group-below (aircraftNumbered t) (kindNumbered k) (periodOf s)
 
-stands-below : (x u : ℕ) (ms : List Movement) → stands x (ids u ms) ≡ true → indexOf x (ids u ms) < length (ids u ms)
+stands-below : (x u : ℕ) (ms : List Movement) → stands x (ids u ms) ≡ true
+    → indexOf x (ids u ms) < length (ids u ms)
 unfolding stands
 stands-below x u ms e = ltb-true (indexOf x (ids u ms)) (length (ids u ms)) e
 
@@ -175,7 +188,12 @@ enter-step : (p u : ℕ) (ms : List Movement) (x t k s m : ℕ) → AllGood p ms
     → Stepped p u ms (enter x t k s m)
 unfolding rowsOf step changed
 enter-step p zero ms x t k s m g r z =
-    absurd (omega (arith, stands-below 0 zero ms (entered (ids zero ms) x t k s m z .unused), first-unused p zero ms g, length-ids zero ms))
+    absurd (omega (
+      arith,
+      stands-below 0 zero ms (entered (ids zero ms) x t k s m z .unused),
+      first-unused p zero ms g,
+      length-ids zero ms,
+    ))
 enter-step p (suc u) ms x t k s m g r z =
     let e = entered (ids (suc u) ms) x t k s m z in
     let v = movement x (groupOf t k s) none in
@@ -196,7 +214,8 @@ stood-at p u x ms i e = found-at x u ms (identity-in x i .0) (stands-below x u m
 
 held-step : (p u x : ℕ) (h : Held) (ms : List Movement) (c : Call) → AllGood p ms → Rising ms → Filled p h
     → identityFits x ≡ true → stands x (ids u ms) ≡ true
-    → step ms c ≡ holding x h ms → changed p (rowsOf p u ms) c ≡ rowMarked p (rowsOf p u ms) (indexOf x (ids u ms)) (markOf h) (levelsOf p h)
+    → step ms c ≡ holding x h ms
+    → changed p (rowsOf p u ms) c ≡ rowMarked p (rowsOf p u ms) (indexOf x (ids u ms)) (markOf h) (levelsOf p h)
     → Stepped p u ms c
 held-step p u x h ms c g r f i e l b =
     let at = stood-at p u x ms i e in
@@ -229,7 +248,8 @@ unfolding rowsOf step changed markOf levelsOf soundRefusal
 stepped p u ms (enter x t k s m) g r z = enter-step p u ms x t k s m g r z
 stepped p u ms (supply x ls) g r z =
     let w = supplied p (ids u ms) x ls z in
-    held-step p u x (holds ls) ms (supply x ls) g r (filled-levels p ls (w .1)) (w .0 .identity=) (w .0 .stands=) refl refl
+    held-step p u x (holds ls) ms (supply x ls) g r (filled-levels p ls (w .1)) (w .0 .identity=)
+    (w .0 .stands=) refl refl
 stepped p u ms (takeBack x) g r z =
     let w = taken-back (ids u ms) (column markCell 1 u ms) x z in
     held-step p u x none ms (takeBack x) g r (filled-none p) (w .identity=) (w .stands=) refl refl

@@ -19,7 +19,8 @@ back-suc s d w i h k =
     let l : length (take (i + w) d) ≡ i + w = length-take-le (i + w) d (omega arith) in
     ap (λ n. set (take n d ++ drop (suc i) s) (i + w) (getD s i 0)) e
     ∙ ap (λ (t : List ℕ). set (t ++ drop (suc i) s) (i + w) (getD s i 0)) (take-suc d (i + w) 0 k)
-    ∙ ap (λ (t : List ℕ). set t (i + w) (getD s i 0)) (append-snoc (take (i + w) d) (getD d (i + w) 0) (drop (suc i) s))
+    ∙ ap (λ (t : List ℕ). set t (i + w) (getD s i 0))
+    (append-snoc (take (i + w) d) (getD d (i + w) 0) (drop (suc i) s))
     ∙ set-at (take (i + w) d) (getD d (i + w) 0) (drop (suc i) s) (getD s i 0) (i + w) l
     ∙ ap (λ (t : List ℕ). take (i + w) d ++ t) (sym (drop-cons s i 0 h))
 
@@ -36,14 +37,16 @@ back-read d count w i h k l =
     ∙ sym (List·getD-append (take count d) _ 0 i (rw (length-take-le count d l) k) ∙ getD-take count d i 0 k)
 
 -- a turn of the loop that moves the first `count` values up by w, from their end on
-pub back-more : (d : List ℕ) (count w left : ℕ) {now : List ℕ} → now ≡ back (raised count w d) d w left → 0 < left
+pub back-more : (d : List ℕ) (count w left : ℕ) {now : List ℕ} → now ≡ back (raised count w d) d w left
+    → 0 < left
     → left ≤ count → count + w ≤ length d
     → set now (left - 1 + w) (getD now (left - 1) 0) ≡ back (raised count w d) d w (left - 1)
 back-more d count w zero e p h k = absurd (not-suc-le-zero p)
 back-more d count w (suc i) {now} e p h k =
     let f : suc i - 1 ≡ i = omega arith in
     let s = raised count w d in
-    let m : length s ≡ length (take count d) + length (drop (count + w) d) = length-append (take count d) (drop (count + w) d) in
+    let m : length s ≡ length (take count d) + length (drop (count + w) d) =
+    length-append (take count d) (drop (count + w) d) in
     let l : length (take count d) ≡ count = length-take-le count d (omega arith) in
     rw f
     (ap (λ (t : List ℕ). set t (i + w) (getD t i 0)) e
@@ -53,7 +56,8 @@ back-more d count w (suc i) {now} e p h k =
 pub back-start : (d : List ℕ) (count w : ℕ) → count + w ≤ length d → d ≡ back (raised count w d) d w count
 back-start d count w h =
     let l : length (take count d) ≡ count = length-take-le count d (omega arith) in
-    sym (ap (λ (t : List ℕ). take (count + w) d ++ t) (drop-at (take count d) (drop (count + w) d) count l) ∙ take-append-drop (count + w) d)
+    sym (ap (λ (t : List ℕ). take (count + w) d ++ t) (drop-at (take count d) (drop (count + w) d) count l)
+    ∙ take-append-drop (count + w) d)
 
 -- in the loop that moves d down by w, what is read at i + w is still d's
 pub down-read : (d : List ℕ) (w i : ℕ) {now : List ℕ} → now ≡ frontTo (drop w d) d i → i + w ≤ length d

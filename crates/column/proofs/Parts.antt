@@ -4,7 +4,8 @@ use mathlib.Core.List.{List, _∷_, _++_, append-nil, append-assoc}
 use Prim.Native.Nat.{ℕ, zero, suc, _+_, _-_, _≤_}
 use native.Mathlib.Nat.{le-of-eq}
 use native.Mathlib.Omega.{arith}
-use lib.ListN.{length, take, drop, replicate, length-drop, length-append, length-replicate, take-append-drop, replicate-append-replicate}
+use lib.ListN.{length, take, drop, replicate, length-drop, length-append, length-replicate, take-append-drop}
+use lib.ListN.{replicate-append-replicate}
 use lib.Seq.{take-at, drop-at, take-append-add, take-all, drop-length, drop-drop, length-take-le}
 use borrow.Rule.Slice.PartMut.{midOf, postOf, putMid, post-is, mid-len}
 use Rattle.room.specs.Room.{put}
@@ -23,14 +24,16 @@ put-tail a xs ys h =
 -- a list, cut where a list before it was longer
 take-past : (n : ℕ) (xs ys : List ℕ) → length xs ≤ n → take n (xs ++ ys) ≡ xs ++ take (n - length xs) ys
 take-past n xs ys h =
-    let e : n ≡ length xs + (n - length xs) = omega arith in ap (λ k. take k (xs ++ ys)) e ∙ take-append-add xs ys (n - length xs)
+    let e : n ≡ length xs + (n - length xs) = omega arith in ap (λ k. take k (xs ++ ys)) e
+    ∙ take-append-add xs ys (n - length xs)
 
 -- Zeros, cut
 
 drop-zeros : (w z : ℕ) → _≡_ {A = List ℕ} (drop w (replicate z 0)) (replicate (z - w) 0)
 drop-zeros zero z = let e : z ≡ z - 0 = omega arith in ap (λ n. replicate n 0) e
 drop-zeros (suc w) zero = let e : 0 ≡ 0 - suc w = omega arith in ap (λ n. replicate n 0) e
-drop-zeros (suc w) (suc z) = let e : z - w ≡ suc z - suc w = omega arith in drop-zeros w z ∙ ap (λ n. replicate n 0) e
+drop-zeros (suc w) (suc z) = let e : z - w ≡ suc z - suc w = omega arith in drop-zeros w z
+    ∙ ap (λ n. replicate n 0) e
 
 take-zeros : (n z : ℕ) → n ≤ z → _≡_ {A = List ℕ} (take n (replicate z 0)) (replicate n 0)
 take-zeros zero z h = refl
@@ -44,11 +47,13 @@ cut-end t count w h e =
     let z = length t - count in
     let l : length (take count t) ≡ count = length-take-le count t (omega arith) in
     let k : length t - w - length (take count t) ≡ z - w = omega arith in
-    let whole : t ≡ take count t ++ replicate z 0 = sym (take-append-drop count t) ∙ ap (λ (s : List ℕ). take count t ++ s) e in
+    let whole : t ≡ take count t ++ replicate z 0 = sym (take-append-drop count t)
+    ∙ ap (λ (s : List ℕ). take count t ++ s) e in
     ap (take (length t - w)) whole
     ∙ take-past (length t - w) (take count t) (replicate z 0) (omega arith)
     ∙ ap (λ n. take count t ++ take n (replicate z 0)) k
-    ∙ ap (λ (s : List ℕ). take count t ++ s) (take-zeros (z - w) z (omega arith) ∙ sym (drop-zeros w z) ∙ ap (drop w) (sym e) ∙ drop-drop w count t)
+    ∙ ap (λ (s : List ℕ). take count t ++ s) (take-zeros (z - w) z (omega arith) ∙ sym (drop-zeros w z)
+    ∙ ap (drop w) (sym e) ∙ drop-drop w count t)
 
 -- the last zeros of a list may as well stand before the others
 zeros-after : (t : List ℕ) (count w z : ℕ) → drop (count + w) t ≡ replicate z 0
@@ -56,8 +61,10 @@ zeros-after : (t : List ℕ) (count w z : ℕ) → drop (count + w) t ≡ replic
 zeros-after t count w z e =
     let c : w + count ≡ count + w = omega arith in
     let swap : _≡_ {A = List ℕ} (replicate w 0 ++ replicate z 0) (replicate z 0 ++ replicate w 0) =
-    let n : w + z ≡ z + w = omega arith in replicate-append-replicate w z 0 ∙ ap (λ k. replicate k 0) n ∙ sym (replicate-append-replicate z w 0) in
-    let rest : drop (count + w) t ≡ drop count (drop w t) = ap (λ k. drop k t) (sym c) ∙ sym (drop-drop count w t) in
+    let n : w + z ≡ z + w = omega arith in replicate-append-replicate w z 0 ∙ ap (λ k. replicate k 0) n
+    ∙ sym (replicate-append-replicate z w 0) in
+    let rest : drop (count + w) t ≡ drop count (drop w t) = ap (λ k. drop k t) (sym c)
+    ∙ sym (drop-drop count w t) in
     ap (λ (s : List ℕ). take count (drop w t) ++ (replicate w 0 ++ s)) e
     ∙ ap (λ (s : List ℕ). take count (drop w t) ++ s) swap
     ∙ ap (λ (s : List ℕ). take count (drop w t) ++ (s ++ replicate w 0)) (sym e ∙ rest)
@@ -66,8 +73,10 @@ zeros-after t count w z e =
 
 -- A tail in which only `count` values moved is the tail in which all did, where the others are zeros
 
-pub opened-tail : (a count w v : ℕ) (xs : List ℕ) {ys : List ℕ} → ZeroFrom (a + count) xs → a + count + w ≤ length xs
-    → ys ≡ replicate w v ++ (take count (midOf a (length xs - a) xs) ++ drop (count + w) (midOf a (length xs - a) xs))
+pub opened-tail : (a count w v : ℕ) (xs : List ℕ) {ys : List ℕ} → ZeroFrom (a + count) xs
+    → a + count + w ≤ length xs
+    → ys ≡ replicate w v ++ (take count (midOf a (length xs - a) xs)
+    ++ drop (count + w) (midOf a (length xs - a) xs))
     → putMid a (length xs - a) xs ys ≡ opened a (replicate w v) xs
 unfolding opened
 opened-tail a count w v xs {ys} z h e =
@@ -79,14 +88,17 @@ opened-tail a count w v xs {ys} z h e =
     let n : length xs - length (take a xs) - length vs ≡ length t - w = omega arith in
     let k : length xs - (a + count) ≡ length t - count = omega arith in
     put-tail a xs ys (omega arith)
-    ∙ ap (λ (s : List ℕ). take a xs ++ s) (e ∙ ap (λ (s : List ℕ). vs ++ (take count s ++ drop (count + w) s)) (tail-mid a xs))
+    ∙ ap (λ (s : List ℕ). take a xs ++ s) (e
+    ∙ ap (λ (s : List ℕ). vs ++ (take count s ++ drop (count + w) s)) (tail-mid a xs))
     ∙ ap (λ (s : List ℕ). take a xs ++ (vs ++ s))
-    (sym (cut-end t count w (omega arith) (drop-drop count a xs ∙ z .zeros ∙ ap (λ i. replicate i 0) k)) ∙ ap (λ i. take i t) (sym n))
+    (sym (cut-end t count w (omega arith) (drop-drop count a xs ∙ z .zeros ∙ ap (λ i. replicate i 0) k))
+    ∙ ap (λ i. take i t) (sym n))
     ∙ ap (λ (s : List ℕ). take a xs ++ s) (sym (take-past (length xs - length (take a xs)) vs t (omega arith)))
     ∙ sym (take-past (length xs) (take a xs) (vs ++ t) (omega arith))
 
 pub closed-tail : (a count w : ℕ) (xs : List ℕ) {ys : List ℕ} → ZeroFrom (a + (count + w)) xs
-    → ys ≡ take count (drop w (midOf a (length xs - a) xs)) ++ (replicate w 0 ++ drop (count + w) (midOf a (length xs - a) xs))
+    → ys ≡ take count (drop w (midOf a (length xs - a) xs))
+    ++ (replicate w 0 ++ drop (count + w) (midOf a (length xs - a) xs))
     → putMid a (length xs - a) xs ys ≡ closed a w xs
 unfolding closed
 closed-tail a count w xs {ys} z e =
@@ -129,12 +141,15 @@ filled-end count w v xs {moved} {ys} h e f =
     let d : length (drop w xs) ≡ length xs - w = length-drop w xs in
     let c : length (drop count xs) ≡ length xs - count = length-drop count xs in
     let l : length (take count (drop w xs)) ≡ count = length-take-le count (drop w xs) (omega arith) in
-    let k : length moved ≡ length xs = omega (arith, ap length e, length-append (take count (drop w xs)) (drop count xs)) in
-    let m : length (midOf count (count + w - count) moved) ≡ w = omega (arith, mid-len count (count + w) moved (omega arith)) in
+    let k : length moved ≡ length xs =
+    omega (arith, ap length e, length-append (take count (drop w xs)) (drop count xs)) in
+    let m : length (midOf count (count + w - count) moved) ≡ w =
+    omega (arith, mid-len count (count + w) moved (omega arith)) in
     ap (λ (t : List ℕ). take count moved ++ (ys ++ t))
     (post-is count (count + w) moved (omega arith)
     ∙ sym (drop-drop w count moved)
     ∙ ap (drop w) (ap (drop count) e ∙ drop-at (take count (drop w xs)) (drop count xs) count l)
     ∙ drop-drop w count xs)
-    ∙ ap (λ (t : List ℕ). t ++ (ys ++ drop (count + w) xs)) (ap (take count) e ∙ take-at (take count (drop w xs)) (drop count xs) count l)
+    ∙ ap (λ (t : List ℕ). t ++ (ys ++ drop (count + w) xs)) (ap (take count) e
+    ∙ take-at (take count (drop w xs)) (drop count xs) count l)
     ∙ ap (λ (t : List ℕ). take count (drop w xs) ++ (t ++ drop (count + w) xs)) (f ∙ ap (λ n. replicate n v) m)

@@ -34,7 +34,8 @@ unfolding crossedTo
 crossed-none g d = refl
 
 -- tests joined by &&
-pub all-fit : (n m a b c d : ℕ) → (leb n a && leb m b && leb m c && leb 2 d) ≡ true → (n ≤ a) × ((m ≤ b) × ((m ≤ c) × (2 ≤ d)))
+pub all-fit : (n m a b c d : ℕ) → (leb n a && leb m b && leb m c && leb 2 d) ≡ true
+    → (n ≤ a) × ((m ≤ b) × ((m ≤ c) × (2 ≤ d)))
 all-fit n m a b c d h =
     let p = both (leb n a && leb m b && leb m c) (leb 2 d) h in
     let q = both (leb n a && leb m b) (leb m c) (p .0) in

@@ -5,7 +5,8 @@ use Rattle.contour_rules.specs.declared.Side.{Side}
 use Rattle.contour_rules.specs.Squares.{turn, exitSide}
 
 -- corners `k`, the side entered, the other three in turn, and whether the far corners are in
-module _ (k : Side → Bool) (cut : Bool) (s on-right across on-left : Side) (right left : Bool) (p : on-right ≡ turn s) (q : across ≡ turn on-right)
+module _ (k : Side → Bool) (cut : Bool) (s on-right across on-left : Side) (right left : Bool)
+    (p : on-right ≡ turn s) (q : across ≡ turn on-right)
     (r : on-left ≡ turn across) (a : right ≡ k across) (b : left ≡ k on-left) where
   abbrev pub leave : Side
   leave = exitSide (k (turn (turn s))) (k (turn (turn (turn s)))) cut s

@@ -14,7 +14,8 @@ use Rattle.contour.specs.Answers.{Outcome, outcomeOf, listsOf, answerFro
 use Rattle.contour.specs.InnerDesk.{Listed}
 
 -- outcomes are equal where the answer and each buffer are
-pub outcomes : {n n' : ℕ} {e e' c c' d d' s s' : List ℕ} → n ≡ n' → e ≡ e' → c ≡ c' → d ≡ d' → s ≡ s'
+pub outcomes : {n n' : ℕ} {e e' c c' d d' s s' : List ℕ} → n ≡ n' → e ≡ e' → c ≡ c' → d ≡ d'
+    → s ≡ s'
     → outcomeOf n e c d s ≡ outcomeOf n' e' c' d' s'
 outcomes p q r t u = rw (p, q, r, t, u)
 
@@ -35,7 +36,8 @@ straight cs e c d s e' c' d' s' at made l h p =
 pub apart : (cs : List Contour) (e₀ c₀ d₀ all-edges all-counts all-closed : List ℕ) (at made : ℕ)
     → Listed cs e₀ c₀ d₀ all-edges all-counts all-closed at made
     → {o : Outcome} (e c d s : List ℕ)
-    → o ≡ handedOut 0 (answerFrom (take at all-edges) (take made all-counts) (take made all-closed)) (listsOf e c d s)
+    → o ≡ handedOut 0 (answerFrom (take at all-edges) (take made all-counts) (take made all-closed))
+    (listsOf e c d s)
     → o ≡ handedOut 0 (answerOf cs) (listsOf e c d s)
 apart cs e₀ c₀ d₀ all-edges all-counts all-closed at made l e c d s h =
     let p : take at all-edges ≡ edgesOf cs =

@@ -1,4 +1,5 @@
--- Each edge of a network with one point in and the other not stands once in the contours, and no other number does. Assumes nothing.
+-- Each edge of a network with one point in and the other not stands once in the contours, and no other number does.
+-- Assumes nothing.
 use mathlib.Core.Path.{_≡_, refl, sym, ap, _∙_, subst}
 use mathlib.Core.Bool.{Bool, true, false, _&&_}
 use mathlib.Core.Logic.{_⊎_, inl, inr, ⊎-elim, _↔_}
@@ -18,11 +19,12 @@ use Rattle.contour_rules.specs.Crossings.{crossed, edgesIn, crossedAt}
 use Rattle.contour_rules.specs.Contours.{Contour, bit, contoursOf, edgesOf}
 use Rattle.contour_rules.specs.Once.{occurs, EachOnce}
 use Rattle.contour_rules.specs.Rule.{lines, CrossesExactly}
-use Rattle.contour_rules.specs.EachEdge.{StandsAt, StandsOnce, LyingCrossed, StandingCrossed, CrossedNumber, EachCrossedEdgeOnce}
+use Rattle.contour_rules.specs.EachEdge.{StandsAt, StandsOnce, LyingCrossed, StandingCrossed, CrossedNumber}
+use Rattle.contour_rules.specs.EachEdge.{EachCrossedEdgeOnce}
 use Rattle.contour_rules.proofs.Waiting.{is-or-not}
 use Rattle.contour_rules.proofs.Every.{every-crossing}
 use Rattle.contour_rules.proofs.Following.{follows-rule}
-use Rattle.contour_rules.proofs.Only.{on-contours}
+use Rattle.contour_rules.proofs.Occurring.{on-contours}
 
 -- ---- what stands in a list occurs in it, and what occurs once stands at one place
 
@@ -43,7 +45,8 @@ record AtOnce (ns : List ℕ) (n : ℕ) : Type 0 where
 at-once : (n : ℕ) (ns : List ℕ) → occurs n ns ≡ 1 → AtOnce ns n
 unfolding occurs
 at-once n [] h = absurd (omega arith)
-at-once n (m ∷ ms) h = ⊎-elim first (λ e. later e (at-once n ms (omega (arith, ap bit (ne-eqb n m e))))) (is-or-not n m)
+at-once n (m ∷ ms) h = ⊎-elim first (λ e. later e (at-once n ms (omega (arith, ap bit (ne-eqb n m e)))))
+    (is-or-not n m)
   where
     first : n ≡ m → AtOnce (m ∷ ms) n
     first e = record { j = 0; here = (omega arith, sym e); only = only }
@@ -72,16 +75,23 @@ stands-occurs n (c ∷ cs) (suc i) j s = omega (arith, on-contours n c cs, stand
 stands-once : (n : ℕ) (cs : List Contour) → occurs n (edgesOf cs) ≡ 1 → StandsOnce cs n
 unfolding occurs edgesOf
 stands-once n [] h = absurd (omega arith)
-stands-once n (c ∷ cs) h = go (ltb 0 (occurs n (c .edges))) refl (λ z. stands-once n cs (omega (arith, on-contours n c cs)))
+stands-once n (c ∷ cs) h =
+    go (ltb 0 (occurs n (c .edges))) refl (λ z. stands-once n cs (omega (arith, on-contours n c cs)))
   where
     first : 0 < occurs n (c .edges) → StandsOnce (c ∷ cs) n
     first l =
         let o = at-once n (c .edges) (omega (arith, on-contours n c cs)) in
-        record { i = 0; j = o .j; here = record { contour = omega arith; place = o .here .0; number = o .here .1 }; only = only o }
+        record {
+          i = 0;
+          j = o .j;
+          here = record { contour = omega arith; place = o .here .0; number = o .here .1 };
+          only = only o;
+        }
       where
         only : (o : AtOnce (c .edges) n) (i' j' : ℕ) → StandsAt (c ∷ cs) n i' j' → (i' ≡ 0) × (j' ≡ o .j)
         only o zero j' s = (refl, o .only j' (s .place, s .number))
-        only o (suc i') j' s = absurd (omega (arith, on-contours n c cs, stands-occurs n cs i' j' (behind-first c cs s)))
+        only o (suc i') j' s = absurd
+            (omega (arith, on-contours n c cs, stands-occurs n cs i' j' (behind-first c cs s)))
 
     later : occurs n (c .edges) ≡ 0 → StandsOnce cs n → StandsOnce (c ∷ cs) n
     later l o = record {
@@ -97,7 +107,8 @@ stands-once n (c ∷ cs) h = go (ltb 0 (occurs n (c .edges))) refl (λ z. stands
             let e = o .only i' j' (behind-first c cs s) in
             (ap suc (e .0), e .1)
 
-    go : (b : Bool) → ltb 0 (occurs n (c .edges)) ≡ b → (occurs n (c .edges) ≡ 0 → StandsOnce cs n) → StandsOnce (c ∷ cs) n
+    go : (b : Bool) → ltb 0 (occurs n (c .edges)) ≡ b → (occurs n (c .edges) ≡ 0 → StandsOnce cs n)
+        → StandsOnce (c ∷ cs) n
     go true e rest = first (ltb-true _ _ e)
     go false e rest =
         let z : occurs n (c .edges) ≡ 0 = omega (arith, ltb-false 0 (occurs n (c .edges)) e) in
@@ -112,9 +123,19 @@ module _ (levels : List ℕ) (nx ny v : ℕ) (wide : 2 ≤ nx) where
 
   -- ---- the numbers of crossed edges
 
-  of-edge : (n : ℕ) (e : Edge) → WithinEdge nx ny e → numberOf nx ny e ≡ n → crossed g e ≡ true → CrossedNumber levels nx ny v n
-  of-edge n (Horizontal row col) w q x = inl (record { row = row; col = col; within = w; number = sym q; one-in = rule row col .lying (w .0) (w .1) .0 x })
-  of-edge n (Vertical row col) w q x = inr (record { row = row; col = col; within = w; number = sym q; one-in = rule row col .standing (w .0) (w .1) .0 x })
+  of-edge : (n : ℕ) (e : Edge) → WithinEdge nx ny e → numberOf nx ny e ≡ n → crossed g e ≡ true
+      → CrossedNumber levels nx ny v n
+  of-edge n (Horizontal row col) w q x =
+      inl (record { row = row; col = col; within = w; number = sym q; one-in = rule row col .lying (w .0) (w .1) .0 x })
+  of-edge n (Vertical row col) w q x =
+      inr (record {
+        row = row;
+        col = col;
+        within = w;
+        number = sym q;
+        one-in =
+            rule row col .standing (w .0) (w .1) .0 x;
+      })
 
   numbered : (n : ℕ) → (ltb n (edgesIn g) && crossedAt g n) ≡ true → CrossedNumber levels nx ny v n
   numbered n h =
@@ -122,7 +143,8 @@ module _ (levels : List ℕ) (nx ny v : ℕ) (wide : 2 ≤ nx) where
       let l = ltb-true n (edges nx ny) (b .0) in
       of-edge n (edgeAt nx ny n) (edge-within nx ny wide n l) (number-at nx ny wide n l) (b .1)
 
-  below-crossed : (n : ℕ) → n < edgesIn g → crossedAt g n ≡ true → (ltb n (edgesIn g) && crossedAt g n) ≡ true
+  below-crossed : (n : ℕ) → n < edgesIn g → crossedAt g n ≡ true
+      → (ltb n (edgesIn g) && crossedAt g n) ≡ true
   below-crossed n l x = rw (lt-ltb n (edgesIn g) l) x
 
   is-crossed : (n : ℕ) → CrossedNumber levels nx ny v n → (ltb n (edgesIn g) && crossedAt g n) ≡ true
@@ -130,11 +152,13 @@ module _ (levels : List ℕ) (nx ny v : ℕ) (wide : 2 ≤ nx) where
     where
       lying : LyingCrossed levels nx ny v n → (ltb n (edgesIn g) && crossedAt g n) ≡ true
       lying c =
-          rw (c .number) (below-crossed _ (number-lt nx ny wide (Horizontal (c .row) (c .col)) (c .within)) (rule (c .row) (c .col) .lying-at (c .within .0) (c .within .1) .1 (c .one-in)))
+          rw (c .number) (below-crossed _ (number-lt nx ny wide (Horizontal (c .row) (c .col)) (c .within))
+          (rule (c .row) (c .col) .lying-at (c .within .0) (c .within .1) .1 (c .one-in)))
 
       standing : StandingCrossed levels nx ny v n → (ltb n (edgesIn g) && crossedAt g n) ≡ true
       standing c =
-          rw (c .number) (below-crossed _ (number-lt nx ny wide (Vertical (c .row) (c .col)) (c .within)) (rule (c .row) (c .col) .standing-at (c .within .0) (c .within .1) .1 (c .one-in)))
+          rw (c .number) (below-crossed _ (number-lt nx ny wide (Vertical (c .row) (c .col)) (c .within))
+          (rule (c .row) (c .col) .standing-at (c .within .0) (c .within .1) .1 (c .one-in)))
 
   -- ---- the theorem
 
@@ -146,7 +170,8 @@ module _ (levels : List ℕ) (nx ny v : ℕ) (wide : 2 ≤ nx) where
     unless-listed : (n : ℕ) → (CrossedNumber levels nx ny v n) ⊎ (occurs n (edgesOf cs) ≡ 0)
     unless-listed n = go (ltb n (edgesIn g) && crossedAt g n) refl
       where
-        go : (b : Bool) → (ltb n (edgesIn g) && crossedAt g n) ≡ b → (CrossedNumber levels nx ny v n) ⊎ (occurs n (edgesOf cs) ≡ 0)
+        go : (b : Bool) → (ltb n (edgesIn g) && crossedAt g n) ≡ b
+            → (CrossedNumber levels nx ny v n) ⊎ (occurs n (edgesOf cs) ≡ 0)
         go true h = inl (numbered n h)
         go false h = inr (each .once n ∙ ap bit h)
 
@@ -158,7 +183,11 @@ module _ (levels : List ℕ) (nx ny v : ℕ) (wide : 2 ≤ nx) where
       once = λ n c. stands-once n cs (listed n c);
       no-other = λ n i j s. occurring n (stands-occurs n cs i j s);
       listed-once = λ n. (λ h. occurring n (omega arith), listed n);
-      no-other-listed = λ n. (λ h c. omega (arith, listed n c), λ h. ⊎-elim (λ c. absurd (h c)) (λ z. z) (unless-listed n));
+      no-other-listed = λ n. (
+        λ h c. omega (arith, listed n c),
+        λ h. ⊎-elim (λ c. absurd (h c)) (λ z. z)
+            (unless-listed n),
+      );
     }
 
   pub each-crossed-edge-once : EachCrossedEdgeOnce levels nx ny v (contoursOf g)

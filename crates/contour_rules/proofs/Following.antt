@@ -6,7 +6,8 @@ use mathlib.Core.List.{List}
 use Prim.Native.Nat.{ℕ, _+_, _-_, _*_, _≤_, _<_}
 use native.Mathlib.Nat.{add-sub-cancel}
 use native.Mathlib.Omega.{arith}
-use borrow.Author.Tests.{ltb-true, ltb-false, leb-true, leb-false, eqb-true, eqb-false, lt-ltb, le-ltb, le-leb, lt-leb, eq-eqb, ne-eqb}
+use borrow.Author.Tests.{ltb-true, ltb-false, leb-true, leb-false, eqb-true, eqb-false, lt-ltb, le-ltb, le-leb, lt-leb}
+use borrow.Author.Tests.{eq-eqb, ne-eqb}
 use lib.Dec.{ltb, leb, eqb}
 use lib.ListN.{getD}
 use Rattle.network.specs.declared.Edge.{Edge}
@@ -22,18 +23,23 @@ use Rattle.contour_rules.specs.declared.Ahead.{Ahead}
 use Rattle.contour_rules.specs.declared.Ahead.the-variants.{Square, Outside}
 use Rattle.contour_rules.specs.Picture.{Picture, picture, cutOf}
 use Rattle.contour_rules.specs.Squares.{turn, sideEdge, corner, exitSide, exitOf}
-use Rattle.contour_rules.specs.Crossings.{northOf, southOf, westOf, eastOf, crossed, aheadOf, behindOf, isOutside, To, through, nextOf, nextNumber, edgeOf, crossedAt, entersAt, nextAt}
-use Rattle.contour_rules.specs.Rule.{HasEnd, fourCorners, lines, IsCrossed, CrossesExactly, Heads, EntersExactly, CutsOff, Entering, FollowsRule}
+use Rattle.contour_rules.specs.Crossings.{northOf, southOf, westOf, eastOf, crossed, aheadOf, behindOf}
+use Rattle.contour_rules.specs.Crossings.{isOutside, To, through, nextOf, nextNumber, edgeOf, crossedAt}
+use Rattle.contour_rules.specs.Crossings.{entersAt, nextAt}
+use Rattle.contour_rules.specs.Rule.{HasEnd, fourCorners, lines, IsCrossed, CrossesExactly, Heads}
+use Rattle.contour_rules.specs.Rule.{EntersExactly, CutsOff, Entering, FollowsRule}
 use Rattle.contour_rules.proofs.Heading.{Entry, Entered, entered, leaves-elsewhere, side-within}
 use Rattle.contour_rules.proofs.Back.{four-turns, Leads, leads}
 
 -- ---- what lies outside
 
-outside-if : {P : Type 0} (b : Bool) (row col : ℕ) (s : Side) → (b ≡ false) ↔ P → (isOutside (cond b (Square row col s) Outside) ≡ true) ↔ P
+outside-if : {P : Type 0} (b : Bool) (row col : ℕ) (s : Side) → (b ≡ false) ↔ P
+    → (isOutside (cond b (Square row col s) Outside) ≡ true) ↔ P
 outside-if true row col s i = (λ h. absurd (true≢false (sym h)), λ p. absurd (true≢false (i .1 p)))
 outside-if false row col s i = (λ h. i .0 refl, λ p. refl)
 
-outside-unless : {P : Type 0} (b : Bool) (row col : ℕ) (s : Side) → (b ≡ true) ↔ P → (isOutside (cond b Outside (Square row col s)) ≡ true) ↔ P
+outside-unless : {P : Type 0} (b : Bool) (row col : ℕ) (s : Side) → (b ≡ true) ↔ P
+    → (isOutside (cond b Outside (Square row col s)) ≡ true) ↔ P
 outside-unless true row col s i = (λ h. i .0 refl, λ p. refl)
 outside-unless false row col s i = (λ h. absurd (true≢false (sym h)), λ p. absurd (true≢false (sym (i .1 p))))
 
@@ -46,13 +52,17 @@ first-one i = (λ h. eqb-true i 0 h, λ e. eq-eqb i 0 e)
 
 -- a crossed edge that comes from outside, where `x` lies behind if its first end is out and `y` if it is in
 comes-in : {P Q : Type 0} (v a b : ℕ) (x y : Ahead) → (isOutside y ≡ true) ↔ P → (isOutside x ≡ true) ↔ Q
-    → ((unlike (leb v a) (leb v b) && isOutside (cond (not (leb v a)) x y)) ≡ true) ↔ ((P × ((v ≤ a) × (b < v))) ⊎ (Q × ((a < v) × (v ≤ b))))
+    → ((unlike (leb v a) (leb v b) && isOutside (cond (not (leb v a)) x y)) ≡ true) ↔
+    ((P × ((v ≤ a) × (b < v))) ⊎ (Q × ((a < v) × (v ≤ b))))
 comes-in {P} {Q} v a b x y p q = go (leb v a) (leb v b) refl refl
   where
-    go : (s t : Bool) → leb v a ≡ s → leb v b ≡ t → ((unlike s t && isOutside (cond (not s) x y)) ≡ true) ↔ ((P × ((v ≤ a) × (b < v))) ⊎ (Q × ((a < v) × (v ≤ b))))
+    go : (s t : Bool) → leb v a ≡ s → leb v b ≡ t
+        → ((unlike s t && isOutside (cond (not s) x y)) ≡ true) ↔
+        ((P × ((v ≤ a) × (b < v))) ⊎ (Q × ((a < v) × (v ≤ b))))
     go true true e f = (
       λ h. absurd (true≢false (sym h)),
-      λ h. ⊎-elim (λ w. absurd (omega (arith, leb-true v b f, w .1 .1))) (λ w. absurd (omega (arith, leb-true v a e, w .1 .0))) h,
+      λ h. ⊎-elim (λ w. absurd (omega (arith, leb-true v b f, w .1 .1)))
+          (λ w. absurd (omega (arith, leb-true v a e, w .1 .0))) h,
     )
     go true false e f = (
       λ h. inl (p .0 h, (leb-true v a e, leb-false v b f)),
@@ -64,7 +74,8 @@ comes-in {P} {Q} v a b x y p q = go (leb v a) (leb v b) refl refl
     )
     go false false e f = (
       λ h. absurd (true≢false (sym h)),
-      λ h. ⊎-elim (λ w. absurd (omega (arith, leb-false v a e, w .1 .0))) (λ w. absurd (omega (arith, leb-false v b f, w .1 .1))) h,
+      λ h. ⊎-elim (λ w. absurd (omega (arith, leb-false v a e, w .1 .0)))
+          (λ w. absurd (omega (arith, leb-false v b f, w .1 .1))) h,
     )
 
 -- ---- the corners of a square: of each side the one on the left of who enters by it
@@ -94,7 +105,8 @@ end-right row col East = (inr refl, refl)
 end-right row col North = (refl, inl refl)
 end-right row col West = (inl refl, refl)
 
-corner-level : (levels : List ℕ) (nx ny v row col : ℕ) (t : Side) → corner (picture levels nx ny v) row col t ≡ leb v (getD levels (rowAt row t * nx + colAt col t) 0)
+corner-level : (levels : List ℕ) (nx ny v row col : ℕ) (t : Side)
+    → corner (picture levels nx ny v) row col t ≡ leb v (getD levels (rowAt row t * nx + colAt col t) 0)
 corner-level levels nx ny v row col South = refl
 corner-level levels nx ny v row col East = refl
 corner-level levels nx ny v row col North = refl
@@ -121,7 +133,8 @@ module _ (levels : List ℕ) (nx ny v : ℕ) (wide : 2 ≤ nx) where
   -- ---- which edges are crossed
 
   -- an edge is crossed if that of its number is
-  of-number : {P : Type 0} (e : Edge) → WithinEdge nx ny e → (crossedAt g (numberOf nx ny e) ≡ true) ↔ P → IsCrossed levels nx ny v e ↔ P
+  of-number : {P : Type 0} (e : Edge) → WithinEdge nx ny e → (crossedAt g (numberOf nx ny e) ≡ true) ↔ P
+      → IsCrossed levels nx ny v e ↔ P
   of-number {P} e w i = subst (λ (x : Edge). (crossed g x ≡ true) ↔ P) (at-number nx ny wide e w) i
 
   crossing : (row col : ℕ) → CrossesExactly levels nx ny v row col
@@ -149,16 +162,21 @@ module _ (levels : List ℕ) (nx ny v : ℕ) (wide : 2 ≤ nx) where
   }
 
   -- the edge of its number
-  by-edge : {P : Type 0} (e : Edge) → WithinEdge nx ny e → ((crossed g e && isOutside (behindOf g e)) ≡ true) ↔ P → (entersAt g (numberOf nx ny e) ≡ true) ↔ P
-  by-edge {P} e w i = subst (λ (x : Edge). ((crossed g x && isOutside (behindOf g x)) ≡ true) ↔ P) (sym (at-number nx ny wide e w)) i
+  by-edge : {P : Type 0} (e : Edge) → WithinEdge nx ny e
+      → ((crossed g e && isOutside (behindOf g e)) ≡ true) ↔ P → (entersAt g (numberOf nx ny e) ≡ true) ↔ P
+  by-edge {P} e w i = subst (λ (x : Edge). ((crossed g x && isOutside (behindOf g x)) ≡ true) ↔ P)
+      (sym (at-number nx ny wide e w)) i
 
   entering : (row col : ℕ) → EntersExactly levels nx ny v row col
   entering row col = record {
     lying = λ h k. by-edge (Horizontal row col) (h, k)
-        (comes-in v _ _ (northOf ny row col) (southOf row col) (outside-unless (eqb row 0) _ _ _ (first-one row)) (outside-if (ltb (row + 1) ny) _ _ _ (last-one row ny h)));
+        (comes-in v _ _ (northOf ny row col) (southOf row col) (outside-unless (eqb row 0) _ _ _ (first-one row))
+        (outside-if (ltb (row + 1) ny) _ _ _ (last-one row ny h)));
     standing = λ h k.
         let i = by-edge (Vertical row col) (h, k)
-        (comes-in v _ _ (westOf row col) (eastOf nx row col) (outside-if (ltb (col + 1) nx) _ _ _ (last-one col nx k)) (outside-unless (eqb col 0) _ _ _ (first-one col))) in
+        (comes-in v _ _ (westOf row col) (eastOf nx row col)
+        (outside-if (ltb (col + 1) nx) _ _ _ (last-one col nx k))
+        (outside-unless (eqb col 0) _ _ _ (first-one col))) in
         (λ t. other-way (i .0 t), λ t. i .1 (other-way t));
   }
 
@@ -174,19 +192,24 @@ module _ (levels : List ℕ) (nx ny v : ℕ) (wide : 2 ≤ nx) where
     leads-on : nextOf g (sideEdge row col s) ≡ To (sideEdge row col (exitOf g row col s))
     leads-on = ap (through g) (i .heads)
 
-    next-side : nextAt g (numberOf nx ny (sideEdge row col s)) ≡ numberOf nx ny (sideEdge row col (exitOf g row col s))
-    next-side = ap (λ (e : Edge). nextNumber nx ny (nextOf g e)) (at-number nx ny wide (sideEdge row col s) within) ∙ ap (nextNumber nx ny) leads-on
+    next-side : nextAt g (numberOf nx ny (sideEdge row col s))
+        ≡ numberOf nx ny (sideEdge row col (exitOf g row col s))
+    next-side = ap (λ (e : Edge). nextNumber nx ny (nextOf g e)) (at-number nx ny wide (sideEdge row col s) within)
+        ∙ ap (nextNumber nx ny) leads-on
 
     exit-crossed : IsCrossed levels nx ny v (sideEdge row col (exitOf g row col s))
     exit-crossed = leads g (sideEdge row col s) within (i .crossing) _ leads-on .crossing
 
     elsewhere : s ≡ exitOf g row col s → ⊥
-    elsewhere = leaves-elsewhere (corner g row col (turn (turn s))) (corner g row col (turn (turn (turn s)))) (g .cut row col) s
+    elsewhere = leaves-elsewhere (corner g row col (turn (turn s))) (corner g row col (turn (turn (turn s))))
+        (g .cut row col) s
 
-    pub to-the-other : (s' : Side) → ((t : Side) → IsCrossed levels nx ny v (sideEdge row col t) → (t ≡ s) ⊎ (t ≡ s'))
+    pub to-the-other : (s' : Side)
+        → ((t : Side) → IsCrossed levels nx ny v (sideEdge row col t) → (t ≡ s) ⊎ (t ≡ s'))
         → nextAt g (numberOf nx ny (sideEdge row col s)) ≡ numberOf nx ny (sideEdge row col s')
     to-the-other s' only =
-        next-side ∙ ⊎-elim (λ e. absurd (elsewhere (sym e))) (λ e. ap (λ (t : Side). numberOf nx ny (sideEdge row col t)) e) (only (exitOf g row col s) exit-crossed)
+        next-side ∙ ⊎-elim (λ e. absurd (elsewhere (sym e)))
+        (λ e. ap (λ (t : Side). numberOf nx ny (sideEdge row col t)) e) (only (exitOf g row col s) exit-crossed)
 
     -- with four crossed edges the far corner on the right is in and the one on the left is out
     module _ (all : (t : Side) → IsCrossed levels nx ny v (sideEdge row col t)) where
@@ -208,13 +231,17 @@ module _ (levels : List ℕ) (nx ny v : ℕ) (wide : 2 ≤ nx) where
       far-left : corner g row col (turn (turn (turn s))) ≡ false
       far-left = unlike-next (turn (turn s)) ∙ ap not far-right
 
-      exit-at : (b : Bool) → cutOf levels nx v row col ≡ b → exitOf g row col s ≡ cond b (turn s) (turn (turn (turn s)))
+      exit-at : (b : Bool) → cutOf levels nx v row col ≡ b
+          → exitOf g row col s ≡ cond b (turn s) (turn (turn (turn s)))
       exit-at b e = rw (far-right, far-left, e)
 
       -- the line leaves by side s', which shares the corner of side t with the one entered
-      cuts-off : (s' t : Side) → exitOf g row col s ≡ s' → HasEnd (sideEdge row col s) (rowAt row t) (colAt col t) × HasEnd (sideEdge row col s') (rowAt row t) (colAt col t)
+      cuts-off : (s' t : Side) → exitOf g row col s ≡ s'
+          → HasEnd (sideEdge row col s) (rowAt row t) (colAt col t) × HasEnd (sideEdge row col s') (rowAt row t)
+          (colAt col t)
           → (Out levels nx v (rowAt row t) (colAt col t) ↔ (4 * v ≤ fourCorners levels nx row col))
-          → (In levels nx v (rowAt row t) (colAt col t) ↔ (fourCorners levels nx row col < 4 * v)) → CutsOff levels nx ny v row col s
+          → (In levels nx v (rowAt row t) (colAt col t) ↔ (fourCorners levels nx row col < 4 * v))
+          → CutsOff levels nx ny v row col s
       cuts-off s' t e h o j = record {
         side' = s';
         leads = next-side ∙ ap (λ (t : Side). numberOf nx ny (sideEdge row col t)) e;
@@ -231,15 +258,20 @@ module _ (levels : List ℕ) (nx ny v : ℕ) (wide : 2 ≤ nx) where
         where
           go : (b : Bool) → cutOf levels nx v row col ≡ b → CutsOff levels nx ny v row col s
           go true e =
-              let o : Out levels nx v (rowAt row (turn s)) (colAt col (turn s)) = leb-false _ _ (sym (corner-level levels nx ny v row col (turn s)) ∙ right-out) in
+              let o : Out levels nx v (rowAt row (turn s)) (colAt col (turn s)) =
+              leb-false _ _ (sym (corner-level levels nx ny v row col (turn s)) ∙ right-out) in
               let k : 4 * v ≤ fourCorners levels nx row col = omega (arith, leb-true (4 * v) _ e) in
-              cuts-off (turn s) (turn s) (exit-at true e) (end-right row col s, end-left row col (turn s)) (λ _. k, λ _. o) (λ h. absurd (omega arith), λ h. absurd (omega arith))
+              cuts-off (turn s) (turn s) (exit-at true e) (end-right row col s, end-left row col (turn s))
+              (λ _. k, λ _. o) (λ h. absurd (omega arith), λ h. absurd (omega arith))
           go false e =
-              let o : In levels nx v (rowAt row s) (colAt col s) = leb-true _ _ (sym (corner-level levels nx ny v row col s) ∙ left-in) in
+              let o : In levels nx v (rowAt row s) (colAt col s) =
+              leb-true _ _ (sym (corner-level levels nx ny v row col s) ∙ left-in) in
               let k : fourCorners levels nx row col < 4 * v = omega (arith, leb-false (4 * v) _ e) in
               let r : HasEnd (sideEdge row col (turn (turn (turn s)))) (rowAt row s) (colAt col s) =
-              subst (λ (t : Side). HasEnd (sideEdge row col (turn (turn (turn s)))) (rowAt row t) (colAt col t)) (four-turns s) (end-right row col (turn (turn (turn s)))) in
-              cuts-off (turn (turn (turn s))) s (exit-at false e) (end-left row col s, r) (λ h. absurd (omega arith), λ h. absurd (omega arith)) (λ _. k, λ _. o)
+              subst (λ (t : Side). HasEnd (sideEdge row col (turn (turn (turn s)))) (rowAt row t) (colAt col t))
+              (four-turns s) (end-right row col (turn (turn (turn s)))) in
+              cuts-off (turn (turn (turn s))) s (exit-at false e) (end-left row col s, r)
+              (λ h. absurd (omega arith), λ h. absurd (omega arith)) (λ _. k, λ _. o)
 
   pub follows-rule : FollowsRule levels nx ny v
   follows-rule = record {
@@ -250,5 +282,6 @@ module _ (levels : List ℕ) (nx ny v : ℕ) (wide : 2 ≤ nx) where
     enters = entering;
     two = λ row col s s' i only. to-the-other row col s i s' only;
     four = λ row col s i all. cuts row col s i all;
-    none = λ e w h. ap (λ (e : Edge). nextNumber nx ny (nextOf g e)) (at-number nx ny wide e w) ∙ ap (λ (a : Ahead). nextNumber nx ny (through g a)) h;
+    none = λ e w h. ap (λ (e : Edge). nextNumber nx ny (nextOf g e)) (at-number nx ny wide e w)
+        ∙ ap (λ (a : Ahead). nextNumber nx ny (through g a)) h;
   }

@@ -1,4 +1,5 @@
--- What a crossing heads into: a square of the network that has the edge as the side by which it is entered, with the in corner on the left. Assumes nothing.
+-- What a crossing heads into: a square of the network that has the edge as the side by which it is entered, with
+-- the in corner on the left. Assumes nothing.
 use mathlib.Core.Path.{_≡_, refl, sym, ap, _∙_, subst}
 use mathlib.Core.Bool.{Bool, true, false, not, _||_, cond, true≢false}
 use Prim.Native.Nat.{ℕ, _+_, _-_, _<_}
@@ -17,11 +18,13 @@ use Rattle.network.specs.Crossed.{unlike}
 use Rattle.network.proofs.Numbers.{by-cond}
 use Rattle.contour_rules.specs.Picture.{Picture}
 use Rattle.contour_rules.specs.Squares.{WithinSquare, turn, sideEdge, corner, exitSide, exitOf}
-use Rattle.contour_rules.specs.Crossings.{beyond, crossed, acrossOf, aheadOf, Next, To, Out, through, nextOf, isOutside, onBorder}
+use Rattle.contour_rules.specs.Crossings.{beyond, crossed, acrossOf, aheadOf, Next, To, Out, through, nextOf}
+use Rattle.contour_rules.specs.Crossings.{isOutside, onBorder}
 
 -- ---- the square that a crossing heads into
 
--- it is in the network, has the edge as the side by which it is entered, and the corner on the left is in and the one on the right out
+-- it is in the network, has the edge as the side by which it is entered, and the corner on the left is in and the
+-- one on the right out
 pub record Entry (g : Picture) (e : Edge) (row col : ℕ) (s : Side) : Type 0 where
   pub edge : e ≡ sideEdge row col s
   pub within : WithinSquare (g .nx) (g .ny) row col
@@ -48,7 +51,8 @@ pub entered : (g : Picture) (e : Edge) → WithinEdge (g .nx) (g .ny) e → Ente
 entered g (Horizontal row col) w =
     by-cond (Entered g (Horizontal row col)) (g .inside row col) _ _
     (λ i. by-cond (Entered g (Horizontal row col)) (ltb (row + 1) (g .ny)) _ _
-    (λ h. record { edge = refl; within = (ltb-true _ _ h, w .1); left = λ _. i; right = λ x. other-out _ _ i x }) (λ _. tt))
+    (λ h. record { edge = refl; within = (ltb-true _ _ h, w .1); left = λ _. i; right = λ x. other-out _ _ i x })
+    (λ _. tt))
     (λ o. by-cond (Entered g (Horizontal row col)) (eqb row 0) _ _ (λ _. tt)
     (λ h. let k = back-one row (eqb-false _ _ h) in
     record {
@@ -68,32 +72,38 @@ entered g (Vertical row col) w =
       right = λ x. subst (λ (n : ℕ). g .inside (row + 1) n ≡ false) k (other-out _ _ i x);
     }))
     (λ o. by-cond (Entered g (Vertical row col)) (ltb (col + 1) (g .nx)) _ _
-    (λ h. record { edge = refl; within = (w .0, ltb-true _ _ h); left = λ x. other-in _ _ o x; right = λ _. o }) (λ _. tt))
+    (λ h. record { edge = refl; within = (w .0, ltb-true _ _ h); left = λ x. other-in _ _ o x; right = λ _. o })
+    (λ _. tt))
 
 -- ---- a side of a square
 
-pub side-within : (nx ny row col : ℕ) (s : Side) → WithinSquare nx ny row col → WithinEdge nx ny (sideEdge row col s)
+pub side-within : (nx ny row col : ℕ) (s : Side) → WithinSquare nx ny row col
+    → WithinEdge nx ny (sideEdge row col s)
 side-within nx ny row col South w = (omega (arith, w .0), w .1)
 side-within nx ny row col East w = w
 side-within nx ny row col North w = w
 side-within nx ny row col West w = (w .0, omega (arith, w .1))
 
 -- a side with the corner on the left in, and the one on the right out, heads into the square
-pub heads-in : (g : Picture) (row col : ℕ) (s : Side) → WithinSquare (g .nx) (g .ny) row col → corner g row col s ≡ true → corner g row col (turn s) ≡ false → aheadOf g (sideEdge row col s) ≡ Square row col s
+pub heads-in : (g : Picture) (row col : ℕ) (s : Side) → WithinSquare (g .nx) (g .ny) row col
+    → corner g row col s ≡ true → corner g row col (turn s) ≡ false
+    → aheadOf g (sideEdge row col s) ≡ Square row col s
 heads-in g row col South w l r = simp (l, lt-ltb _ _ (w .0))
 heads-in g row col East w l r = simp (l, ne-eqb (col + 1) 0 (λ h. omega arith), add-sub-cancel)
 heads-in g row col North w l r = simp (r, ne-eqb (row + 1) 0 (λ h. omega arith), add-sub-cancel)
 heads-in g row col West w l r = simp (r, lt-ltb _ _ (w .1))
 
 -- a side with the corner on the left out, and the one on the right in, heads out of the square
-pub heads-out : (g : Picture) (row col : ℕ) (s : Side) → corner g row col s ≡ false → corner g row col (turn s) ≡ true → aheadOf g (sideEdge row col s) ≡ beyond (g .nx) (g .ny) row col s
+pub heads-out : (g : Picture) (row col : ℕ) (s : Side) → corner g row col s ≡ false
+    → corner g row col (turn s) ≡ true → aheadOf g (sideEdge row col s) ≡ beyond (g .nx) (g .ny) row col s
 heads-out g row col South l r = simp l
 heads-out g row col East l r = simp l
 heads-out g row col North l r = simp r
 heads-out g row col West l r = simp r
 
 -- a side with unlike corners is crossed
-pub side-crossed : (g : Picture) (row col : ℕ) (s : Side) → corner g row col s ≡ false → corner g row col (turn s) ≡ true → crossed g (sideEdge row col s) ≡ true
+pub side-crossed : (g : Picture) (row col : ℕ) (s : Side) → corner g row col s ≡ false
+    → corner g row col (turn s) ≡ true → crossed g (sideEdge row col s) ≡ true
 side-crossed g row col South l r = simp (l, r)
 side-crossed g row col East l r = simp (l, r)
 side-crossed g row col North l r = simp (l, r)
@@ -104,7 +114,8 @@ side-crossed g row col West l r = simp (l, r)
 never : _≡_ {A = ℕ} 0 1 → ⊥
 never h = omega arith
 
-pub next-within : (g : Picture) (e e' : Edge) → WithinEdge (g .nx) (g .ny) e → nextOf g e ≡ To e' → WithinEdge (g .nx) (g .ny) e'
+pub next-within : (g : Picture) (e e' : Edge) → WithinEdge (g .nx) (g .ny) e → nextOf g e ≡ To e'
+    → WithinEdge (g .nx) (g .ny) e'
 next-within g e e' w h = go (aheadOf g e) (entered g e w) h
   where
     go : (a : Ahead) → Entered g e a → through g a ≡ To e' → WithinEdge (g .nx) (g .ny) e'
@@ -146,24 +157,31 @@ or-true : (a b : Bool) → b ≡ true → (a || b) ≡ true
 or-true true b h = refl
 or-true false b h = h
 
-pub over-border : (nx ny : ℕ) (left : Bool) (e : Edge) → WithinEdge nx ny e → isOutside (acrossOf nx ny left e) ≡ true → onBorder nx ny e ≡ true
+pub over-border : (nx ny : ℕ) (left : Bool) (e : Edge) → WithinEdge nx ny e
+    → isOutside (acrossOf nx ny left e) ≡ true → onBorder nx ny e ≡ true
 over-border nx ny true (Horizontal row col) w h = go (ltb (row + 1) ny) refl h
   where
-    go : (b : Bool) → ltb (row + 1) ny ≡ b → isOutside (cond b (Square row col South) Outside) ≡ true → onBorder nx ny (Horizontal row col) ≡ true
+    go : (b : Bool) → ltb (row + 1) ny ≡ b → isOutside (cond b (Square row col South) Outside) ≡ true
+        → onBorder nx ny (Horizontal row col) ≡ true
     go true e h = absurd (true≢false (sym h))
-    go false e h = or-true (eqb row 0) (eqb (row + 1) ny) (eq-eqb (row + 1) ny (omega (arith, w .0, ltb-false (row + 1) ny e)))
+    go false e h = or-true (eqb row 0) (eqb (row + 1) ny)
+        (eq-eqb (row + 1) ny (omega (arith, w .0, ltb-false (row + 1) ny e)))
 over-border nx ny false (Horizontal row col) w h = go (eqb row 0) h
   where
-    go : (b : Bool) → isOutside (cond b Outside (Square (row - 1) col North)) ≡ true → (b || eqb (row + 1) ny) ≡ true
+    go : (b : Bool) → isOutside (cond b Outside (Square (row - 1) col North)) ≡ true
+        → (b || eqb (row + 1) ny) ≡ true
     go true h = refl
     go false h = absurd (true≢false (sym h))
 over-border nx ny true (Vertical row col) w h = go (eqb col 0) h
   where
-    go : (b : Bool) → isOutside (cond b Outside (Square row (col - 1) East)) ≡ true → (b || eqb (col + 1) nx) ≡ true
+    go : (b : Bool) → isOutside (cond b Outside (Square row (col - 1) East)) ≡ true
+        → (b || eqb (col + 1) nx) ≡ true
     go true h = refl
     go false h = absurd (true≢false (sym h))
 over-border nx ny false (Vertical row col) w h = go (ltb (col + 1) nx) refl h
   where
-    go : (b : Bool) → ltb (col + 1) nx ≡ b → isOutside (cond b (Square row col West) Outside) ≡ true → onBorder nx ny (Vertical row col) ≡ true
+    go : (b : Bool) → ltb (col + 1) nx ≡ b → isOutside (cond b (Square row col West) Outside) ≡ true
+        → onBorder nx ny (Vertical row col) ≡ true
     go true e h = absurd (true≢false (sym h))
-    go false e h = or-true (eqb col 0) (eqb (col + 1) nx) (eq-eqb (col + 1) nx (omega (arith, w .1, ltb-false (col + 1) nx e)))
+    go false e h = or-true (eqb col 0) (eqb (col + 1) nx)
+        (eq-eqb (col + 1) nx (omega (arith, w .1, ltb-false (col + 1) nx e)))

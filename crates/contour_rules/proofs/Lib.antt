@@ -7,6 +7,7 @@ pub mod Sums
 pub mod Orders
 pub mod Every
 pub mod Following
+pub mod Occurring
 pub mod Only
 pub mod Rings
 pub mod EachEdge

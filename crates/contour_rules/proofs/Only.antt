@@ -14,55 +14,15 @@ use Rattle.contour_rules.specs.Picture.{Picture}
 use Rattle.contour_rules.specs.Squares.{sideEdge}
 use Rattle.contour_rules.specs.Crossings.{edgesIn, crossedAt, entersAt, nextAt}
 use Rattle.contour_rules.specs.Contours.{Contour, bit, contoursOf, edgesOf}
-use Rattle.contour_rules.specs.Once.{occurs, Follows, Enters, Exits, Chain, Each, Sound, AllSound, firstEdge, Before, All, Ordered, EachOnce}
+use Rattle.contour_rules.specs.Once.{occurs, Follows, Enters, Exits, Chain, Each, Sound, AllSound, firstEdge}
+use Rattle.contour_rules.specs.Once.{Before, All, Ordered, EachOnce}
 use Rattle.contour_rules.proofs.Heading.{side-within}
 use Rattle.contour_rules.proofs.Steps.{prevAt, leads-at, enters-outside}
 use Rattle.contour_rules.proofs.Waiting.{is-or-not, clash}
 use Rattle.contour_rules.proofs.Sums.{occurs-append}
 use Rattle.contour_rules.proofs.Every.{every-crossing}
-
--- ---- what occurs in a list
-
-occurs-here : (n : ℕ) (ns : List ℕ) → 0 < occurs n (n ∷ ns)
-unfolding occurs
-occurs-here n ns = rw (eq-eqb n n refl) (omega arith)
-
-occurs-later : (n m : ℕ) (ns : List ℕ) → 0 < occurs n ns → 0 < occurs n (m ∷ ns)
-unfolding occurs
-occurs-later n m ns h = omega arith
-
-occurs-not : (n : ℕ) → 0 < occurs n [] → ⊥
-unfolding occurs
-occurs-not n h = omega arith
-
--- it is the first, or occurs later
-occurs-cases : (n m : ℕ) (ns : List ℕ) → 0 < occurs n (m ∷ ns) → (n ≡ m) ⊎ (0 < occurs n ns)
-unfolding occurs
-occurs-cases n m ns h = ⊎-elim (λ e. inl e) (λ e. inr (omega (arith, ap bit (ne-eqb n m e)))) (is-or-not n m)
-
--- the first of a list without repeats doesn't occur again
-first-once : (n : ℕ) (ns : List ℕ) → occurs n (n ∷ ns) ≤ 1 → occurs n ns ≡ 0
-unfolding occurs
-first-once n ns h = omega (arith, ap bit (eq-eqb n n refl))
-
-each-occurs : (P : ℕ → Type 0) (n : ℕ) (ns : List ℕ) → Each P ns → 0 < occurs n ns → P n
-each-occurs P n [] a h = absurd (occurs-not n h)
-each-occurs P n (m ∷ ns) a h = ⊎-elim (λ e. subst P (sym e) (a .0)) (λ k. each-occurs P n ns (a .1) k) (occurs-cases n m ns h)
-
-abbrev firstOf : List ℕ → ℕ
-firstOf ns = getD ns 0 0
-
--- an edge of a list of contours is on the first of them or on a later one
-pub on-contours : (n : ℕ) (c : Contour) (cs : List Contour) → occurs n (edgesOf (c ∷ cs)) ≡ occurs n (c .edges) + occurs n (edgesOf cs)
-unfolding edgesOf
-on-contours n c cs = occurs-append n (c .edges) (edgesOf cs)
-
-on-either : (n : ℕ) (c : Contour) (cs : List Contour) → 0 < occurs n (edgesOf (c ∷ cs)) → (0 < occurs n (c .edges)) ⊎ (0 < occurs n (edgesOf cs))
-on-either n c cs h = go (ltb 0 (occurs n (c .edges))) refl
-  where
-    go : (b : Bool) → ltb 0 (occurs n (c .edges)) ≡ b → (0 < occurs n (c .edges)) ⊎ (0 < occurs n (edgesOf cs))
-    go true e = inl (ltb-true _ _ e)
-    go false e = inr (omega (arith, on-contours n c cs, ltb-false 0 (occurs n (c .edges)) e))
+use Rattle.contour_rules.proofs.Occurring.{occurs-here, occurs-later, occurs-not, occurs-cases, first-once}
+use Rattle.contour_rules.proofs.Occurring.{each-occurs, firstOf, on-contours, on-either}
 
 module _ (g : Picture) (wide : 2 ≤ g .nx) where
   -- ---- along a contour
@@ -73,24 +33,31 @@ module _ (g : Picture) (wide : 2 ≤ g .nx) where
     has : P from
     leads : nextAt g from ≡ n
 
-  chain-from : (Last : ℕ → Type 0) (s n : ℕ) (ns : List ℕ) → Chain g Last s ns → 0 < occurs n ns → From (λ m. 0 < occurs m (s ∷ ns)) n
+  chain-from : (Last : ℕ → Type 0) (s n : ℕ) (ns : List ℕ) → Chain g Last s ns → 0 < occurs n ns
+      → From (λ m. 0 < occurs m (s ∷ ns)) n
   chain-from Last s n [] c h = absurd (occurs-not n h)
   chain-from Last s n (m ∷ ns) c h =
       ⊎-elim
       (λ e. record { from = s; has = occurs-here s (m ∷ ns); leads = c .0 .leads ∙ sym e })
-      (λ k. let f = chain-from Last m n ns (c .1) k in record { from = f .from; has = occurs-later (f .from) s (m ∷ ns) (f .has); leads = f .leads })
+      (λ k. let f = chain-from Last m n ns (c .1) k in
+      record { from = f .from; has = occurs-later (f .from) s (m ∷ ns) (f .has); leads = f .leads })
       (occurs-cases n m ns h)
 
-  chain-end : (s f : ℕ) (ns : List ℕ) → Chain g (λ m. Follows g m f) s ns → From (λ m. 0 < occurs m (s ∷ ns)) f
+  chain-end : (s f : ℕ) (ns : List ℕ) → Chain g (λ m. Follows g m f) s ns
+      → From (λ m. 0 < occurs m (s ∷ ns)) f
   chain-end s f [] c = record { from = s; has = occurs-here s []; leads = c .leads }
-  chain-end s f (m ∷ ns) c = let i = chain-end m f ns (c .1) in record { from = i .from; has = occurs-later (i .from) s (m ∷ ns) (i .has); leads = i .leads }
+  chain-end s f (m ∷ ns) c = let i = chain-end m f ns (c .1) in
+      record { from = i .from; has = occurs-later (i .from) s (m ∷ ns) (i .has); leads = i .leads }
 
   -- an edge of a contour is where it enters, or another of its edges leads to it
-  led-to : (closes : Bool) (ns : List ℕ) (n : ℕ) → Sound g closes ns → 0 < occurs n ns → ((closes ≡ false) × (firstOf ns ≡ n)) ⊎ From (λ m. 0 < occurs m ns) n
+  led-to : (closes : Bool) (ns : List ℕ) (n : ℕ) → Sound g closes ns → 0 < occurs n ns
+      → ((closes ≡ false) × (firstOf ns ≡ n)) ⊎ From (λ m. 0 < occurs m ns) n
   led-to closes [] n s h = absurd s
-  led-to false (f ∷ ns) n s h = ⊎-elim (λ e. inl (refl, sym e)) (λ k. inr (chain-from (Exits g) f n ns (s .1) k)) (occurs-cases n f ns h)
+  led-to false (f ∷ ns) n s h =
+      ⊎-elim (λ e. inl (refl, sym e)) (λ k. inr (chain-from (Exits g) f n ns (s .1) k)) (occurs-cases n f ns h)
   led-to true (f ∷ ns) n s h =
-      ⊎-elim (λ e. inr (subst (From (λ m. 0 < occurs m (f ∷ ns))) (sym e) (chain-end f f ns (s .1)))) (λ k. inr (chain-from (λ m. Follows g m f) f n ns (s .1) k)) (occurs-cases n f ns h)
+      ⊎-elim (λ e. inr (subst (From (λ m. 0 < occurs m (f ∷ ns))) (sym e) (chain-end f f ns (s .1))))
+      (λ k. inr (chain-from (λ m. Follows g m f) f n ns (s .1) k)) (occurs-cases n f ns h)
 
   -- ---- a list of contours, or what is left of one
 
@@ -126,43 +93,52 @@ module _ (g : Picture) (wide : 2 ≤ g .nx) where
   enters-first n (c ∷ cs) r e h =
       ⊎-elim
       (λ k. ⊎-elim (λ f. inl f)
-      (λ f. let i = r .crosses (f .from) (omega (arith, f .has, on-contours (f .from) c cs)) in absurd (none-leads n (f .from) e (i .0) (i .1) (f .leads)))
+      (λ f. let i = r .crosses (f .from) (omega (arith, f .has, on-contours (f .from) c cs)) in
+      absurd (none-leads n (f .from) e (i .0) (i .1) (f .leads)))
       (led-to (c .closes) (c .edges) n (r .sound .0) k))
       (λ k. inr (enters-first n cs (rest c cs r) e k)) (on-either n c cs h)
 
   -- ---- the first contour of a list
 
   -- if an open contour starts at n, the first one is open and starts no later
-  open-later : (d : Contour) (n : ℕ) (cs : List Contour) → All (Before d) cs → OpenAt n cs → (d .closes ≡ false) × (firstEdge d ≤ n)
+  open-later : (d : Contour) (n : ℕ) (cs : List Contour) → All (Before d) cs → OpenAt n cs
+      → (d .closes ≡ false) × (firstEdge d ≤ n)
   open-later d n [] a o = absurd o
   open-later d n (c ∷ cs) a o =
       ⊎-elim
       (λ p. ⊎-elim (λ b. clash (b .1) (p .0)) (λ b. (b .0 ∙ p .0, omega (arith, b .1, p .1))) (a .0))
       (λ p. open-later d n cs (a .1) p) o
 
-  open-first : (d : Contour) (n : ℕ) (ds : List Contour) → All (Before d) ds → OpenAt n (d ∷ ds) → (d .closes ≡ false) × (firstEdge d ≤ n)
+  open-first : (d : Contour) (n : ℕ) (ds : List Contour) → All (Before d) ds → OpenAt n (d ∷ ds)
+      → (d .closes ≡ false) × (firstEdge d ≤ n)
   open-first d n ds a o = ⊎-elim (λ p. (p .0, omega (arith, p .1))) (λ p. open-later d n ds a p) o
 
   -- a closed contour has no edge below its first
-  lowest-of : (c : Contour) (n : ℕ) → c .closes ≡ true → Sound g (c .closes) (c .edges) → 0 < occurs n (c .edges) → firstEdge c ≤ n
+  lowest-of : (c : Contour) (n : ℕ) → c .closes ≡ true → Sound g (c .closes) (c .edges)
+      → 0 < occurs n (c .edges) → firstEdge c ≤ n
   lowest-of c n e s h = go (c .edges) (subst (λ (b : Bool). Sound g b (c .edges)) e s) h
     where
       go : (ns : List ℕ) → Sound g true ns → 0 < occurs n ns → firstOf ns ≤ n
       go [] s h = absurd s
-      go (f ∷ ns) s h = ⊎-elim (λ e. omega arith) (λ k. each-occurs (λ m. f ≤ m) n ns (s .0) k) (occurs-cases n f ns h)
+      go (f ∷ ns) s h = ⊎-elim (λ e. omega arith) (λ k. each-occurs (λ m. f ≤ m) n ns (s .0) k)
+          (occurs-cases n f ns h)
 
   -- nor has any after it
-  lowest-later : (d : Contour) (n : ℕ) (cs : List Contour) → d .closes ≡ true → All (Before d) cs → AllSound g cs → 0 < occurs n (edgesOf cs) → firstEdge d ≤ n
+  lowest-later : (d : Contour) (n : ℕ) (cs : List Contour) → d .closes ≡ true → All (Before d) cs
+      → AllSound g cs → 0 < occurs n (edgesOf cs) → firstEdge d ≤ n
   unfolding edgesOf
   lowest-later d n [] e a s h = absurd (occurs-not n h)
   lowest-later d n (c ∷ cs) e a s h =
       ⊎-elim
-      (λ k. ⊎-elim (λ b. clash e (b .0)) (λ b. omega (arith, b .1, lowest-of c n (sym (b .0) ∙ e) (s .0) k)) (a .0))
+      (λ k. ⊎-elim (λ b. clash e (b .0)) (λ b. omega (arith, b .1, lowest-of c n (sym (b .0) ∙ e) (s .0) k))
+      (a .0))
       (λ k. lowest-later d n cs e (a .1) (s .1) k) (on-either n c cs h)
 
-  lowest-first : (d : Contour) (n : ℕ) (ds : List Contour) → d .closes ≡ true → Rest (d ∷ ds) → 0 < occurs n (edgesOf (d ∷ ds)) → firstEdge d ≤ n
+  lowest-first : (d : Contour) (n : ℕ) (ds : List Contour) → d .closes ≡ true → Rest (d ∷ ds)
+      → 0 < occurs n (edgesOf (d ∷ ds)) → firstEdge d ≤ n
   lowest-first d n ds e r h =
-      ⊎-elim (λ k. lowest-of d n e (r .sound .0) k) (λ k. lowest-later d n ds e (r .ordered .0) (r .sound .1) k) (on-either n d ds h)
+      ⊎-elim (λ k. lowest-of d n e (r .sound .0) k) (λ k. lowest-later d n ds e (r .ordered .0) (r .sound .1) k)
+      (on-either n d ds h)
 
   -- the first edge is on the list; if the contour is open it enters there
   first-on : (c : Contour) (cs : List Contour) → Rest (c ∷ cs) → 0 < occurs (firstEdge c) (edgesOf (c ∷ cs))
@@ -184,7 +160,9 @@ module _ (g : Picture) (wide : 2 ≤ g .nx) where
   below : (n m : ℕ) → Follows g n m → m < edgesIn g
   below n m f =
       let i = f .neighbours in
-      subst (λ (k : ℕ). k < edgesIn g) (sym (i .second)) (number-lt (g .nx) (g .ny) wide (sideEdge (i .row) (i .col) (i .side')) (side-within (g .nx) (g .ny) (i .row) (i .col) (i .side') (i .within)))
+      subst (λ (k : ℕ). k < edgesIn g) (sym (i .second))
+      (number-lt (g .nx) (g .ny) wide (sideEdge (i .row) (i .col) (i .side'))
+      (side-within (g .nx) (g .ny) (i .row) (i .col) (i .side') (i .within)))
 
   open-same : (n : ℕ) (ns ms : List ℕ) → Chain g (Exits g) n ns → Chain g (Exits g) n ms → ns ≡ ms
   open-same n [] [] p q = refl
@@ -198,17 +176,20 @@ module _ (g : Picture) (wide : 2 ≤ g .nx) where
   abbrev Round : ℕ → ℕ → List ℕ → Type 0
   Round f n ns = Chain g (λ m. Follows g m f) n ns
 
-  closed-same : (f n : ℕ) (ns ms : List ℕ) → Round f n ns → Round f n ms → occurs f ns ≡ 0 → occurs f ms ≡ 0 → ns ≡ ms
+  closed-same : (f n : ℕ) (ns ms : List ℕ) → Round f n ns → Round f n ms → occurs f ns ≡ 0
+      → occurs f ms ≡ 0 → ns ≡ ms
   unfolding occurs
   closed-same f n [] [] p q a b = refl
   closed-same f n [] (m ∷ ms) p q a b = absurd (omega (arith, ap bit (eq-eqb f m (sym (p .leads) ∙ q .0 .leads))))
   closed-same f n (k ∷ ns) [] p q a b = absurd (omega (arith, ap bit (eq-eqb f k (sym (q .leads) ∙ p .0 .leads))))
   closed-same f n (k ∷ ns) (m ∷ ms) p q a b =
       let e : k ≡ m = sym (p .0 .leads) ∙ q .0 .leads in
-      let r : ns ≡ ms = closed-same f m ns ms (subst (λ (i : ℕ). Round f i ns) e (p .1)) (q .1) (omega arith) (omega arith) in
+      let r : ns ≡ ms = closed-same f m ns ms (subst (λ (i : ℕ). Round f i ns) e (p .1)) (q .1) (omega arith)
+      (omega arith) in
       cc
 
-  same-edges : (b : Bool) (ns ms : List ℕ) → Sound g b ns → Sound g b ms → firstOf ns ≡ firstOf ms → ((n : ℕ) → occurs n ns ≤ 1) → ((n : ℕ) → occurs n ms ≤ 1) → ns ≡ ms
+  same-edges : (b : Bool) (ns ms : List ℕ) → Sound g b ns → Sound g b ms → firstOf ns ≡ firstOf ms
+      → ((n : ℕ) → occurs n ns ≤ 1) → ((n : ℕ) → occurs n ms ≤ 1) → ns ≡ ms
   same-edges b [] ms s t e p q = absurd s
   same-edges b (n ∷ ns) [] s t e p q = absurd t
   same-edges false (n ∷ ns) (m ∷ ms) s t e p q =
@@ -216,61 +197,90 @@ module _ (g : Picture) (wide : 2 ≤ g .nx) where
       cc
   same-edges true (n ∷ ns) (m ∷ ms) s t e p q =
       let u : occurs m ns ≡ 0 = subst (λ (i : ℕ). occurs i ns ≡ 0) e (first-once n ns (p n)) in
-      let r : ns ≡ ms = closed-same m m ns ms (subst (λ (i : ℕ). Round i i ns) e (s .1)) (t .1) u (first-once m ms (q m)) in
+      let r : ns ≡ ms = closed-same m m ns ms (subst (λ (i : ℕ). Round i i ns) e (s .1)) (t .1) u
+      (first-once m ms (q m)) in
       cc
 
   -- ---- two lists of contours
 
   -- the first contours close or not, and start, alike
-  half : (c d : Contour) (cs ds : List Contour) → Rest (c ∷ cs) → Rest (d ∷ ds) → ((n : ℕ) → occurs n (edgesOf (c ∷ cs)) ≡ occurs n (edgesOf (d ∷ ds)))
-      → (c .closes ≡ false → (d .closes ≡ false) × (firstEdge d ≤ firstEdge c)) × (d .closes ≡ true → firstEdge d ≤ firstEdge c)
+  half : (c d : Contour) (cs ds : List Contour) → Rest (c ∷ cs) → Rest (d ∷ ds)
+      → ((n : ℕ) → occurs n (edgesOf (c ∷ cs)) ≡ occurs n (edgesOf (d ∷ ds)))
+      → (c .closes ≡ false → (d .closes ≡ false) × (firstEdge d ≤ firstEdge c)) × (d .closes ≡ true
+      → firstEdge d ≤ firstEdge c)
   half c d cs ds p q same =
-      let on : 0 < occurs (firstEdge c) (edgesOf (d ∷ ds)) = subst (λ (k : ℕ). 0 < k) (same (firstEdge c)) (first-on c cs p) in (
-        λ e. open-first d (firstEdge c) ds (q .ordered .0) (enters-first (firstEdge c) (d ∷ ds) q (first-enters c e (p .sound .0)) on),
+      let on : 0 < occurs (firstEdge c) (edgesOf (d ∷ ds)) =
+      subst (λ (k : ℕ). 0 < k) (same (firstEdge c)) (first-on c cs p) in (
+        λ e. open-first d (firstEdge c) ds (q .ordered .0)
+            (enters-first (firstEdge c) (d ∷ ds) q (first-enters c e (p .sound .0)) on),
         λ e. lowest-first d (firstEdge c) ds e q on,
       )
 
-  same-contour : (c d : Contour) (cs ds : List Contour) → Rest (c ∷ cs) → Rest (d ∷ ds) → ((n : ℕ) → occurs n (edgesOf (c ∷ cs)) ≡ occurs n (edgesOf (d ∷ ds))) → c ≡ d
-  same-contour c d cs ds p q same = go (c .closes) (d .closes) refl refl (half c d cs ds p q same) (half d c ds cs q p (λ n. sym (same n)))
+  same-contour : (c d : Contour) (cs ds : List Contour) → Rest (c ∷ cs) → Rest (d ∷ ds)
+      → ((n : ℕ) → occurs n (edgesOf (c ∷ cs)) ≡ occurs n (edgesOf (d ∷ ds))) → c ≡ d
+  same-contour c d cs ds p q same =
+      go (c .closes) (d .closes) refl refl (half c d cs ds p q same) (half d c ds cs q p (λ n. sym (same n)))
     where
       equal : c .closes ≡ d .closes → firstEdge d ≤ firstEdge c → firstEdge c ≤ firstEdge d → c ≡ d
       equal e l k =
           let f : firstEdge c ≡ firstEdge d = omega arith in
-          let r : c .edges ≡ d .edges = same-edges (d .closes) (c .edges) (d .edges) (subst (λ (b : Bool). Sound g b (c .edges)) e (p .sound .0)) (q .sound .0) f
+          let r : c .edges ≡ d .edges =
+          same-edges (d .closes) (c .edges) (d .edges)
+          (subst (λ (b : Bool). Sound g b (c .edges)) e (p .sound .0)) (q .sound .0) f
           (λ n. omega (arith, p .once n, on-contours n c cs)) (λ n. omega (arith, q .once n, on-contours n d ds)) in
           λ i. record { edges = r i; closes = e i }
 
       go : (a b : Bool) → c .closes ≡ a → d .closes ≡ b
-          → (c .closes ≡ false → (d .closes ≡ false) × (firstEdge d ≤ firstEdge c)) × (d .closes ≡ true → firstEdge d ≤ firstEdge c)
-          → (d .closes ≡ false → (c .closes ≡ false) × (firstEdge c ≤ firstEdge d)) × (c .closes ≡ true → firstEdge c ≤ firstEdge d) → c ≡ d
+          → (c .closes ≡ false → (d .closes ≡ false) × (firstEdge d ≤ firstEdge c))
+          × (d .closes ≡ true → firstEdge d ≤ firstEdge c)
+          → (d .closes ≡ false → (c .closes ≡ false) × (firstEdge c ≤ firstEdge d))
+          × (c .closes ≡ true → firstEdge c ≤ firstEdge d) → c ≡ d
       go false b e f h k = let i = h .0 e in equal (e ∙ sym (i .0)) (i .1) (k .0 (i .0) .1)
       go true false e f h k = clash e (k .0 f .0)
       go true true e f h k = equal (e ∙ sym f) (h .1 f) (k .1 e)
 
-  same-lists : (cs ds : List Contour) → Rest cs → Rest ds → ((n : ℕ) → occurs n (edgesOf cs) ≡ occurs n (edgesOf ds)) → cs ≡ ds
+  same-lists : (cs ds : List Contour) → Rest cs → Rest ds
+      → ((n : ℕ) → occurs n (edgesOf cs) ≡ occurs n (edgesOf ds)) → cs ≡ ds
   unfolding edgesOf
   same-lists [] [] p q same = refl
-  same-lists [] (d ∷ ds) p q same = absurd (occurs-not (firstEdge d) (subst (λ (k : ℕ). 0 < k) (sym (same (firstEdge d))) (first-on d ds q)))
-  same-lists (c ∷ cs) [] p q same = absurd (occurs-not (firstEdge c) (subst (λ (k : ℕ). 0 < k) (same (firstEdge c)) (first-on c cs p)))
+  same-lists [] (d ∷ ds) p q same =
+      absurd (occurs-not (firstEdge d) (subst (λ (k : ℕ). 0 < k) (sym (same (firstEdge d))) (first-on d ds q)))
+  same-lists (c ∷ cs) [] p q same =
+      absurd (occurs-not (firstEdge c) (subst (λ (k : ℕ). 0 < k) (same (firstEdge c)) (first-on c cs p)))
   same-lists (c ∷ cs) (d ∷ ds) p q same =
       let e : c ≡ d = same-contour c d cs ds p q same in
       let t : (n : ℕ) → occurs n (edgesOf cs) ≡ occurs n (edgesOf ds) =
-      λ n. omega (arith, same n, on-contours n c cs, on-contours n d ds, ap (λ (x : Contour). occurs n (x .edges)) e) in
+      λ n. omega (
+        arith,
+        same n,
+        on-contours n c cs,
+        on-contours n d ds,
+        ap (λ (x : Contour). occurs n (x .edges)) e,
+      ) in
       let r : cs ≡ ds = same-lists cs ds (rest c cs p) (rest d ds q) t in
       cc
 
   -- ---- the theorem
 
   whole : (cs : List Contour) → EachOnce g cs → Rest cs
-  whole cs e = record { sound = e .sound; ordered = e .ordered; once = λ n. few (ltb n (edgesIn g) && crossedAt g n) (e .once n); crosses = λ n h. real n (ltb n (edgesIn g) && crossedAt g n) refl h (e .once n) }
+  whole cs e = record {
+    sound = e .sound;
+    ordered = e .ordered;
+    once =
+        λ n. few (ltb n (edgesIn g) && crossedAt g n) (e .once n);
+    crosses =
+        λ n h. real n (ltb n (edgesIn g) && crossedAt g n) refl h (e .once n);
+  }
     where
       few : {k : ℕ} (b : Bool) → k ≡ bit b → k ≤ 1
       few true h = omega arith
       few false h = omega arith
 
-      real : (n : ℕ) (b : Bool) → (ltb n (edgesIn g) && crossedAt g n) ≡ b → 0 < occurs n (edgesOf cs) → occurs n (edgesOf cs) ≡ bit b → (n < edgesIn g) × (crossedAt g n ≡ true)
+      real : (n : ℕ) (b : Bool) → (ltb n (edgesIn g) && crossedAt g n) ≡ b → 0 < occurs n (edgesOf cs)
+          → occurs n (edgesOf cs) ≡ bit b → (n < edgesIn g) × (crossedAt g n ≡ true)
       real n true e h q = let i = both (ltb n (edgesIn g)) (crossedAt g n) e in (ltb-true _ _ (i .0), i .1)
       real n false e h q = absurd (omega arith)
 
   pub only-these : (cs : List Contour) → EachOnce g cs → cs ≡ contoursOf g
-  only-these cs e = same-lists cs (contoursOf g) (whole cs e) (whole (contoursOf g) (every-crossing g wide)) (λ n. e .once n ∙ sym (every-crossing g wide .once n))
+  only-these cs e = same-lists cs (contoursOf g) (whole cs e) (whole (contoursOf g) (every-crossing g wide))
+      (λ n. e .once n ∙ sym (every-crossing g wide .once n))

@@ -1,4 +1,5 @@
--- Of the hill of the rules, whose contour is 2, 7, 3, 10, the two rings 2, 7 and 3, 10 are refused: each crossing once is not enough.
+-- Of the hill of the rules, whose contour is 2, 7, 3, 10, the two rings 2, 7 and 3, 10 are refused: each crossing
+-- once is not enough.
 -- Assumes nothing.
 use mathlib.Core.Path.{_≡_, refl, sym, ap, _∙_}
 use mathlib.Core.Bool.{true}

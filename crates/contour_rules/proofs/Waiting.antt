@@ -49,10 +49,12 @@ waits-set-other list n m h = ap (λ (x : ℕ). eqb x 1) (getD-set-other list n m
 
 -- what waits no longer stays so
 pub stays : (list : List ℕ) (n m : ℕ) → waits list m ≡ false → waits (set list n 0) m ≡ false
-stays list n m h = ⊎-elim (λ e. rw e (waits-set-same list n)) (λ e. waits-set-other list n m e ∙ h) (is-or-not m n)
+stays list n m h = ⊎-elim (λ e. rw e (waits-set-same list n)) (λ e. waits-set-other list n m e
+    ∙ h) (is-or-not m n)
 
 pub waited : (list : List ℕ) (n m : ℕ) → waits (set list n 0) m ≡ true → waits list m ≡ true
-waited list n m h = ⊎-elim (λ e. clash h (rw e (waits-set-same list n))) (λ e. sym (waits-set-other list n m e) ∙ h) (is-or-not m n)
+waited list n m h = ⊎-elim (λ e. clash h (rw e (waits-set-same list n))) (λ e. sym (waits-set-other list n m e)
+    ∙ h) (is-or-not m n)
 
 pub stays-out : (list ns : List ℕ) (m : ℕ) → waits list m ≡ false → waits (without list ns) m ≡ false
 unfolding without
@@ -66,7 +68,8 @@ length-without list (n ∷ ns) = length-without (set list n 0) ns ∙ length-set
 
 -- ---- how many wait
 
-pub waiting-set : (list : List ℕ) (n : ℕ) → waits list n ≡ true → waiting list ≡ suc (waiting (set list n 0))
+pub waiting-set : (list : List ℕ) (n : ℕ) → waits list n ≡ true
+    → waiting list ≡ suc (waiting (set list n 0))
 unfolding waiting
 waiting-set [] n h = absurd (true≢false (sym h))
 waiting-set (m ∷ list) zero h = rw h (omega arith)
@@ -84,27 +87,33 @@ waiting-le (m ∷ list) = go (eqb m 1) (waiting-le list)
 -- ---- a contour
 
 -- from an edge that waits a contour goes on with the edge that it leads to, and from any other there is none
-pub follow-on : (g : Picture) (list : List ℕ) (n : ℕ) → waits list n ≡ true → contourFrom g list n ≡ n ∷ contourFrom g (set list n 0) (nextAt g n)
+pub follow-on : (g : Picture) (list : List ℕ) (n : ℕ) → waits list n ≡ true
+    → contourFrom g list n ≡ n ∷ contourFrom g (set list n 0) (nextAt g n)
 unfolding follow
 follow-on g list n h = rw (waiting-set list n h, h) refl
 
-pub follow-stop : (next : ℕ → ℕ) (most : ℕ) (list : List ℕ) (n : ℕ) → waits list n ≡ false → follow next most list n ≡ []
+pub follow-stop : (next : ℕ → ℕ) (most : ℕ) (list : List ℕ) (n : ℕ) → waits list n ≡ false
+    → follow next most list n ≡ []
 unfolding follow
 follow-stop next zero list n h = refl
 follow-stop next (suc most) list n h = rw h
 
 -- what holds of all edges that wait holds of a contour's
-pub follow-each : (P : ℕ → Type 0) (next : ℕ → ℕ) (most : ℕ) (list : List ℕ) (n : ℕ) → ((m : ℕ) → waits list m ≡ true → P m) → Each P (follow next most list n)
+pub follow-each : (P : ℕ → Type 0) (next : ℕ → ℕ) (most : ℕ) (list : List ℕ) (n : ℕ)
+    → ((m : ℕ) → waits list m ≡ true → P m) → Each P (follow next most list n)
 unfolding follow
 follow-each P next zero list n p = tt
-follow-each P next (suc most) list n p = go (waits list n) refl (λ h. follow-each P next most (set list n 0) (next n) (λ m k. p m (waited list n m k)))
+follow-each P next (suc most) list n p =
+    go (waits list n) refl (λ h. follow-each P next most (set list n 0) (next n) (λ m k. p m (waited list n m k)))
   where
-    go : (b : Bool) → waits list n ≡ b → (b ≡ true → Each P (follow next most (set list n 0) (next n))) → Each P (cond b (n ∷ follow next most (set list n 0) (next n)) [])
+    go : (b : Bool) → waits list n ≡ b → (b ≡ true → Each P (follow next most (set list n 0) (next n)))
+        → Each P (cond b (n ∷ follow next most (set list n 0) (next n)) [])
     go true h i = (p n h, i refl)
     go false h i = tt
 
 -- a contour's edges no longer wait, and no others
-pub waiting-without : (next : ℕ → ℕ) (most : ℕ) (list : List ℕ) (n : ℕ) → waiting (without list (follow next most list n)) + length (follow next most list n) ≡ waiting list
+pub waiting-without : (next : ℕ → ℕ) (most : ℕ) (list : List ℕ) (n : ℕ)
+    → waiting (without list (follow next most list n)) + length (follow next most list n) ≡ waiting list
 unfolding follow without
 waiting-without next zero list n = omega arith
 waiting-without next (suc most) list n = go (waits list n) refl (waiting-without next most (set list n 0) (next n))
@@ -112,20 +121,24 @@ waiting-without next (suc most) list n = go (waits list n) refl (waiting-without
     rest : List ℕ
     rest = follow next most (set list n 0) (next n)
 
-    go : (b : Bool) → waits list n ≡ b → waiting (without (set list n 0) rest) + length rest ≡ waiting (set list n 0)
+    go : (b : Bool) → waits list n ≡ b
+        → waiting (without (set list n 0) rest) + length rest ≡ waiting (set list n 0)
         → waiting (without list (cond b (n ∷ rest) [])) + length (cond b (n ∷ rest) []) ≡ waiting list
     go true h i = omega (arith, waiting-set list n h)
     go false h i = omega arith
 
 -- each edge is listed as often as it waited before and does not after: so at most once
-one-more : (list : List ℕ) (k n : ℕ) → waits list k ≡ true → bit (eqb n k) + bit (waits (set list k 0) n) ≡ bit (waits list n)
+one-more : (list : List ℕ) (k n : ℕ) → waits list k ≡ true
+    → bit (eqb n k) + bit (waits (set list k 0) n) ≡ bit (waits list n)
 one-more list k n h = go (eqb n k) refl
   where
     go : (b : Bool) → eqb n k ≡ b → bit b + bit (waits (set list k 0) n) ≡ bit (waits list n)
     go true e = rw (eqb-true n k e, waits-set-same list k, h)
     go false e = rw (waits-set-other list k n (eqb-false n k e)) (omega arith)
 
-pub follow-occurs : (next : ℕ → ℕ) (most : ℕ) (list : List ℕ) (k n : ℕ) → occurs n (follow next most list k) + bit (waits (without list (follow next most list k)) n) ≡ bit (waits list n)
+pub follow-occurs : (next : ℕ → ℕ) (most : ℕ) (list : List ℕ) (k n : ℕ)
+    → occurs n (follow next most list k) + bit (waits (without list (follow next most list k)) n)
+    ≡ bit (waits list n)
 unfolding follow without occurs
 follow-occurs next zero list k n = omega arith
 follow-occurs next (suc most) list k n = go (waits list k) refl (follow-occurs next most (set list k 0) (next k) n)
@@ -133,8 +146,10 @@ follow-occurs next (suc most) list k n = go (waits list k) refl (follow-occurs n
     rest : List ℕ
     rest = follow next most (set list k 0) (next k)
 
-    go : (b : Bool) → waits list k ≡ b → occurs n rest + bit (waits (without (set list k 0) rest) n) ≡ bit (waits (set list k 0) n)
-        → occurs n (cond b (k ∷ rest) []) + bit (waits (without list (cond b (k ∷ rest) [])) n) ≡ bit (waits list n)
+    go : (b : Bool) → waits list k ≡ b
+        → occurs n rest + bit (waits (without (set list k 0) rest) n) ≡ bit (waits (set list k 0) n)
+        → occurs n (cond b (k ∷ rest) []) + bit (waits (without list (cond b (k ∷ rest) [])) n)
+        ≡ bit (waits list n)
     go true h i = omega (arith, one-more list k n h)
     go false h i = omega arith
 
@@ -155,9 +170,11 @@ crossed-waits g zero m h = absurd (omega arith)
 crossed-waits g (suc n) m h =
     ⊎-elim
     (λ e. subst (λ (k : ℕ). waits (crossedTo g n ++ (bit (crossedAt g n) ∷ [])) k ≡ crossedAt g k) (sym e)
-    (ap (λ (x : ℕ). eqb x 1) (getD-at (crossedTo g n) (bit (crossedAt g n)) [] 0 n (length-crossed g n)) ∙ bit-one (crossedAt g n)))
+    (ap (λ (x : ℕ). eqb x 1) (getD-at (crossedTo g n) (bit (crossedAt g n)) [] 0 n (length-crossed g n))
+    ∙ bit-one (crossedAt g n)))
     (λ e. let l : m < n = omega arith in
-    ap (λ (x : ℕ). eqb x 1) (List·getD-append (crossedTo g n) _ 0 m (rw (length-crossed g n) l)) ∙ crossed-waits g n m l)
+    ap (λ (x : ℕ). eqb x 1) (List·getD-append (crossedTo g n) _ 0 m (rw (length-crossed g n) l))
+    ∙ crossed-waits g n m l)
     (is-or-not m n)
 
 pub crossed-waits-all : (g : Picture) (n m : ℕ) → waits (crossedTo g n) m ≡ (ltb m n && crossedAt g m)

@@ -68,7 +68,8 @@ counting-next {s} {at} {line} {end} end′ k h e =
     let room = counting-room k h in
     let n = length (firstLine (drop at s)) in
     let q : at + (n + 2) ≡ end + 2 = omega (arith, k .ended) in
-    let step : linesOf (drop at s ++ (0 ∷ [])) ≡ firstLine (drop at s) ∷ linesOf (drop (end + 2) s ++ (0 ∷ [])) =
+    let step : linesOf (drop at s ++ (0 ∷ [])) ≡ firstLine (drop at s) ∷ linesOf
+    (drop (end + 2) s ++ (0 ∷ [])) =
     rw (← q, ← drop-drop (n + 2) at s)
     (stream-line (drop at s) (0 ∷ []) (omega (arith, k .ended, length-drop at s))) in
     record {

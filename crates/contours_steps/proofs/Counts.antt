@@ -27,8 +27,12 @@ as-shown (suc k) zero n le most least = absurd (omega arith)
 as-shown (suc k) (suc j) n le most least =
     let big : 10 ^ suc k ≤ n = least (omega arith) in
     let ten : 10 ≤ n = omega (arith, pow-suc 10 k, pow-least k) in
-    rw
-    (digit n, le-ltb n 10 ten, as-shown k j (n / 10) (omega arith) (omega (arith, pow-suc 10 (suc k))) (λ some. omega (arith, pow-suc 10 k))) refl
+    rw (
+      digit n,
+      le-ltb n 10 ten,
+      as-shown k j (n / 10) (omega arith) (omega (arith, pow-suc 10 (suc k)))
+          (λ some. omega (arith, pow-suc 10 k)),
+    ) refl
   where
     pow-least : (i : ℕ) → 1 ≤ 10 ^ i
     pow-least zero = omega (arith, pow-zero 10)

@@ -22,7 +22,8 @@ use Rattle.network.specs.Refusals.{sided, placed, filled}
 use Rattle.network.proofs.Refusals.{is-checked, in-between}
 use Rattle.grid.specs.Row.{all, rowGiven, levelsOf}
 use Rattle.grid.specs.File.{frameOf, noDataOf, rowsOf, faultLine, rowsFit}
-use Rattle.grid.specs.Read.{headerSize, numbersOf, textFrame, textLevels, linesRefusal, readRefusal, headerAfter, levelsAfter}
+use Rattle.grid.specs.Read.{headerSize, numbersOf, textFrame, textLevels, linesRefusal, readRefusal, headerAfter}
+use Rattle.grid.specs.Read.{levelsAfter}
 use Rattle.grid.proofs.WriteLaws.{points-most}
 use Rattle.grid.proofs.ValueLaws.{all-cons}
 use Rattle.contours_steps.proofs.Levels.{word-range}
@@ -42,7 +43,8 @@ unfolding refusalOf
 fine-both text words h =
     either (eqb (textRefusal text) 0)
     (λ yes. (eqb-true (textRefusal text) 0 yes, rw yes at h))
-    (λ no. let z : textRefusal text ≡ 0 = rw no at h in let t = eq-eqb (textRefusal text) 0 z in let never : true ≡ false = sym t ∙ no in let n : _≡_ {A = ℕ} 0 1 = cc in absurd (omega arith))
+    (λ no. let z : textRefusal text ≡ 0 = rw no at h in let t = eq-eqb (textRefusal text) 0 z in
+    let never : true ≡ false = sym t ∙ no in let n : _≡_ {A = ℕ} 0 1 = cc in absurd (omega arith))
 
 -- a text that is not refused has a network that can be drawn
 pub text-checked : (text : List ℕ) → textRefusal text ≡ 0 → Checked (textLevels text) (textFrame text)
@@ -71,8 +73,10 @@ pub words-fine : (words : List (List ℕ)) → wordsRefusal words ≡ 0
 unfolding wordsRefusal
 words-fine words h =
     let a = refuse-none 15 (leb 1 (length words) && all isContour words) _ (omega arith) h in
-    let b = refuse-none 14 (leb (length words) maxContourLevels) 0 (omega arith) (a .1) in
-    (leb-true _ _ (and-left (leb 1 (length words)) (all isContour words) (a .0)), (and-right (leb 1 (length words)) (all isContour words) (a .0), leb-true _ _ (b .0)))
+    let b = refuse-none 14 (leb (length words) maxContourLevels) 0 (omega arith) (a .1) in (
+      leb-true _ _ (and-left (leb 1 (length words)) (all isContour words) (a .0)),
+      (and-right (leb 1 (length words)) (all isContour words) (a .0), leb-true _ _ (b .0)),
+    )
 
 module _ {text room levels asked : List ℕ} {g : Given} {f : Frame} (a : Accepted text g room levels f asked) where
   pub drawable : Drawable levels f asked
@@ -121,7 +125,8 @@ refused-words {text} {room} {g} {number} k z e ne =
     line : 0 ≡ refusedAt text number
     line =
         rw
-        (ne-eqb number 17 (λ q. number-is (leb 1 (g .count) && g .fit) (leb (g .count) maxContourLevels) (sym e ∙ q))) refl
+        (ne-eqb number 17 (λ q. number-is (leb 1 (g .count) && g .fit) (leb (g .count) maxContourLevels) (sym e
+        ∙ q))) refl
 
 -- a network and words that are not refused
 pub accepted : {text room levels asked : List ℕ} {g : Given} {f : Frame} (k : Gathered g room)
@@ -149,7 +154,14 @@ words-front {g} {room} k z long =
 -- the frame of five numbers
 pub frame-back : (header : List ℕ) (f : Frame) → header ≡ numbersOf f
     → _≡_ {A = Frame}
-    (record { columns = getD header 0 0; rows = getD header 1 0; spacing = getD header 2 0; west = getD header 3 0; south = getD header 4 0 }) f
+    (record {
+      columns = getD header 0 0;
+      rows = getD header 1 0;
+      spacing = getD header 2 0;
+      west =
+          getD header 3 0;
+      south = getD header 4 0;
+    }) f
 frame-back header f e = rw e refl
 
 -- as many points as the frame says

@@ -24,7 +24,13 @@ due-within {whole} {part} {at} d =
 -- the front of a part is due, and then its rest
 pub due-front : {whole : List ℕ} {at : ℕ} (a b : List ℕ) → Due whole at (a ++ b) → Due whole at a
 due-front {whole} {at} a b d =
-    record { before = d .before; after = b ++ d .after; place = d .place; is = d .is ∙ ap (λ (t : List ℕ). d .before ++ t) (append-assoc a b (d .after)) }
+    record {
+      before = d .before;
+      after = b ++ d .after;
+      place = d .place;
+      is = d .is
+          ∙ ap (λ (t : List ℕ). d .before ++ t) (append-assoc a b (d .after));
+    }
 
 pub due-rest : {whole : List ℕ} {at : ℕ} (a b : List ℕ) → Due whole at (a ++ b) → Due whole (at + length a) b
 due-rest {whole} {at} a b d =
@@ -32,5 +38,6 @@ due-rest {whole} {at} a b d =
       before = d .before ++ a;
       after = d .after;
       place = ap (λ (n : ℕ). n + length a) (d .place) ∙ sym (length-append (d .before) a);
-      is = d .is ∙ ap (λ (t : List ℕ). d .before ++ t) (append-assoc a b (d .after)) ∙ sym (append-assoc (d .before) a (b ++ d .after));
+      is = d .is ∙ ap (λ (t : List ℕ). d .before ++ t) (append-assoc a b (d .after))
+          ∙ sym (append-assoc (d .before) a (b ++ d .after));
     }

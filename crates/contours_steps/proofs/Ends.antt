@@ -8,12 +8,18 @@ use Rattle.network.specs.declared.Frame.{Frame}
 use Rattle.wkt.specs.Calls.{networkText}
 use Rattle.grid.specs.Read.{textFrame, textLevels}
 use Rattle.contours_steps.specs.Words.{levelsIn}
-use Rattle.contours_steps.specs.Sheet.{lineEnd, lineStart, heading, levelLine, levelLines, sheetOf, showCount, refusedLine, refusalOf, refusedAt, writtenOf, lineBegun, overlongLine, overlongOf}
+use Rattle.contours_steps.specs.Sheet.{lineEnd, lineStart, heading, levelLine, levelLines, sheetOf, showCount}
+use Rattle.contours_steps.specs.Sheet.{refusedLine, refusalOf, refusedAt, writtenOf, lineBegun, overlongLine}
+use Rattle.contours_steps.specs.Sheet.{overlongOf}
 use Rattle.contours_steps.specs.Ends.{Ended, Ends}
 
 -- what stands in front of a text that ends so
 behind : (a b : List ℕ) → Ended b → Ended (a ++ b)
-behind a b e = record { before = a ++ e .before; is = ap (λ (t : List ℕ). a ++ t) (e .is) ∙ sym (append-assoc a (e .before) (13 ∷ 10 ∷ [])) }
+behind a b e = record {
+  before = a ++ e .before;
+  is = ap (λ (t : List ℕ). a ++ t) (e .is)
+      ∙ sym (append-assoc a (e .before) (13 ∷ 10 ∷ []));
+}
 
 end-itself : Ended lineEnd
 end-itself = record { before = []; is = refl }
@@ -25,12 +31,15 @@ either-way false x y e f = f
 refused-ends : (number line : ℕ) → Ended (refusedLine number line)
 unfolding refusedLine
 refused-ends number line =
-    behind (114 ∷ 101 ∷ 102 ∷ 117 ∷ 115 ∷ 101 ∷ 100 ∷ 44 ∷ []) (showCount number ++ ((44 ∷ []) ++ (showCount line ++ lineEnd)))
-    (behind (showCount number) ((44 ∷ []) ++ (showCount line ++ lineEnd)) (behind (44 ∷ []) (showCount line ++ lineEnd) (behind (showCount line) lineEnd end-itself)))
+    behind (114 ∷ 101 ∷ 102 ∷ 117 ∷ 115 ∷ 101 ∷ 100 ∷ 44 ∷ [])
+    (showCount number ++ ((44 ∷ []) ++ (showCount line ++ lineEnd)))
+    (behind (showCount number) ((44 ∷ []) ++ (showCount line ++ lineEnd))
+    (behind (44 ∷ []) (showCount line ++ lineEnd) (behind (showCount line) lineEnd end-itself)))
 
 module _ (levels : List ℕ) (f : Frame) where
   line-ends : (v : ℕ) → Ended (levelLine levels f v)
-  line-ends v = behind (lineStart v) (networkText levels f v ++ lineEnd) (behind (networkText levels f v) lineEnd end-itself)
+  line-ends v = behind (lineStart v) (networkText levels f v ++ lineEnd)
+      (behind (networkText levels f v) lineEnd end-itself)
 
   lines-end : (a : List ℕ) (vs : List ℕ) → Ended a → Ended (a ++ levelLines levels f vs)
   unfolding levelLines
@@ -40,7 +49,11 @@ module _ (levels : List ℕ) (f : Frame) where
       (lines-end (a ++ levelLine levels f v) vs (behind a (levelLine levels f v) (line-ends v)))
 
   heading-ends : Ended heading
-  heading-ends = record { before = 108 ∷ 101 ∷ 118 ∷ 101 ∷ 108 ∷ 59 ∷ 119 ∷ 107 ∷ 116 ∷ []; is = refl }
+  heading-ends = record {
+    before = 108 ∷ 101 ∷ 118 ∷ 101 ∷ 108 ∷ 59 ∷ 119 ∷ 107 ∷ 116 ∷ [];
+    is =
+        refl;
+  }
 
   sheet-ends : (vs : List ℕ) → Ended (sheetOf levels f vs)
   unfolding sheetOf
@@ -51,7 +64,9 @@ unfolding writtenOf overlongOf
 ends text words = record {
   written = either-way (eqb (refusalOf text words) 0) (sheetOf (textLevels text) (textFrame text) (levelsIn words))
       (refusedLine (refusalOf text words) (refusedAt text (refusalOf text words)))
-      (sheet-ends (textLevels text) (textFrame text) (levelsIn words)) (refused-ends (refusalOf text words) (refusedAt text (refusalOf text words)));
+      (sheet-ends (textLevels text) (textFrame text) (levelsIn words))
+      (refused-ends (refusalOf text words) (refusedAt text (refusalOf text words)));
   failed = refused-ends 17 (lineBegun text);
-  overlong = either-way (eqb (overlongLine text) 0) (refusedLine 12 0) (refusedLine 17 (overlongLine text)) (refused-ends 12 0) (refused-ends 17 (overlongLine text));
+  overlong = either-way (eqb (overlongLine text) 0) (refusedLine 12 0) (refusedLine 17 (overlongLine text))
+      (refused-ends 12 0) (refused-ends 17 (overlongLine text));
 }

@@ -19,7 +19,8 @@ use Rattle.contours_steps.specs.Words.{givenRefusal, WordTaken, Gathered
 
 -- ---- a word's step
 
-module _ (asked : List ℕ) (place : ℕ) (word : List ℕ) (v : ℕ) (is : v ≡ cond (isContour word) (wordLevel word) 0) where
+module _ (asked : List ℕ) (place : ℕ) (word : List ℕ) (v : ℕ)
+    (is : v ≡ cond (isContour word) (wordLevel word) 0) where
   pub word-none : v ≡ 0 → WordTaken asked place word false asked
   word-none z =
       record {
@@ -121,8 +122,13 @@ gathering-next {asked} {asked′} {word} {fit} {r} {both} {i} k w e =
         let p : i - 1 ≡ length (k .words) = omega (arith, k .count) in
         let s : asked′ ≡ set asked (length (k .words)) (wordLevel word) =
         rw p at (w .stored t (omega (arith, k .count, w .long))) in
-        rw
-        (m, s, take-suc-set asked (length (k .words)) (wordLevel word) (omega (arith, w .long)), k .stored f (omega (arith, w .long)), levels-snoc (k .words) word) refl
+        rw (
+          m,
+          s,
+          take-suc-set asked (length (k .words)) (wordLevel word) (omega (arith, w .long)),
+          k .stored f (omega (arith, w .long)),
+          levels-snoc (k .words) word,
+        ) refl
 
 pub gathered : {asked : List ℕ} {fit : Bool} {i : ℕ} (count : ℕ) → Gathering asked fit i → count + 1 ≡ i
     → Gathered (record { count = count; fit = fit }) asked

@@ -20,7 +20,9 @@ use Rattle.network.specs.Limits.{leastSide, maxSide}
 use Rattle.network.specs.Refusals.{between, sided, placed, filled}
 use Rattle.network.proofs.Refusals.{in-between}
 use Rattle.grid.specs.Row.{all, valuesOf, isValue, isRow, hasValues, levelsOf}
-use Rattle.grid.specs.File.{begins, ncols, nrows, xllcenter, yllcenter, cellsize, noDataWord, unnamed, numberAfter, numberAt, names, namesWell, sixth, spelledIn, unsigned, isNumber, isSpelling, headOn, namedOn, noDataOf, rowsOf, firstOff, frameOf, faultLine, rowsFit}
+use Rattle.grid.specs.File.{begins, ncols, nrows, xllcenter, yllcenter, cellsize, noDataWord, unnamed, numberAfter}
+use Rattle.grid.specs.File.{numberAt, names, namesWell, sixth, spelledIn, unsigned, isNumber, isSpelling, headOn}
+use Rattle.grid.specs.File.{namedOn, noDataOf, rowsOf, firstOff, frameOf, faultLine, rowsFit}
 use Rattle.grid.specs.Read.{linesRefusal}
 use Rattle.grid.proofs.ReadLaws.{fit-both}
 use Rattle.grid.proofs.ValueLaws.{all-cons}
@@ -71,13 +73,16 @@ got-passed false n h = let z : _≡_ {A = ℕ} 0 1 = cc in absurd (omega arith)
 
 level-short : (t : List ℕ) → isGot (levelOf t) ≡ true → length t ≤ 6
 unfolding decimalOf
-level-short t h = leb-true (length t) 6 (and-right (leb 4 (length t)) (leb (length t) 6) (got-passed (leb 4 (length t) && leb (length t) 6) (pointed 2 t (length t - 3)) h))
+level-short t h = leb-true (length t) 6
+    (and-right (leb 4 (length t)) (leb (length t) 6)
+    (got-passed (leb 4 (length t) && leb (length t) 6) (pointed 2 t (length t - 3)) h))
 
 whole-short : (t : List ℕ) → isGot (wholeOf t) ≡ true → length t ≤ 7
 unfolding wholeOf
 whole-short t h =
     leb-true (length t) 7
-    (and-right (leb 1 (length t)) (leb (length t) 7) (and-left (leb 1 (length t) && leb (length t) 7) _ (got-passed _ (digitsOf 0 t) h)))
+    (and-right (leb 1 (length t)) (leb (length t) 7)
+    (and-left (leb 1 (length t) && leb (length t) 7) _ (got-passed _ (digitsOf 0 t) h)))
 
 one-of : (a b : Bool) → (a || b) ≡ true → {P : Type 0} → (a ≡ true → P) → (b ≡ true → P) → P
 one-of true b h p q = p refl
@@ -120,7 +125,8 @@ number-short t h =
 spelling-short : (t : List ℕ) → isSpelling t ≡ true → length t ≤ 8
 spelling-short t h =
     either (eqb (getD t 0 0) 45)
-    (λ yes. let n : isNumber (drop 1 t) ≡ true = rw yes at h in omega (arith, number-short (drop 1 t) n, length-drop 1 t))
+    (λ yes. let n : isNumber (drop 1 t) ≡ true = rw yes at h in
+    omega (arith, number-short (drop 1 t) n, length-drop 1 t))
     (λ no. let n : isNumber t ≡ true = rw no at h in omega (arith, number-short t n))
 
 named-short : (line : List ℕ) → namesWell line ≡ true → length (spelledIn line) ≤ 8
@@ -151,10 +157,12 @@ rows-total nodata columns n (row ∷ rows) few one off fit =
     let r : length row + 1 ≤ 9 * columns = rw c at (row-short nodata row few (s .0)) in
     omega (
       arith,
-      rows-total nodata columns (n + 1) rows few (omega arith) (s .1) (and-right (hasValues columns row) (all (hasValues columns) rows) f),
+      rows-total nodata columns (n + 1) rows few (omega arith) (s .1)
+          (and-right (hasValues columns row) (all (hasValues columns) rows) f),
     )
 
-module _ (ls : List (List ℕ)) (on : faultLine ls ≡ 0) (fit : rowsFit (frameOf ls) (rowsOf ls) ≡ true) (size : sided (frameOf ls) ≡ true) where
+module _ (ls : List (List ℕ)) (on : faultLine ls ≡ 0) (fit : rowsFit (frameOf ls) (rowsOf ls) ≡ true)
+    (size : sided (frameOf ls) ≡ true) where
   rest : List Bool
   rest = namedOn ls ++ map (isRow (noDataOf ls)) (rowsOf ls)
 
@@ -183,8 +191,10 @@ module _ (ls : List (List ℕ)) (on : faultLine ls ≡ 0) (fit : rowsFit (frameO
   most : (frameOf ls .columns ≤ 256) × (frameOf ls .rows ≤ 256)
   most =
       let f = frameOf ls in (
-        in-between leastSide (f .columns) maxSide (and-left (between leastSide (f .columns) maxSide) (between leastSide (f .rows) maxSide) size) .1,
-        in-between leastSide (f .rows) maxSide (and-right (between leastSide (f .columns) maxSide) (between leastSide (f .rows) maxSide) size) .1,
+        in-between leastSide (f .columns) maxSide
+            (and-left (between leastSide (f .columns) maxSide) (between leastSide (f .rows) maxSide) size) .1,
+        in-between leastSide (f .rows) maxSide
+            (and-right (between leastSide (f .columns) maxSide) (between leastSide (f .rows) maxSide) size) .1,
       )
 
   body-total : (nodata : List ℕ) (n : ℕ) (rows : List (List ℕ)) → rowsOf ls ≡ rows → length nodata ≤ 8
@@ -199,7 +209,8 @@ module _ (ls : List (List ℕ)) (on : faultLine ls ≡ 0) (fit : rowsFit (frameO
   unfolding rest noDataOf rowsOf
   after-head =
       either (names (sixth ls))
-      (λ yes. let o : firstOff 6 (namesWell (sixth ls) ∷ map (isRow (spelledIn (sixth ls))) (drop 6 ls)) ≡ 0 = rw yes at (head .5) in
+      (λ yes. let o : firstOff 6 (namesWell (sixth ls) ∷ map (isRow (spelledIn (sixth ls))) (drop 6 ls)) ≡ 0 =
+      rw yes at (head .5) in
       let s = off-split 6 (namesWell (sixth ls)) (map (isRow (spelledIn (sixth ls))) (drop 6 ls)) (omega arith) o in
       let w = named-short (sixth ls) (s .0) in
       omega (

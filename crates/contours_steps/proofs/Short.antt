@@ -32,11 +32,23 @@ module _ (levels : List ℕ) (f : Frame) (v : ℕ) where
         → length (leftOf levels f v listed counts closed c) ≤ 64 * k
     left-short zero c r h =
         either (ltb (length counts) (c .line))
-        (λ past. omega (arith, ap length (left-end levels f v listed counts closed c (ltb-true (length counts) (c .line) past))))
-        (λ here. absurd (omega (arith, goes levels f v listed counts closed p c r (ltb-false (length counts) (c .line) here) .nearer)))
+        (λ past. omega (
+          arith,
+          ap length
+              (left-end levels f v listed counts closed c (ltb-true (length counts) (c .line) past)),
+        ))
+        (λ here. absurd (omega (
+          arith,
+          goes levels f v listed counts closed p c r
+              (ltb-false (length counts) (c .line) here) .nearer,
+        )))
     left-short (suc k) c r h =
         either (ltb (length counts) (c .line))
-        (λ past. omega (arith, ap length (left-end levels f v listed counts closed c (ltb-true (length counts) (c .line) past))))
+        (λ past. omega (
+          arith,
+          ap length
+              (left-end levels f v listed counts closed c (ltb-true (length counts) (c .line) past)),
+        ))
         (λ here. let g = goes levels f v listed counts closed p c r (ltb-false (length counts) (c .line) here) in
         let n = nextOf counts closed c in
         omega (

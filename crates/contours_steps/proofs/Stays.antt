@@ -13,7 +13,8 @@ use Rattle.text.specs.Line.{firstLine, linesOf}
 use Rattle.text.proofs.Digits.{either}
 use Rattle.text.proofs.Lines.{lines-step}
 use Rattle.grid.specs.Row.{isRow}
-use Rattle.grid.specs.File.{ncols, nrows, xllcenter, yllcenter, cellsize, unnamed, numberAfter, names, namesWell, sixth, spelledIn, headOn, namedOn, noDataOf, rowsOf, firstOff, faultLine}
+use Rattle.grid.specs.File.{ncols, nrows, xllcenter, yllcenter, cellsize, unnamed, numberAfter, names, namesWell}
+use Rattle.grid.specs.File.{sixth, spelledIn, headOn, namedOn, noDataOf, rowsOf, firstOff, faultLine}
 use Rattle.contours_steps.specs.Sheet.{lineBegun, maxText, overlongLine}
 use Rattle.contours_steps.specs.Told.{FillsRoom}
 use Rattle.contours_steps.proofs.Overlong.{overlong-twelve}
@@ -36,15 +37,23 @@ unfolding lineBegun
 line-stays zero s u h =
     let r = ended-first s (omega arith) in
     let a = stream-line s u r in
-    let b = lines-step s (omega arith) in
-    (ap (λ (ls : List (List ℕ)). getD ls 0 []) a ∙ sym (ap (λ (ls : List (List ℕ)). getD ls 0 []) b), omega (arith, ap length b), omega (arith, ap length a))
+    let b = lines-step s (omega arith) in (
+      ap (λ (ls : List (List ℕ)). getD ls 0 []) a
+          ∙ sym (ap (λ (ls : List (List ℕ)). getD ls 0 []) b),
+      omega (arith, ap length b),
+      omega (arith, ap length a),
+    )
 line-stays (suc i) s u h =
     let r = ended-first s (omega arith) in
     let a = stream-line s u r in
     let b = lines-step s (omega arith) in
     let k =
-    line-stays i (drop (length (firstLine s) + 2) s) u (omega (arith, ap length (stream-line s (0 ∷ []) r))) in
-    (ap (λ (ls : List (List ℕ)). getD ls (suc i) []) a ∙ k .0 ∙ sym (ap (λ (ls : List (List ℕ)). getD ls (suc i) []) b), omega (arith, ap length b, k .1), omega (arith, ap length a, k .2))
+    line-stays i (drop (length (firstLine s) + 2) s) u (omega (arith, ap length (stream-line s (0 ∷ []) r))) in (
+      ap (λ (ls : List (List ℕ)). getD ls (suc i) []) a ∙ k .0
+          ∙ sym (ap (λ (ls : List (List ℕ)). getD ls (suc i) []) b),
+      omega (arith, ap length b, k .1),
+      omega (arith, ap length a, k .2),
+    )
 
 -- ---- the test of each line
 
@@ -81,26 +90,27 @@ body-at six true e ls (suc j) h =
 body-at six false e ls j h = rw e (row-at (isRow unnamed) ls 5 j h)
 
 module _ (ls ls′ : List (List ℕ)) (most : ℕ)
-    (same : (k : ℕ) → k < most → (getD ls′ k [] ≡ getD ls k []) × (k < length ls) × (k < length ls′)) where
-  key-same : (key : List ℕ) (k : ℕ) → k < most
-      → isGot (numberAfter key (getD ls′ k [])) ≡ isGot (numberAfter key (getD ls k []))
-  key-same key k h = ap (λ (l : List ℕ). isGot (numberAfter key l)) (same k h .0)
+    (same : (k : ℕ) → k < most → (getD ls′ k [] ≡ getD ls k []) × (k < length ls) × (k < length ls′))
+  where
+    key-same : (key : List ℕ) (k : ℕ) → k < most
+        → isGot (numberAfter key (getD ls′ k [])) ≡ isGot (numberAfter key (getD ls k []))
+    key-same key k h = ap (λ (l : List ℕ). isGot (numberAfter key l)) (same k h .0)
 
-  test-same : (i : ℕ) → i < most → getD (testsOf ls′) i true ≡ getD (testsOf ls) i true
-  test-same zero h = key-same ncols 0 h
-  test-same (suc zero) h = key-same nrows 1 h
-  test-same (suc (suc zero)) h = key-same xllcenter 2 h
-  test-same (suc (suc (suc zero))) h = key-same yllcenter 3 h
-  test-same (suc (suc (suc (suc zero)))) h = key-same cellsize 4 h
-  test-same (suc (suc (suc (suc (suc j))))) h =
-      let six : sixth ls′ ≡ sixth ls = same 5 (omega arith) .0 in
-      let at : 5 + j < most = omega arith in
-      let s = same (5 + j) at in
-      ap (λ (bs : List Bool). getD bs j true) (body-is ls′)
-      ∙ body-at (sixth ls′) (names (sixth ls′)) refl ls′ j (s .2)
-      ∙ rw (six, s .0) refl
-      ∙ sym (body-at (sixth ls) (names (sixth ls)) refl ls j (s .1))
-      ∙ sym (ap (λ (bs : List Bool). getD bs j true) (body-is ls))
+    test-same : (i : ℕ) → i < most → getD (testsOf ls′) i true ≡ getD (testsOf ls) i true
+    test-same zero h = key-same ncols 0 h
+    test-same (suc zero) h = key-same nrows 1 h
+    test-same (suc (suc zero)) h = key-same xllcenter 2 h
+    test-same (suc (suc (suc zero))) h = key-same yllcenter 3 h
+    test-same (suc (suc (suc (suc zero)))) h = key-same cellsize 4 h
+    test-same (suc (suc (suc (suc (suc j))))) h =
+        let six : sixth ls′ ≡ sixth ls = same 5 (omega arith) .0 in
+        let at : 5 + j < most = omega arith in
+        let s = same (5 + j) at in
+        ap (λ (bs : List Bool). getD bs j true) (body-is ls′)
+        ∙ body-at (sixth ls′) (names (sixth ls′)) refl ls′ j (s .2)
+        ∙ rw (six, s .0) refl
+        ∙ sym (body-at (sixth ls) (names (sixth ls)) refl ls j (s .1))
+        ∙ sym (ap (λ (bs : List Bool). getD bs j true) (body-is ls))
 
 -- the first that fails, where the tests up to it are the same
 first-same : (n f : ℕ) (bs bs′ : List Bool) → 1 ≤ n → 1 ≤ f → firstOff n bs ≡ f
@@ -137,7 +147,8 @@ unfolding faultLine
 fault-back s u some ended =
     let f = faultLine (linesOf (s ++ u)) in
     first-same 1 f (testsOf (linesOf (s ++ u))) (testsOf (linesOf s)) (omega arith) some refl
-    (λ i h. test-same (linesOf (s ++ u)) (linesOf s) f (λ k l. let x = line-stays k s u (omega arith) in (sym (x .0), x .2, x .1)) i (omega arith))
+    (λ i h. test-same (linesOf (s ++ u)) (linesOf s) f (λ k l. let x = line-stays k s u (omega arith) in
+    (sym (x .0), x .2, x .1)) i (omega arith))
 
 -- a line that is told, and that the text ends
 overlong-stays : (text u : List ℕ) → 1 ≤ overlongLine text → overlongLine text < lineBegun text
@@ -146,9 +157,11 @@ unfolding overlongLine
 overlong-stays text u some ended =
     let f = faultLine (linesOf text) in
     either (leb f 5)
-    (λ head. let o : 1 ≤ f = rw head at some in let e : f < lineBegun text = rw head at ended in rw head (fault-stays text u o e))
+    (λ head. let o : 1 ≤ f = rw head at some in let e : f < lineBegun text = rw head at ended in
+    rw head (fault-stays text u o e))
     (λ row. either (ltb f (lineBegun text))
-    (λ yes. let o : 1 ≤ f = rw (row, yes) at some in rw (row, yes) (fault-stays text u o (ltb-true f (lineBegun text) yes)))
+    (λ yes. let o : 1 ≤ f = rw (row, yes) at some in
+    rw (row, yes) (fault-stays text u o (ltb-true f (lineBegun text) yes)))
     (λ no. let z : 1 ≤ 0 = rw (row, no) at some in absurd (omega arith)))
 
 pub fills-room : (front : List ℕ) → maxText ≤ length front → FillsRoom front

@@ -17,7 +17,7 @@ use Rattle.text.specs.declared.number.Number.the-variants.{Got, Off}
 use Rattle.text.proofs.Digits.{either}
 use Rattle.text.proofs.Exact.{level-exact}
 use Rattle.text.proofs.Fields.{count-append}
-use Rattle.text.proofs.Free.{shown-free, byte-free, nil-free, decimal-free, level-free}
+use Rattle.text.proofs.Free.{decimal-free, level-free}
 use Rattle.text.proofs.Shown.{level-back}
 use Rattle.network.specs.declared.Frame.{Frame}
 use Rattle.network.specs.Edges.{edgeAt}
@@ -27,12 +27,13 @@ use Rattle.contour_rules.specs.Contours.{Contour, bit, contoursOf}
 use Rattle.contour_rules.specs.Picture.{picture}
 use Rattle.wkt.specs.Calls.{networkText}
 use Rattle.wkt.specs.Places.{spotOf}
-use Rattle.wkt.specs.Text.{showMetres, placeText, bracket, comma, pointsText, linesText, multilinestring, empty, textOf, pointsOf}
+use Rattle.wkt.specs.Text.{showMetres, placeText, bracket, comma, pointsText, linesText, multilinestring, empty}
+use Rattle.wkt.specs.Text.{textOf, pointsOf}
 use Rattle.grid.specs.Row.{all, rowGiven, levelsOf}
 use Rattle.grid.specs.File.{frameOf, noDataOf, rowsOf, faultLine, rowsFit}
 use Rattle.grid.specs.Read.{headerSize, textFrame, textLevels, linesRefusal}
 use Rattle.grid.specs.Write as write
-use Rattle.grid.proofs.WriteLaws.{text-cons, text-none}
+use Rattle.grid.proofs.WriteSizes.{text-cons, text-none}
 use Rattle.grid.proofs.ValueLaws.{all-cons, all-none}
 use Rattle.grid.proofs.Values.{lines-apart}
 use Rattle.contours_steps.specs.Words.{wordLevel, isContour, maxContourLevels, wordsRefusal, levelsIn}
@@ -118,7 +119,8 @@ module _ (levels : List ℕ) (f : Frame) (v : ℕ) where
       ∙ omega (
         arith,
         level-free 13 (omega arith) v,
-        text-free (map (λ (c : Contour). pointsOf (c .edges) (bit (c .closes))) (contoursOf (picture levels (f .columns) (f .rows) v))),
+        text-free (map (λ (c : Contour). pointsOf (c .edges) (bit (c .closes)))
+            (contoursOf (picture levels (f .columns) (f .rows) v))),
       )
 
 -- ---- the sheet by its lines
@@ -177,8 +179,12 @@ contour-spells w h =
 pub spells-contour : (w : List ℕ) → Spells w → isContour w ≡ true
 unfolding isContour
 spells-contour w s =
-    rw
-    (s .spelled, level-back (s .level) (omega (arith, s .most)), le-leb 1 (s .level) (s .least), le-leb (s .level) 15000 (s .most)) refl
+    rw (
+      s .spelled,
+      level-back (s .level) (omega (arith, s .most)),
+      le-leb 1 (s .level) (s .least),
+      le-leb (s .level) 15000 (s .most),
+    ) refl
 
 all-each : (words : List (List ℕ)) → all isContour words ≡ true → (i : ℕ) → i < length words
     → isContour (getD words i []) ≡ true
@@ -216,7 +222,11 @@ each-word text words fine =
     let e : linesOf (writtenOf text words) ≡ headingText ∷ linesIn levels f (levelsIn words) =
     rw fine (sheet-lines levels f (levelsIn words)) in
     record {
-      many = ap length e ∙ omega (arith, length-map (levelsIn words) (λ (v : ℕ). showLevel v ++ (59 ∷ networkText levels f v)), length-map words wordLevel);
+      many = ap length e ∙ omega (
+        arith,
+        length-map (levelsIn words) (λ (v : ℕ). showLevel v ++ (59 ∷ networkText levels f v)),
+        length-map words wordLevel,
+      );
       heading = ap (λ (ls : List (List ℕ)). getD ls 0 []) e;
       line = λ i l. ap (λ (ls : List (List ℕ)). getD ls (suc i) []) e ∙ lines-at levels f words fits i l;
     }
@@ -273,10 +283,19 @@ module _ (text : List ℕ) (words : List (List ℕ)) where
   pub judged : Judged text words
   unfolding wordsRefusal
   judged = record {
-    off-layout = λ h. let e = off-first text h in written-as 17 (text-first (λ z. absurd (omega arith)) ∙ e) (λ z. absurd (omega arith));
-    network = λ z ne. written-as (textRefusal text) (text-first ne) ne ∙ ap (refusedLine (textRefusal text)) (rw (ne-eqb (textRefusal text) 17 (later text z)) refl);
-    no-word = λ z n. written-as 15 (words-next z ∙ rw (lt-leb 1 (length words) (omega arith)) refl) (λ q. absurd (omega arith));
-    a-word = λ z i l ne. written-as 15 (words-next z ∙ unfit (either (all isContour words) (λ yes. absurd (ne (contour-spells (getD words i []) (all-each words yes i l)))) (λ no. no))) (λ q. absurd (omega arith));
-    many-words = λ z each m. written-as 14 (words-next z ∙ rw (le-leb 1 (length words) (omega arith), each-all words each, lt-leb (length words) 15000 m) refl) (λ q. absurd (omega arith));
-    drawn = λ z each some few. words-next z ∙ rw (le-leb 1 (length words) some, each-all words each, le-leb (length words) 15000 few) refl;
+    off-layout = λ h. let e = off-first text h in
+        written-as 17 (text-first (λ z. absurd (omega arith)) ∙ e) (λ z. absurd (omega arith));
+    network = λ z ne. written-as (textRefusal text) (text-first ne) ne
+        ∙ ap (refusedLine (textRefusal text)) (rw (ne-eqb (textRefusal text) 17 (later text z)) refl);
+    no-word = λ z n. written-as 15 (words-next z ∙ rw (lt-leb 1 (length words) (omega arith)) refl)
+        (λ q. absurd (omega arith));
+    a-word = λ z i l ne. written-as 15 (words-next z
+        ∙ unfit (either (all isContour words)
+        (λ yes. absurd (ne (contour-spells (getD words i []) (all-each words yes i l)))) (λ no. no)))
+        (λ q. absurd (omega arith));
+    many-words = λ z each m. written-as 14 (words-next z
+        ∙ rw (le-leb 1 (length words) (omega arith), each-all words each, lt-leb (length words) 15000 m) refl)
+        (λ q. absurd (omega arith));
+    drawn = λ z each some few. words-next z
+        ∙ rw (le-leb 1 (length words) some, each-all words each, le-leb (length words) 15000 few) refl;
   }

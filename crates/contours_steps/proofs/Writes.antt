@@ -27,4 +27,5 @@ module _ {s s₁ s₂ s₃ s₄ s₅ a b c d e : List ℕ} {i₁ i₂ i₃ i₄ 
       let l₃ = length-append b (c ++ (d ++ e)) in
       let l₄ = length-append a (b ++ (c ++ (d ++ e))) in
       wrote-then (omega arith) one
-      (wrote-then (omega (arith, room-two)) two (wrote-then (omega (arith, room-three)) three (wrote-then (omega (arith, room-four)) four five)))
+      (wrote-then (omega (arith, room-two)) two
+      (wrote-then (omega (arith, room-three)) three (wrote-then (omega (arith, room-four)) four five)))

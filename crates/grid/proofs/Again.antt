@@ -1,4 +1,5 @@
--- The other way round: a text that is read, and doesn't name the no-data value, gives, written again, the same lines, each with its
+-- The other way round: a text that is read, and doesn't name the no-data value, gives, written again, the same
+-- lines, each with its
 -- CRLF; so a text that ends in CRLF gives the same bytes. Assumes nothing.
 use Prim.Native.Nat.{ℕ, zero, suc, _+_, _*_, _≤_}
 use mathlib.Core.Path.{_≡_, refl, sym, ap, _∙_}
@@ -37,7 +38,8 @@ text-onto c l ls = refl
 
 -- a byte before a text that has bytes
 text-before : (c : ℕ) (s : List ℕ) → 1 ≤ length s → textOf (onto c (linesOf s)) ≡ c ∷ textOf (linesOf s)
-text-before c s h = let e = lines-step s h in ap (λ l. textOf (onto c l)) e ∙ text-onto c _ _ ∙ sym (ap (λ l. c ∷ textOf l) e)
+text-before c s h = let e = lines-step s h in ap (λ l. textOf (onto c l)) e ∙ text-onto c _ _
+    ∙ sym (ap (λ l. c ∷ textOf l) e)
 
 -- a text that ends in CRLF is its lines, each with its CRLF
 pub text-again : (t : List ℕ) → textOf (linesOf (t ++ (13 ∷ 10 ∷ []))) ≡ t ++ (13 ∷ 10 ∷ [])
@@ -49,12 +51,14 @@ text-again (c ∷ d ∷ t) =
     (λ yes. let p = eqb-true c 13 (and-left (eqb c 13) (eqb d 10) yes) in
     let q = eqb-true d 10 (and-right (eqb c 13) (eqb d 10) yes) in
     rw (yes, p, q) (ap (λ s. 13 ∷ 10 ∷ s) (text-again t)))
-    (λ other. rw other (text-before c (d ∷ t ++ (13 ∷ 10 ∷ [])) (omega arith) ∙ ap (λ s. c ∷ s) (text-again (d ∷ t))))
+    (λ other. rw other (text-before c (d ∷ t ++ (13 ∷ 10 ∷ [])) (omega arith)
+    ∙ ap (λ s. c ∷ s) (text-again (d ∷ t))))
 
 -- ---- header lines
 
 -- a header line is its key and its number
-number-exact : (key line : List ℕ) → isGot (numberAfter key line) ≡ true → line ≡ keyLine key (valueOf (numberAfter key line))
+number-exact : (key line : List ℕ) → isGot (numberAfter key line) ≡ true
+    → line ≡ keyLine key (valueOf (numberAfter key line))
 number-exact key line e = key-line key line (valueOf (numberAfter key line)) (got-value (numberAfter key line) e) .1
 
 -- the fifth of the header lines is there
@@ -72,14 +76,16 @@ five (a ∷ b ∷ c ∷ []) h = absurd (omega arith)
 five (a ∷ b ∷ c ∷ d ∷ []) h = absurd (omega arith)
 five (a ∷ b ∷ c ∷ d ∷ e ∷ l) h = refl
 
-same-five : {a b c d e a' b' c' d' e' : List ℕ} → a ≡ a' → b ≡ b' → c ≡ c' → d ≡ d' → e ≡ e' → (l : List (List ℕ))
+same-five : {a b c d e a' b' c' d' e' : List ℕ} → a ≡ a' → b ≡ b' → c ≡ c' → d ≡ d' → e ≡ e'
+    → (l : List (List ℕ))
     → _≡_ {A = List (List ℕ)} (a ∷ b ∷ c ∷ d ∷ e ∷ l) (a' ∷ b' ∷ c' ∷ d' ∷ e' ∷ l)
 same-five pa pb pc pd pe l = cc
 
 -- ---- rows
 
 -- the values of a line, joined, are the line
-join-onto : (c : ℕ) (l : List ℕ) (ls : List (List ℕ)) → joinedBy 32 (onto c (l ∷ ls)) ≡ c ∷ joinedBy 32 (l ∷ ls)
+join-onto : (c : ℕ) (l : List ℕ) (ls : List (List ℕ))
+    → joinedBy 32 (onto c (l ∷ ls)) ≡ c ∷ joinedBy 32 (l ∷ ls)
 unfolding joinedBy
 join-onto c l [] = refl
 join-onto c l (m ∷ ls) = refl
@@ -92,7 +98,8 @@ values-some (c ∷ s) =
     (λ yes. rw yes)
     (λ other. rw other (ap (onto c) (values-some s) ∙ sym (some-onto c (valuesOf s) (values-some s))))
   where
-    some-onto : (c : ℕ) (l : List (List ℕ)) → l ≡ getD l 0 [] ∷ drop 1 l → getD (onto c l) 0 [] ∷ drop 1 (onto c l) ≡ onto c (getD l 0 [] ∷ drop 1 l)
+    some-onto : (c : ℕ) (l : List (List ℕ)) → l ≡ getD l 0 [] ∷ drop 1 l
+        → getD (onto c l) 0 [] ∷ drop 1 (onto c l) ≡ onto c (getD l 0 [] ∷ drop 1 l)
     some-onto c [] e = refl
     some-onto c (x ∷ l) e = refl
 
@@ -103,27 +110,34 @@ values-joined (c ∷ s) =
     let e = values-some s in
     either (eqb c 32)
     (λ yes. let p = eqb-true c 32 yes in rw (yes, p) (space (valuesOf s) e ∙ ap (λ t. 32 ∷ t) (values-joined s)))
-    (λ other. rw other (ap (λ l. joinedBy 32 (onto c l)) e ∙ join-onto c (getD (valuesOf s) 0 []) (drop 1 (valuesOf s)) ∙ sym (ap (λ l. c ∷ joinedBy 32 l) e) ∙ ap (λ t. c ∷ t) (values-joined s)))
+    (λ other. rw other (ap (λ l. joinedBy 32 (onto c l)) e
+    ∙ join-onto c (getD (valuesOf s) 0 []) (drop 1 (valuesOf s)) ∙ sym (ap (λ l. c ∷ joinedBy 32 l) e)
+    ∙ ap (λ t. c ∷ t) (values-joined s)))
   where
     space : (l : List (List ℕ)) → l ≡ getD l 0 [] ∷ drop 1 l → joinedBy 32 ([] ∷ l) ≡ 32 ∷ joinedBy 32 l
     space [] e = absurd (true≢false (sym (ap (λ x. leb 1 (length x)) e)))
     space (x ∷ l) e = refl
 
-values-exact : (ts : List (List ℕ)) → all (isValue unnamed) ts ≡ true → all (given unnamed) ts ≡ true → map showLevel (map levelIn ts) ≡ ts
+values-exact : (ts : List (List ℕ)) → all (isValue unnamed) ts ≡ true → all (given unnamed) ts ≡ true
+    → map showLevel (map levelIn ts) ≡ ts
 values-exact [] v g = refl
 values-exact (t ∷ ts) v g =
     let a = sym (all-cons (isValue unnamed) t ts) ∙ v in
     let b = sym (all-cons (given unnamed) t ts) ∙ g in
-    let head = sym (value-is unnamed t (and-left (isValue unnamed t) (all (isValue unnamed) ts) a) (and-left (given unnamed t) (all (given unnamed) ts) b)) in
-    let rest = values-exact ts (and-right (isValue unnamed t) (all (isValue unnamed) ts) a) (and-right (given unnamed t) (all (given unnamed) ts) b) in
+    let head = sym (value-is unnamed t (and-left (isValue unnamed t) (all (isValue unnamed) ts) a)
+    (and-left (given unnamed t) (all (given unnamed) ts) b)) in
+    let rest = values-exact ts (and-right (isValue unnamed t) (all (isValue unnamed) ts) a)
+    (and-right (given unnamed t) (all (given unnamed) ts) b) in
     rw (head, rest)
 
-row-exact : (line : List ℕ) → isRow unnamed line ≡ true → rowGiven unnamed line ≡ true → rowLine (rowLevels line) ≡ line
+row-exact : (line : List ℕ) → isRow unnamed line ≡ true → rowGiven unnamed line ≡ true
+    → rowLine (rowLevels line) ≡ line
 unfolding rowLine rowLevels
 row-exact line v g = rw (values-exact (valuesOf line) v g) (values-joined line)
 
 -- rows of the front of some levels are those of the levels
-rows-front : (columns : ℕ) (a b : List ℕ) (n : ℕ) → n * columns ≤ length a → rowLines columns (a ++ b) n ≡ rowLines columns a n
+rows-front : (columns : ℕ) (a b : List ℕ) (n : ℕ) → n * columns ≤ length a
+    → rowLines columns (a ++ b) n ≡ rowLines columns a n
 unfolding rowLines
 rows-front columns a b zero h = refl
 rows-front columns a b (suc r) h =
@@ -132,7 +146,8 @@ rows-front columns a b (suc r) h =
     let t = take-append-le columns (drop (r * columns) a) b (omega (arith, length-drop (r * columns) a)) in
     rw (d, t, rows-front columns a b r (omega arith))
 
-rows-exact : (columns : ℕ) (rows : List (List ℕ)) → all (hasValues columns) rows ≡ true → all (isRow unnamed) rows ≡ true → all (rowGiven unnamed) rows ≡ true
+rows-exact : (columns : ℕ) (rows : List (List ℕ)) → all (hasValues columns) rows ≡ true
+    → all (isRow unnamed) rows ≡ true → all (rowGiven unnamed) rows ≡ true
     → rowLines columns (levelsOf rows) (length rows) ≡ rows
 unfolding rowLines levelsOf
 rows-exact columns [] n v g = refl
@@ -141,12 +156,17 @@ rows-exact columns (row ∷ rows) n v g =
     let av = sym (all-cons (isRow unnamed) row rows) ∙ v in
     let ag = sym (all-cons (rowGiven unnamed) row rows) ∙ g in
     let ns = and-right (hasValues columns row) (all (hasValues columns) rows) an in
-    let here = eqb-true (length (valuesOf row)) columns (and-left (hasValues columns row) (all (hasValues columns) rows) an) in
+    let here = eqb-true (length (valuesOf row)) columns
+    (and-left (hasValues columns row) (all (hasValues columns) rows) an) in
     let before = levels-length columns rows ns in
     let one : take columns (drop (length rows * columns) (levelsOf rows ++ rowLevels row)) ≡ rowLevels row =
-    ap (take columns) (drop-at (levelsOf rows) (rowLevels row) (length rows * columns) before) ∙ take-all columns (rowLevels row) (omega (arith, length-levels row)) in
-    let line = row-exact row (and-left (isRow unnamed row) (all (isRow unnamed) rows) av) (and-left (rowGiven unnamed row) (all (rowGiven unnamed) rows) ag) in
-    let rest = rows-front columns (levelsOf rows) (rowLevels row) (length rows) (omega arith) ∙ rows-exact columns rows ns (and-right (isRow unnamed row) (all (isRow unnamed) rows) av) (and-right (rowGiven unnamed row) (all (rowGiven unnamed) rows) ag) in
+    ap (take columns) (drop-at (levelsOf rows) (rowLevels row) (length rows * columns) before)
+    ∙ take-all columns (rowLevels row) (omega (arith, length-levels row)) in
+    let line = row-exact row (and-left (isRow unnamed row) (all (isRow unnamed) rows) av)
+    (and-left (rowGiven unnamed row) (all (rowGiven unnamed) rows) ag) in
+    let rest = rows-front columns (levelsOf rows) (rowLevels row) (length rows) (omega arith)
+    ∙ rows-exact columns rows ns (and-right (isRow unnamed row) (all (isRow unnamed) rows) av)
+    (and-right (rowGiven unnamed row) (all (rowGiven unnamed) rows) ag) in
     rw (one, line, rest)
 
 -- ---- the tests of a text that is read
@@ -154,10 +174,16 @@ rows-exact columns (row ∷ rows) n v g =
 off-front : (n : ℕ) (bs cs : List Bool) → firstOff n (bs ++ cs) ≡ 0 → firstOff n bs ≡ 0
 off-front n bs cs e =
     either (ltb 0 (firstOff n bs))
-    (λ some. absurd (omega (arith, e, off-keep n bs cs (firstOff n bs) (ltb-true 0 (firstOff n bs) some) refl, ltb-true 0 (firstOff n bs) some)))
+    (λ some. absurd (omega (
+      arith,
+      e,
+      off-keep n bs cs (firstOff n bs) (ltb-true 0 (firstOff n bs) some) refl,
+      ltb-true 0 (firstOff n bs) some,
+    )))
     (λ none. omega (arith, ltb-false 0 (firstOff n bs) none))
 
-five-on : (a b c d e : Bool) → firstOff 1 (a ∷ b ∷ c ∷ d ∷ e ∷ []) ≡ 0 → (a ≡ true) × (b ≡ true) × (c ≡ true) × (d ≡ true) × (e ≡ true)
+five-on : (a b c d e : Bool) → firstOff 1 (a ∷ b ∷ c ∷ d ∷ e ∷ []) ≡ 0
+    → (a ≡ true) × (b ≡ true) × (c ≡ true) × (d ≡ true) × (e ≡ true)
 unfolding firstOff
 five-on true true true true true h = (refl, refl, refl, refl, refl)
 five-on true true true true false h = absurd (omega arith)
@@ -166,17 +192,20 @@ five-on true true false d e h = absurd (omega arith)
 five-on true false c d e h = absurd (omega arith)
 five-on false b c d e h = absurd (omega arith)
 
-all-on : (n : ℕ) (p : List ℕ → Bool) (lines : List (List ℕ)) → 1 ≤ n → firstOff n (map p lines) ≡ 0 → all p lines ≡ true
+all-on : (n : ℕ) (p : List ℕ → Bool) (lines : List (List ℕ)) → 1 ≤ n → firstOff n (map p lines) ≡ 0
+    → all p lines ≡ true
 unfolding firstOff all
 all-on n p [] h e = refl
 all-on n p (l ∷ lines) h e =
     either (p l)
-    (λ yes. let r : firstOff (n + 1) (map p lines) ≡ 0 = rw yes at e in rw yes (all-on (n + 1) p lines (omega arith) r))
+    (λ yes. let r : firstOff (n + 1) (map p lines) ≡ 0 = rw yes at e in
+    rw yes (all-on (n + 1) p lines (omega arith) r))
     (λ off. let z : n ≡ 0 = rw off at e in absurd (omega arith))
 
 -- ---- the whole text
 
-module _ (s : List ℕ) (headers room : ℕ) (read : readRefusal s headers room ≡ 0) (plain : names (sixth (linesOf s)) ≡ false) where
+module _ (s : List ℕ) (headers room : ℕ) (read : readRefusal s headers room ≡ 0)
+    (plain : names (sixth (linesOf s)) ≡ false) where
   abbrev lines : List (List ℕ)
   lines = linesOf s
 
@@ -195,7 +224,8 @@ module _ (s : List ℕ) (headers room : ℕ) (read : readRefusal s headers room 
   named-plain = rw plain
 
   through : (faultLine lines ≡ 0) × (rowsFit (frameOf lines) rows ≡ true) × (all (rowGiven unnamed) rows ≡ true)
-  through = let p = passed lines headers room read in (p .fault, rw rows-plain at (p .fits), rw (rows-plain, data-plain) at (p .given))
+  through = let p = passed lines headers room read in
+      (p .fault, rw rows-plain at (p .fits), rw (rows-plain, data-plain) at (p .given))
 
   -- the tests of the lines, all passed
   tests : firstOff 1 (headOn lines ++ map (isRow unnamed) rows) ≡ 0
@@ -206,7 +236,8 @@ module _ (s : List ℕ) (headers room : ℕ) (read : readRefusal s headers room 
   head-passed = off-front 1 (headOn lines) (map (isRow unnamed) rows) tests
 
   rows-passed : all (isRow unnamed) rows ≡ true
-  rows-passed = all-on 6 (isRow unnamed) rows (omega arith) (sym (off-append 1 (headOn lines) (map (isRow unnamed) rows) (omega arith) head-passed) ∙ tests)
+  rows-passed = all-on 6 (isRow unnamed) rows (omega arith)
+      (sym (off-append 1 (headOn lines) (map (isRow unnamed) rows) (omega arith) head-passed) ∙ tests)
 
   -- the lines are those of the network
   lines-exact : networkLines (levelsOf (rowsOf lines)) (frameOf lines) ≡ lines
@@ -215,14 +246,16 @@ module _ (s : List ℕ) (headers room : ℕ) (read : readRefusal s headers room 
       let on = five-on _ _ _ _ _ head-passed in
       let fit = fit-both (frameOf lines) rows (through .1) in
       let body : rowLines (frameOf lines .columns) (levelsOf rows) (frameOf lines .rows) ≡ rows =
-      ap (rowLines (frameOf lines .columns) (levelsOf rows)) (sym (fit .0)) ∙ rows-exact (frameOf lines .columns) rows (fit .1) rows-passed (through .2) in
+      ap (rowLines (frameOf lines .columns) (levelsOf rows)) (sym (fit .0))
+      ∙ rows-exact (frameOf lines .columns) rows (fit .1) rows-passed (through .2) in
       let a = number-exact ncols (getD lines 0 []) (on .0) in
       let b = number-exact nrows (getD lines 1 []) (on .1) in
       let c = number-exact xllcenter (getD lines 2 []) (on .2) in
       let d = number-exact yllcenter (getD lines 3 []) (on .3) in
       let e = number-exact cellsize (getD lines 4 []) (on .4) in
       let split = five lines (head-there (getD lines 4 []) (on .4)) in
-      ap (λ r. headLines (frameOf lines) ++ rowLines (frameOf lines .columns) (levelsOf r) (frameOf lines .rows)) rows-plain
+      ap (λ r. headLines (frameOf lines) ++ rowLines (frameOf lines .columns) (levelsOf r) (frameOf lines .rows))
+      rows-plain
       ∙ ap (λ r. headLines (frameOf lines) ++ r) body
       ∙ same-five (sym a) (sym b) (sym c) (sym d) (sym e) rows
       ∙ sym split
@@ -234,5 +267,6 @@ module _ (s : List ℕ) (headers room : ℕ) (read : readRefusal s headers room 
 
 -- a text that ends in CRLF, is read and doesn't name the no-data value: written again, the same bytes
 pub network-again : (t : List ℕ) (headers room : ℕ) → let text = t ++ (13 ∷ 10 ∷ []) in
-    readRefusal text headers room ≡ 0 → names (sixth (linesOf text)) ≡ false → showNetwork (textLevels text) (textFrame text) ≡ text
+    readRefusal text headers room ≡ 0 → names (sixth (linesOf text)) ≡ false
+    → showNetwork (textLevels text) (textFrame text) ≡ text
 network-again t headers room read plain = lines-again (t ++ (13 ∷ 10 ∷ [])) headers room read plain ∙ text-again t

@@ -30,7 +30,8 @@ use Rattle.grid.specs.Write.{rowLine, rowAt, rowLines, networkLines, sho
 use Rattle.grid.specs.Write.{sizeAfter}
 use Rattle.grid.specs.InnerSteps.{Quiet, Near}
 use Rattle.grid.proofs.FileLaws.{off-append}
-use Rattle.grid.proofs.WriteLaws.{near, quiet-part, row-first}
+use Rattle.grid.proofs.WriteSizes.{near}
+use Rattle.grid.proofs.WriteLaws.{quiet-part, row-first}
 use Rattle.grid.proofs.Values.{Free, lines-apart, values-apart, row-free, texts-row, texts-given, texts-levels}
 use Rattle.grid.proofs.Values.{number-back, key-free, names-row}
 
@@ -74,26 +75,33 @@ module _ (columns : ℕ) (levels : List ℕ) (wide : 1 ≤ columns) (quiet : Qui
     earlier : r * columns ≤ length levels
     earlier = omega (arith, room)
 
-  every : (p : List ℕ → Bool) → ((r : ℕ) → suc r * columns ≤ length levels → p (rowLine (rowAt columns levels r)) ≡ true)
+  every : (p : List ℕ → Bool)
+      → ((r : ℕ) → suc r * columns ≤ length levels → p (rowLine (rowAt columns levels r)) ≡ true)
       → (rows : ℕ) → rows * columns ≤ length levels → all p (rowLines columns levels rows) ≡ true
   unfolding rowLines all
   every p h zero room = refl
   every p h (suc r) room = rw (h r room) (every p h r (earlier r room))
 
-  rows-on : (rows : ℕ) → rows * columns ≤ length levels → all (isRow unnamed) (rowLines columns levels rows) ≡ true
+  rows-on : (rows : ℕ) → rows * columns ≤ length levels
+      → all (isRow unnamed) (rowLines columns levels rows) ≡ true
   rows-on = every (isRow unnamed) (λ r h. row-on (rowAt columns levels r) (some r h) (calm r h))
 
-  rows-given : (rows : ℕ) → rows * columns ≤ length levels → all (rowGiven unnamed) (rowLines columns levels rows) ≡ true
+  rows-given : (rows : ℕ) → rows * columns ≤ length levels
+      → all (rowGiven unnamed) (rowLines columns levels rows) ≡ true
   rows-given = every (rowGiven unnamed) (λ r h. row-given (rowAt columns levels r) (some r h) (calm r h))
 
-  rows-number : (rows : ℕ) → rows * columns ≤ length levels → all (hasValues columns) (rowLines columns levels rows) ≡ true
-  rows-number = every (hasValues columns) (λ r h. eq-eqb _ columns (row-number (rowAt columns levels r) (some r h) (calm r h) ∙ size r h))
+  rows-number : (rows : ℕ) → rows * columns ≤ length levels
+      → all (hasValues columns) (rowLines columns levels rows) ≡ true
+  rows-number = every (hasValues columns)
+      (λ r h. eq-eqb _ columns (row-number (rowAt columns levels r) (some r h) (calm r h) ∙ size r h))
 
-  rows-back : (rows : ℕ) → rows * columns ≤ length levels → levelsOf (rowLines columns levels rows) ≡ take (rows * columns) levels
+  rows-back : (rows : ℕ) → rows * columns ≤ length levels
+      → levelsOf (rowLines columns levels rows) ≡ take (rows * columns) levels
   unfolding rowLines levelsOf
   rows-back zero room = rw (zero-mul columns)
   rows-back (suc r) h =
-      rw (row-back (rowAt columns levels r) (some r h) (calm r h), rows-back r (earlier r h), suc-mul r columns) (sym (take-add (r * columns) columns levels))
+      rw (row-back (rowAt columns levels r) (some r h) (calm r h), rows-back r (earlier r h), suc-mul r columns)
+      (sym (take-add (r * columns) columns levels))
 
 rows-length : (columns : ℕ) (levels : List ℕ) (rows : ℕ) → length (rowLines columns levels rows) ≡ rows
 unfolding rowLines
@@ -107,18 +115,23 @@ rows-free columns levels (suc r) zero h = row-free (rowAt columns levels r)
 rows-free columns levels (suc r) (suc i) h = rows-free columns levels r i (omega arith)
 
 -- tests that all hold have no first that fails
-none-off : (n : ℕ) (p : List ℕ → Bool) (lines : List (List ℕ)) → all p lines ≡ true → firstOff n (map p lines) ≡ 0
+none-off : (n : ℕ) (p : List ℕ → Bool) (lines : List (List ℕ)) → all p lines ≡ true
+    → firstOff n (map p lines) ≡ 0
 unfolding firstOff all
 none-off n p [] e = refl
-none-off n p (l ∷ lines) e = rw (and-left (p l) (all p lines) e) (none-off (n + 1) p lines (and-right (p l) (all p lines) e))
+none-off n p (l ∷ lines) e =
+    rw (and-left (p l) (all p lines) e) (none-off (n + 1) p lines (and-right (p l) (all p lines) e))
 
 -- the first row begins with a level
-first-names : (columns : ℕ) (levels : List ℕ) (rows : ℕ) → 1 ≤ rows → 1 ≤ columns → rows * columns ≤ length levels → names (getD (rowLines columns levels rows) 0 []) ≡ false
+first-names : (columns : ℕ) (levels : List ℕ) (rows : ℕ) → 1 ≤ rows → 1 ≤ columns
+    → rows * columns ≤ length levels → names (getD (rowLines columns levels rows) 0 []) ≡ false
 unfolding rowLines
 first-names columns levels zero h wide room = absurd (omega arith)
 first-names columns levels (suc r) h wide room =
     let row = rowAt columns levels r in
-    let n : length row ≡ columns = length-take-le columns (drop (r * columns) levels) (omega (arith, suc-mul r columns, length-drop (r * columns) levels)) in
+    let n : length row ≡ columns =
+    length-take-le columns (drop (r * columns) levels)
+    (omega (arith, suc-mul r columns, length-drop (r * columns) levels)) in
     names-row (rowLine row) (getD row 0 0) _ (row-first row (omega arith))
 
 -- ---- the whole text
@@ -194,11 +207,13 @@ module _ (levels : List ℕ) (f : Frame) (none : networkRefusal levels f ≡ 0) 
   frame-lines = rw (columns-back, height-back, west-back, south-back, spacing-back)
 
   levels-lines : levelsOf rows ≡ levels
-  levels-lines = rows-back (f .columns) levels wide (checks .quiet) (f .rows) held ∙ take-all (f .rows * f .columns) levels (omega (arith, full))
+  levels-lines = rows-back (f .columns) levels wide (checks .quiet) (f .rows) held
+      ∙ take-all (f .rows * f .columns) levels (omega (arith, full))
 
   fit-lines : rowsFit f rows ≡ true
   unfolding rowsFit
-  fit-lines = rw (rows-length (f .columns) levels (f .rows), eq-eqb (f .rows) (f .rows) refl) (rows-number (f .columns) levels wide (checks .quiet) (f .rows) held)
+  fit-lines = rw (rows-length (f .columns) levels (f .rows), eq-eqb (f .rows) (f .rows) refl)
+      (rows-number (f .columns) levels wide (checks .quiet) (f .rows) held)
 
   head-on : firstOff 1 (headOn lines) ≡ 0
   unfolding firstOff
@@ -218,12 +233,17 @@ module _ (levels : List ℕ) (f : Frame) (none : networkRefusal levels f ≡ 0) 
   pub levels-back : textLevels (showNetwork levels f) ≡ levels
   levels-back = ap (λ l. levelsOf (rowsOf l)) lines-back ∙ ap levelsOf rows-lines ∙ levels-lines
 
-  pub refusal-back : (headers levelRoom : ℕ) → headerSize ≤ headers → length levels ≤ levelRoom → readRefusal (showNetwork levels f) headers levelRoom ≡ 0
+  pub refusal-back : (headers levelRoom : ℕ) → headerSize ≤ headers → length levels ≤ levelRoom
+      → readRefusal (showNetwork levels f) headers levelRoom ≡ 0
   unfolding linesRefusal
   refusal-back headers levelRoom h l =
       rw (lines-back, fault-lines, rows-lines, frame-lines, data-lines, levels-lines, fit-lines)
       (checked-on maxNetworkLevel levels f _ none
-      ∙ rw (rows-given (f .columns) levels wide (checks .quiet) (f .rows) held, le-leb headerSize headers h, le-leb (length levels) levelRoom l))
+      ∙ rw (
+        rows-given (f .columns) levels wide (checks .quiet) (f .rows) held,
+        le-leb headerSize headers h,
+        le-leb (length levels) levelRoom l,
+      ))
 
 -- the file that a call of `write_network` leaves, where it does not refuse
 pub written-file : (levels : List ℕ) (f : Frame) (text sizes : List ℕ)

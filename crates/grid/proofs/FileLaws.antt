@@ -21,7 +21,8 @@ use Rattle.grid.proofs.HeadLaws.{line-of}
 use Rattle.grid.proofs.RowLaws.{off-later}
 
 -- tests that all hold, and then others; tests one of which fails, and then others
-pub off-append : (n : ℕ) (bs cs : List Bool) → 1 ≤ n → firstOff n bs ≡ 0 → firstOff n (bs ++ cs) ≡ firstOff (n + length bs) cs
+pub off-append : (n : ℕ) (bs cs : List Bool) → 1 ≤ n → firstOff n bs ≡ 0
+    → firstOff n (bs ++ cs) ≡ firstOff (n + length bs) cs
 unfolding firstOff
 off-append n [] cs h e = rw (add-zero n)
 off-append n (true ∷ bs) cs h e =
@@ -29,7 +30,8 @@ off-append n (true ∷ bs) cs h e =
     off-append (n + 1) bs cs (omega arith) e ∙ rw k
 off-append n (false ∷ bs) cs h e = absurd (omega arith)
 
-pub off-keep : (n : ℕ) (bs cs : List Bool) (k : ℕ) → 1 ≤ k → firstOff n bs ≡ k → firstOff n (bs ++ cs) ≡ k
+pub off-keep : (n : ℕ) (bs cs : List Bool) (k : ℕ) → 1 ≤ k → firstOff n bs ≡ k
+    → firstOff n (bs ++ cs) ≡ k
 unfolding firstOff
 off-keep n [] cs k h e = absurd (omega arith)
 off-keep n (true ∷ bs) cs k h e = off-keep (n + 1) bs cs k h e
@@ -37,8 +39,10 @@ off-keep n (false ∷ bs) cs k h e = e
 
 -- what follows the header, from its rows
 module _ (s : List ℕ) (at : ℕ) (frame : Frame) where
-  body-from : (first from : ℕ) (nodata : List ℕ) → firstOff 6 (bodyOn s at) ≡ firstOff first (map (isRow nodata) (linesAt s from))
-      → linesAt s from ≡ bodyRows s at → nodata ≡ bodyNoData s at → from ≤ length s → (r : File) → rowsRead s from nodata frame first r → bodyRead s at frame r
+  body-from : (first from : ℕ) (nodata : List ℕ)
+      → firstOff 6 (bodyOn s at) ≡ firstOff first (map (isRow nodata) (linesAt s from))
+      → linesAt s from ≡ bodyRows s at → nodata ≡ bodyNoData s at → from ≤ length s → (r : File)
+      → rowsRead s from nodata frame first r → bodyRead s at frame r
   body-from first from nodata on rows same h (On f place fits sound) q = (
     on ∙ q .0,
     q .1,
@@ -49,12 +53,14 @@ module _ (s : List ℕ) (at : ℕ) (frame : Frame) where
   )
   body-from first from nodata on rows same h (Off n) q = (on ∙ q .0, q .1)
 
-  pub body-named : (next : ℕ) (nodata : List ℕ) → names (lineFrom s at) ≡ true → namesWell (lineFrom s at) ≡ true → nodata ≡ spelledIn (lineFrom s at)
+  pub body-named : (next : ℕ) (nodata : List ℕ) → names (lineFrom s at) ≡ true
+      → namesWell (lineFrom s at) ≡ true → nodata ≡ spelledIn (lineFrom s at)
       → Passed s at next → (r : File) → rowsRead s next nodata frame 7 r → bodyRead s at frame r
   body-named next nodata named well same p =
       let line = lineFrom s at in
       let on : bodyOn s at ≡ true ∷ map (isRow nodata) (linesAt s next) =
-      ap (λ b. cond b (namesWell line ∷ map (isRow (spelledIn line)) (drop 1 (linesAt s at))) (map (isRow unnamed) (linesAt s at))) named
+      ap (λ b. cond b (namesWell line ∷ map (isRow (spelledIn line)) (drop 1 (linesAt s at)))
+      (map (isRow unnamed) (linesAt s at))) named
       ∙ ap (λ b. b ∷ map (isRow (spelledIn line)) (drop 1 (linesAt s at))) well
       ∙ ap (λ t. true ∷ map (isRow t) (drop 1 (linesAt s at))) (sym same)
       ∙ ap (λ l. true ∷ map (isRow nodata) l) (sym (p .rest)) in
@@ -64,11 +70,13 @@ module _ (s : List ℕ) (at : ℕ) (frame : Frame) where
       (same ∙ sym (ap (λ b. cond b (spelledIn line) unnamed) named))
       (p .inside)
 
-  pub body-unnamed : names (lineFrom s at) ≡ false → at ≤ length s → (r : File) → rowsRead s at unnamed frame 6 r → bodyRead s at frame r
+  pub body-unnamed : names (lineFrom s at) ≡ false → at ≤ length s → (r : File)
+      → rowsRead s at unnamed frame 6 r → bodyRead s at frame r
   body-unnamed other h =
       let line = lineFrom s at in
       body-from 6 at unnamed
-      (ap (λ b. firstOff 6 (cond b (namesWell line ∷ map (isRow (spelledIn line)) (drop 1 (linesAt s at))) (map (isRow unnamed) (linesAt s at)))) other)
+      (ap (λ b. firstOff 6 (cond b (namesWell line ∷ map (isRow (spelledIn line)) (drop 1 (linesAt s at)))
+      (map (isRow unnamed) (linesAt s at)))) other)
       (sym (ap (λ b. cond b (drop 1 (linesAt s at)) (linesAt s at)) other))
       (sym (ap (λ b. cond b (spelledIn line) unnamed) other))
       h
@@ -101,7 +109,8 @@ module _ (s : List ℕ) (at : ℕ) (here : linesAt s at ≡ drop 5 (linesOf s)) 
   unfolding faultLine
   fault-here e = off-append 1 (headOn (linesOf s)) _ (omega arith) e ∙ ap (firstOff 6) (sym on-here)
 
-  pub file-on : (f : Frame) → firstOff 1 (headOn (linesOf s)) ≡ 0 → frameOf (linesOf s) ≡ f → (r : File) → bodyRead s at f r → fileRead s r
+  pub file-on : (f : Frame) → firstOff 1 (headOn (linesOf s)) ≡ 0 → frameOf (linesOf s) ≡ f → (r : File)
+      → bodyRead s at f r → fileRead s r
   file-on f head same (On g from fits sound) q = (
     fault-here head ∙ q .0,
     record {
@@ -109,7 +118,8 @@ module _ (s : List ℕ) (at : ℕ) (here : linesAt s at ≡ drop 5 (linesOf s)) 
       inside = q .2;
       rows = q .3 ∙ rows-here;
       fitted = q .4 ∙ ap (λ x. rowsFit x (bodyRows s at)) (sym (q .1)) ∙ ap (rowsFit g) rows-here;
-      levels = q .5 ∙ ap (λ x. all (rowSound x) (bodyRows s at)) data-here ∙ ap (all (rowSound (noDataOf (linesOf s)))) rows-here;
+      levels = q .5 ∙ ap (λ x. all (rowSound x) (bodyRows s at)) data-here
+          ∙ ap (all (rowSound (noDataOf (linesOf s)))) rows-here;
     },
   )
   file-on f head same (Off n) q = (fault-here head ∙ q .0, q .1)

@@ -31,8 +31,10 @@ begins-long word line e =
     (λ long. ltb-false _ _ long)
 
 -- line k of a text, where it starts at `at`
-pub line-of : (s : List ℕ) (at k : ℕ) → linesAt s at ≡ drop k (linesOf s) → lineFrom s at ≡ getD (linesOf s) k []
-line-of s at k e = ap (λ l. getD l 0 []) e ∙ getD-drop k (linesOf s) 0 [] ∙ (let z : k + 0 ≡ k = omega arith in rw z)
+pub line-of : (s : List ℕ) (at k : ℕ) → linesAt s at ≡ drop k (linesOf s)
+    → lineFrom s at ≡ getD (linesOf s) k []
+line-of s at k e = ap (λ l. getD l 0 []) e ∙ getD-drop k (linesOf s) 0 []
+    ∙ (let z : k + 0 ≡ k = omega arith in rw z)
 
 -- header line k read: its number, and where the next line starts
 pub record KeyStep (s key : List ℕ) (k n next : ℕ) : Type 0 where
@@ -40,7 +42,8 @@ pub record KeyStep (s key : List ℕ) (k n next : ℕ) : Type 0 where
   pub inside : next ≤ length s
   pub rest : linesAt s next ≡ drop (k + 1) (linesOf s)
 
-module _ (s : List ℕ) (at : ℕ) (key : List ℕ) {r : Keyed} (k : ℕ) (here : linesAt s at ≡ drop k (linesOf s)) (read : keyRead s at key r) where
+module _ (s : List ℕ) (at : ℕ) (key : List ℕ) {r : Keyed} (k : ℕ)
+    (here : linesAt s at ≡ drop k (linesOf s)) (read : keyRead s at key r) where
   pub key-step : {n next : ℕ} → r ≡ keyed.Got n next → KeyStep s key k n next
   key-step {n} {next} e =
       let got : keyRead s at key (keyed.Got n next) = rw e at read in
@@ -58,7 +61,8 @@ module _ (s : List ℕ) (at : ℕ) (key : List ℕ) {r : Keyed} (k : ℕ) (here 
 -- a line that names no-data well has its spelling past the word and a space
 pub names-short : (line : List ℕ) → length line < 13 → namesWell line ≡ false
 unfolding namesWell
-names-short line h = rw (ne-eqb (getD line 12 0) 32 (λ e. omega (arith, List·getD-eq-default line 0 {n = 12} (omega arith))))
+names-short line h = rw (ne-eqb (getD line 12 0) 32
+    (λ e. omega (arith, List·getD-eq-default line 0 {n = 12} (omega arith))))
 
 drop-take : (k n : ℕ) (l : List ℕ) → drop k (take n l) ≡ take (n - k) (drop k l)
 drop-take zero n l = let z : n - 0 ≡ n = omega arith in rw z
@@ -74,7 +78,8 @@ spelled-at s at l h well =
     let start = h .start in
     let within = h .within in
     let d = length-drop at s in
-    let n : length line ≡ end - at = sym (ap length (h .line)) ∙ length-take-le (end - at) (drop at s) (omega arith) in
+    let n : length line ≡ end - at = sym (ap length (h .line))
+    ∙ length-take-le (end - at) (drop at s) (omega arith) in
     let long : 13 ≤ length line =
     either (ltb (length line) 13)
     (λ short. absurd (true≢false (sym well ∙ names-short line (ltb-true _ _ short))))

@@ -6,6 +6,7 @@ pub mod RowLaws
 pub mod FileLaws
 pub mod StoreLaws
 pub mod ReadLaws
+pub mod WriteSizes
 pub mod WriteLaws
 pub mod Values
 pub mod Back

@@ -47,7 +47,11 @@ module _ (s : List ℕ) (at end : ℕ) (h : at ≤ length s) (e : end ≡ at + l
         within = omega arith;
         moves = λ _. omega arith;
         line = cut;
-        passed = record { inside = omega arith; rest = ap linesOf (ap (λ k. drop k s) (sym p) ∙ sym (drop-drop (n + 2) at s)) ∙ rest-of (drop at s) };
+        passed = record {
+          inside = omega arith;
+          rest =
+              ap linesOf (ap (λ k. drop k s) (sym p) ∙ sym (drop-drop (n + 2) at s)) ∙ rest-of (drop at s);
+        };
       }
 
   -- the last line, without one
@@ -63,7 +67,8 @@ module _ (s : List ℕ) (at end : ℕ) (h : at ≤ length s) (e : end ≡ at + l
         line = cut;
         passed = record {
           inside = omega arith;
-          rest = ap linesOf (drop-of-length-le s {i = end} b ∙ sym (drop-of-length-le (drop at s) {i = n + 2} (omega arith))) ∙ rest-of (drop at s);
+          rest = ap linesOf (drop-of-length-le s {i = end} b
+              ∙ sym (drop-of-length-le (drop at s) {i = n + 2} (omega arith))) ∙ rest-of (drop at s);
         };
       }
 
@@ -78,5 +83,6 @@ pub line-none : (s : List ℕ) (at : ℕ) → length s ≤ at → linesAt s at �
 line-none s at h = ap linesOf (drop-of-length-le s h) ∙ lines-none
 
 -- past a line of a text there is one line fewer
-pub passed-at : {s : List ℕ} {at next : ℕ} (k : ℕ) → linesAt s at ≡ drop k (linesOf s) → Passed s at next → linesAt s next ≡ drop (k + 1) (linesOf s)
+pub passed-at : {s : List ℕ} {at next : ℕ} (k : ℕ) → linesAt s at ≡ drop k (linesOf s)
+    → Passed s at next → linesAt s next ≡ drop (k + 1) (linesOf s)
 passed-at {s} {at} {next} k e p = p .rest ∙ ap (λ l. drop 1 l) e ∙ drop-drop 1 k (linesOf s)

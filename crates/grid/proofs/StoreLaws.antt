@@ -27,9 +27,11 @@ pub store-start : (s : List ℕ) → StoreAt s 0 0
 unfolding rowLevels
 store-start s = record { within = omega arith; few = omega arith; rest = refl }
 
-module _ {s : List ℕ} {at i : ℕ} (w : StoreAt s at i) (end : ℕ) (e : end ≡ at + length (upTo 32 (drop at s))) where
+module _ {s : List ℕ} {at i : ℕ} (w : StoreAt s at i) (end : ℕ)
+    (e : end ≡ at + length (upTo 32 (drop at s))) where
   -- what follows: the level of the value here, and others
-  here : (l : List (List ℕ)) → valuesOf (drop at s) ≡ between s at end ∷ l → drop i (rowLevels s) ≡ levelIn (between s at end) ∷ map levelIn l
+  here : (l : List (List ℕ)) → valuesOf (drop at s) ≡ between s at end ∷ l
+      → drop i (rowLevels s) ≡ levelIn (between s at end) ∷ map levelIn l
   here l v = sym (w .rest) ∙ ap (map levelIn) v
 
   pub store-here : getD (rowLevels s) i 0 ≡ levelIn (between s at end)
@@ -40,7 +42,8 @@ module _ {s : List ℕ} {at i : ℕ} (w : StoreAt s at i) (end : ℕ) (e : end �
 
   pub store-room : i < length (rowLevels s)
   store-room =
-      let n : length (drop i (rowLevels s)) ≡ suc (length (map levelIn (drop 1 (valuesOf (drop at s))))) = ap length (here _ (some-at s at end (w .within) e)) in
+      let n : length (drop i (rowLevels s)) ≡ suc (length (map levelIn (drop 1 (valuesOf (drop at s))))) =
+      ap length (here _ (some-at s at end (w .within) e)) in
       omega (arith, length-drop i (rowLevels s))
 
   pub store-next : end < length s → StoreAt s (end + 1) (i + 1)
@@ -60,22 +63,28 @@ unfolding rowLevels
 length-levels s = length-map (valuesOf s) levelIn
 
 -- the levels of rows that all have so many values
-pub levels-length : (columns : ℕ) (rows : List (List ℕ)) → all (hasValues columns) rows ≡ true → length (levelsOf rows) ≡ length rows * columns
+pub levels-length : (columns : ℕ) (rows : List (List ℕ)) → all (hasValues columns) rows ≡ true
+    → length (levelsOf rows) ≡ length rows * columns
 unfolding levelsOf
 levels-length columns [] h = sym (zero-mul columns)
 levels-length columns (row ∷ rows) h =
-    let b : (hasValues columns row && all (hasValues columns) rows) ≡ true = sym (all-cons (hasValues columns) row rows) ∙ h in
-    let n = eqb-true (length (valuesOf row)) columns (and-left (hasValues columns row) (all (hasValues columns) rows) b) in
+    let b : (hasValues columns row && all (hasValues columns) rows) ≡ true =
+    sym (all-cons (hasValues columns) row rows) ∙ h in
+    let n = eqb-true (length (valuesOf row)) columns
+    (and-left (hasValues columns row) (all (hasValues columns) rows) b) in
     let r = levels-length columns rows (and-right (hasValues columns row) (all (hasValues columns) rows) b) in
     length-append (levelsOf rows) (rowLevels row) ∙ rw (r, length-levels row, n, suc-mul (length rows) columns)
 
 -- an answer's last part put in its place first
-front-last : (a b old : List ℕ) → length a + length b ≤ length old → front (a ++ b) old ≡ front a (put old (length a) b)
+front-last : (a b old : List ℕ) → length a + length b ≤ length old
+    → front (a ++ b) old ≡ front a (put old (length a) b)
 unfolding put
 front-last a b old h =
     let l : length (take (length a) old) ≡ length a = length-take-le (length a) old (omega arith) in
-    let d : drop (length a) (take (length a) old ++ b ++ drop (length a + length b) old) ≡ b ++ drop (length a + length b) old =
-    ap (drop (length a)) (append-assoc (take (length a) old) b (drop (length a + length b) old)) ∙ drop-at (take (length a) old) (b ++ drop (length a + length b) old) (length a) l in
+    let d : drop (length a) (take (length a) old ++ b ++ drop (length a + length b) old) ≡ b
+    ++ drop (length a + length b) old =
+    ap (drop (length a)) (append-assoc (take (length a) old) b (drop (length a + length b) old))
+    ∙ drop-at (take (length a) old) (b ++ drop (length a + length b) old) (length a) l in
     append-assoc a b (drop (length (a ++ b)) old) ∙ rw (d, length-append a b)
 
 -- one row among so many has its place and its room
@@ -85,10 +94,12 @@ place-room n columns rows room h l = omega (arith, suc-mul n columns, mul-le-mul
 -- a walk along rows: so many left
 module _ (s : List ℕ) (at columns left : ℕ) (w : Rows s at columns left) (h : at < length s) where
   row-here : (hasValues columns (lineFrom s at) && all (hasValues columns) (drop 1 (linesAt s at))) ≡ true
-  row-here = sym (ap (all (hasValues columns)) (line-here s at h) ∙ all-cons (hasValues columns) (lineFrom s at) (drop 1 (linesAt s at))) ∙ w .each
+  row-here = sym (ap (all (hasValues columns)) (line-here s at h)
+      ∙ all-cons (hasValues columns) (lineFrom s at) (drop 1 (linesAt s at))) ∙ w .each
 
   pub values-here : length (valuesOf (lineFrom s at)) ≡ columns
-  values-here = eqb-true _ columns (and-left (hasValues columns (lineFrom s at)) (all (hasValues columns) (drop 1 (linesAt s at))) row-here)
+  values-here = eqb-true _ columns
+      (and-left (hasValues columns (lineFrom s at)) (all (hasValues columns) (drop 1 (linesAt s at))) row-here)
 
   pub left-here : left ≡ suc (length (drop 1 (linesAt s at)))
   left-here = sym (w .number) ∙ ap length (line-here s at h)
@@ -111,7 +122,8 @@ module _ (s : List ℕ) (at columns left : ℕ) (w : Rows s at columns left) (h 
       rw (p, e) (sym (suc-mul n columns))
 
   pub front-here : (l : Line) → LineAt s at l → (old : List ℕ) → left * columns ≤ length old
-      → front (levelsOf (linesAt s at)) old ≡ front (levelsOf (linesAt s (l .next))) (put old ((left - 1) * columns) (rowLevels (lineFrom s at)))
+      → front (levelsOf (linesAt s at)) old ≡ front (levelsOf (linesAt s (l .next)))
+      (put old ((left - 1) * columns) (rowLevels (lineFrom s at)))
   unfolding levelsOf
   front-here l line old room =
       let rest = drop 1 (linesAt s at) in
@@ -122,8 +134,10 @@ module _ (s : List ℕ) (at columns left : ℕ) (w : Rows s at columns left) (h 
       ap (λ r. front (levelsOf r) old) (line-here s at h)
       ∙ front-last (levelsOf rest) (rowLevels (lineFrom s at)) old (omega arith)
       ∙ ap (λ k. front (levelsOf rest) (put old k (rowLevels (lineFrom s at)))) n
-      ∙ ap (λ r. front (levelsOf r) (put old ((left - 1) * columns) (rowLevels (lineFrom s at)))) (sym (line .passed .rest))
+      ∙ ap (λ r. front (levelsOf r) (put old ((left - 1) * columns) (rowLevels (lineFrom s at))))
+      (sym (line .passed .rest))
 
-pub front-end : (s : List ℕ) (at : ℕ) (old : List ℕ) → length s ≤ at → front (levelsOf (linesAt s at)) old ≡ old
+pub front-end : (s : List ℕ) (at : ℕ) (old : List ℕ)
+    → length s ≤ at → front (levelsOf (linesAt s at)) old ≡ old
 unfolding levelsOf
 front-end s at old h = ap (λ r. front (levelsOf r) old) (line-none s at h)

@@ -27,7 +27,8 @@ values-last [] h = refl
 values-last (c ∷ s) h =
     either (eqb c 32)
     (λ yes. let l : suc (length s) ≤ 0 = rw yes at h in absurd (omega arith))
-    (λ no. let l : suc (length s) ≤ suc (length (upTo 32 s)) = rw no at h in rw no (ap (onto c) (values-last s (omega arith))))
+    (λ no. let l : suc (length s) ≤ suc (length (upTo 32 s)) = rw no at h in
+    rw no (ap (onto c) (values-last s (omega arith))))
 
 values-next : (s : List ℕ) → length (upTo 32 s) < length s → valuesOf s ≡ upTo 32 s ∷ valuesOf (after 32 s)
 unfolding valuesOf upTo after
@@ -35,7 +36,8 @@ values-next [] h = absurd (omega arith)
 values-next (c ∷ s) h =
     either (eqb c 32)
     (λ yes. rw yes)
-    (λ no. let l : suc (length (upTo 32 s)) < suc (length s) = rw no at h in rw no (ap (onto c) (values-next s (omega arith))))
+    (λ no. let l : suc (length (upTo 32 s)) < suc (length s) = rw no at h in
+    rw no (ap (onto c) (values-next s (omega arith))))
 
 -- the value between two places of a line
 abbrev pub between : List ℕ → ℕ → ℕ → List ℕ
@@ -61,7 +63,8 @@ module _ (s : List ℕ) (at end : ℕ) (h : at ≤ length s) (e : end ≡ at + l
   next-at b =
       let n = length (upTo 32 (drop at s)) in
       let p : at + suc n ≡ end + 1 = omega arith in
-      let q : after 32 (drop at s) ≡ drop (end + 1) s = after-drop 32 (drop at s) ∙ drop-drop (suc n) at s ∙ ap (λ k. drop k s) p in
+      let q : after 32 (drop at s) ≡ drop (end + 1) s = after-drop 32 (drop at s) ∙ drop-drop (suc n) at s
+      ∙ ap (λ k. drop k s) p in
       rw (cut, ← q) (values-next (drop at s) (omega (arith, length-drop at s)))
 
   -- the first value of the rest
@@ -92,7 +95,8 @@ module _ (nodata t : List ℕ) where
   unfolding valueRefusal why
   value-off e = three (isValue nodata t) (isSound nodata t) e
 
-  pub value-on : (valueRefusal nodata t ≡ 17 → ⊥) → (isValue nodata t ≡ true) × (eqb (valueRefusal nodata t) 0 ≡ isSound nodata t)
+  pub value-on : (valueRefusal nodata t ≡ 17 → ⊥)
+      → (isValue nodata t ≡ true) × (eqb (valueRefusal nodata t) 0 ≡ isSound nodata t)
   unfolding valueRefusal why
   value-on f = three-on (isValue nodata t) (isSound nodata t) f
 
@@ -101,11 +105,13 @@ module _ (nodata t : List ℕ) where
   unfolding valueRefusal
   none-here e = rw e (either (isGot (levelOf t)) (λ y. rw y) (λ n. rw n))
 
-  pub level-here : (v : ℕ) → sameText t nodata ≡ false → levelOf t ≡ Got v → v ≤ maxNetworkLevel → valueRefusal nodata t ≡ 0
+  pub level-here : (v : ℕ) → sameText t nodata ≡ false → levelOf t ≡ Got v → v ≤ maxNetworkLevel
+      → valueRefusal nodata t ≡ 0
   unfolding valueRefusal
   level-here v e l h = rw (e, l, le-leb v maxNetworkLevel h)
 
-  pub high-here : (v : ℕ) → sameText t nodata ≡ false → levelOf t ≡ Got v → maxNetworkLevel < v → valueRefusal nodata t ≡ 13
+  pub high-here : (v : ℕ) → sameText t nodata ≡ false → levelOf t ≡ Got v → maxNetworkLevel < v
+      → valueRefusal nodata t ≡ 13
   unfolding valueRefusal
   high-here v e l h = rw (e, l, lt-leb v maxNetworkLevel h)
 
@@ -130,7 +136,8 @@ pub and-true : (a : Bool) → (a && true) ≡ a
 and-true true = refl
 and-true false = refl
 
--- a walk along a row: `count` values passed, all of them values, and `sound` where all were sound; the next one starts at `at`
+-- a walk along a row: `count` values passed, all of them values, and `sound` where all were sound; the next one
+-- starts at `at`
 pub record RowAt (nodata s : List ℕ) (at count : ℕ) (sound : Bool) : Type 0 where
   pub within : at ≤ length s
   pub few : count ≤ at
@@ -141,26 +148,32 @@ pub record RowAt (nodata s : List ℕ) (at count : ℕ) (sound : Bool) : Type 0 
 pub row-start : (nodata s : List ℕ) → RowAt nodata s 0 0 true
 row-start nodata s = record { within = omega arith; few = omega arith; on = refl; number = omega arith; levels = refl }
 
-module _ {nodata s : List ℕ} {at count : ℕ} {sound : Bool} (w : RowAt nodata s at count sound) (end : ℕ) (e : end ≡ at + length (upTo 32 (drop at s))) where
+module _ {nodata s : List ℕ} {at count : ℕ} {sound : Bool} (w : RowAt nodata s at count sound) (end : ℕ)
+    (e : end ≡ at + length (upTo 32 (drop at s))) where
   pub row-off : isValue nodata (between s at end) ≡ false → rowOf nodata s ≡ Off
   unfolding rowOf
   row-off f =
       let v = some-at s at end (w .within) e in
-      let no : isRow nodata s ≡ false = w .on ∙ ap (all (isValue nodata)) v ∙ all-cons (isValue nodata) (between s at end) (drop 1 (valuesOf (drop at s))) ∙ rw f in
+      let no : isRow nodata s ≡ false = w .on ∙ ap (all (isValue nodata)) v
+      ∙ all-cons (isValue nodata) (between s at end) (drop 1 (valuesOf (drop at s))) ∙ rw f in
       rw no
 
-  pub row-last : length s ≤ end → isValue nodata (between s at end) ≡ true → rowOf nodata s ≡ Values (count + 1) (sound && isSound nodata (between s at end))
+  pub row-last : length s ≤ end → isValue nodata (between s at end) ≡ true
+      → rowOf nodata s ≡ Values (count + 1) (sound && isSound nodata (between s at end))
   unfolding rowOf
   row-last b f =
       let v = last-at s at end (w .within) e b in
-      let yes : isRow nodata s ≡ true = w .on ∙ ap (all (isValue nodata)) v ∙ all-cons (isValue nodata) (between s at end) [] ∙ rw (f, all-none (isValue nodata)) in
+      let yes : isRow nodata s ≡ true = w .on ∙ ap (all (isValue nodata)) v
+      ∙ all-cons (isValue nodata) (between s at end) [] ∙ rw (f, all-none (isValue nodata)) in
       let n : length (valuesOf s) ≡ count + 1 = sym (w .number) ∙ ap (λ l. count + length l) v in
       let k : rowSound nodata s ≡ (sound && isSound nodata (between s at end)) =
       w .levels ∙ ap (λ l. sound && all (isSound nodata) l) v
-      ∙ ap (λ x. sound && x) (all-cons (isSound nodata) (between s at end) [] ∙ rw (all-none (isSound nodata)) (and-true (isSound nodata (between s at end)))) in
+      ∙ ap (λ x. sound && x) (all-cons (isSound nodata) (between s at end) []
+      ∙ rw (all-none (isSound nodata)) (and-true (isSound nodata (between s at end)))) in
       rw (yes, n, k)
 
-  pub row-next : end < length s → isValue nodata (between s at end) ≡ true → RowAt nodata s (end + 1) (count + 1) (sound && isSound nodata (between s at end))
+  pub row-next : end < length s → isValue nodata (between s at end) ≡ true
+      → RowAt nodata s (end + 1) (count + 1) (sound && isSound nodata (between s at end))
   row-next b f =
       let v = next-at s at end (w .within) e b in
       let rest = valuesOf (drop (end + 1) s) in

@@ -41,7 +41,8 @@ line-apart : (l t : List ℕ) → countOf 13 l ≡ 0 → linesOf (l ++ (13 ∷ 1
 unfolding linesOf
 line-apart [] t e = refl
 line-apart (c ∷ []) t e = let f = free-first 13 c [] e in rw (f .0)
-line-apart (c ∷ d ∷ l) t e = let f = free-first 13 c (d ∷ l) e in rw (f .0) (ap (onto c) (line-apart (d ∷ l) t (f .1)))
+line-apart (c ∷ d ∷ l) t e = let f = free-first 13 c (d ∷ l) e in
+    rw (f .0) (ap (onto c) (line-apart (d ∷ l) t (f .1)))
 
 -- lines without a CR, as a text, are its lines
 abbrev pub Free : List (List ℕ) → Type 0
@@ -51,7 +52,8 @@ pub lines-apart : (lines : List (List ℕ)) → Free lines → linesOf (textOf l
 unfolding textOf linesOf
 lines-apart [] free = refl
 lines-apart (l ∷ lines) free =
-    line-apart l (textOf lines) (free 0 (omega arith)) ∙ ap (λ t. l ∷ t) (lines-apart lines (λ i h. free (suc i) (omega arith)))
+    line-apart l (textOf lines) (free 0 (omega arith))
+    ∙ ap (λ t. l ∷ t) (lines-apart lines (λ i h. free (suc i) (omega arith)))
 
 -- ---- values
 
@@ -70,14 +72,16 @@ pub values-apart : (v : ℕ) (vs : List ℕ) → valuesOf (rowLine (v ∷ vs)) �
 unfolding rowLine joinedBy
 values-apart v [] = value-alone (showLevel v) (level-free 32 (omega arith) v)
 values-apart v (w ∷ vs) =
-    value-apart (showLevel v) (joinedBy 32 (map showLevel (w ∷ vs))) (level-free 32 (omega arith) v) ∙ ap (λ t. showLevel v ∷ t) (values-apart w vs)
+    value-apart (showLevel v) (joinedBy 32 (map showLevel (w ∷ vs))) (level-free 32 (omega arith) v)
+    ∙ ap (λ t. showLevel v ∷ t) (values-apart w vs)
 
 pub row-free : (vs : List ℕ) → countOf 13 (rowLine vs) ≡ 0
 unfolding rowLine joinedBy countOf
 row-free [] = refl
 row-free (v ∷ []) = level-free 13 (omega arith) v
 row-free (v ∷ w ∷ vs) =
-    count-append 13 (showLevel v) (32 ∷ joinedBy 32 (map showLevel (w ∷ vs))) ∙ omega (arith, level-free 13 (omega arith) v, row-free (w ∷ vs))
+    count-append 13 (showLevel v) (32 ∷ joinedBy 32 (map showLevel (w ∷ vs)))
+    ∙ omega (arith, level-free 13 (omega arith) v, row-free (w ∷ vs))
 
 -- ---- levels that were written
 
@@ -88,12 +92,14 @@ unnamed-off = refl
 pub level-given : (v : ℕ) → v ≤ maxNetworkLevel → given unnamed (showLevel v) ≡ true
 level-given v h =
     either (sameText (showLevel v) unnamed)
-    (λ yes. let z : Off ≡ Got v = sym unnamed-off ∙ ap levelOf (sym (same-equal (showLevel v) unnamed yes)) ∙ level-back v (omega arith) in
+    (λ yes. let z : Off ≡ Got v = sym unnamed-off ∙ ap levelOf (sym (same-equal (showLevel v) unnamed yes))
+    ∙ level-back v (omega arith) in
     let k : _≡_ {A = ℕ} 0 1 = cc in absurd (omega arith))
     (λ other. rw other)
 
 -- a value that is given is its level's text
-pub value-is : (nodata t : List ℕ) → isValue nodata t ≡ true → given nodata t ≡ true → t ≡ showLevel (levelIn t)
+pub value-is : (nodata t : List ℕ) → isValue nodata t ≡ true → given nodata t ≡ true
+    → t ≡ showLevel (levelIn t)
 value-is nodata t v g =
     let other = not-true (sameText t nodata) g in
     level-exact t (levelIn t) (got-value (levelOf t) (or-false (isGot (levelOf t)) (rw other at v)))
@@ -139,7 +145,8 @@ key-line key l n e =
     let w = whole-exact (drop (length key) l) n number in
     let k = same-equal (take (length key) l) key yes in (
       whole-small (drop (length key) l) n number,
-      sym (take-append-drop (length key) l) ∙ ap (λ (a : List ℕ). a ++ drop (length key) l) k ∙ ap (λ (b : List ℕ). key ++ b) w,
+      sym (take-append-drop (length key) l) ∙ ap (λ (a : List ℕ). a ++ drop (length key) l) k
+          ∙ ap (λ (b : List ℕ). key ++ b) w,
     ))
     (λ other. let z : Off ≡ Got n = rw other at e in let k : _≡_ {A = ℕ} 0 1 = cc in absurd (omega arith))
 
@@ -154,7 +161,8 @@ first-digit zero n = either (ltb n 10) (λ yes. rw yes (omega (arith, ltb-true n
 first-digit (suc k) n =
     either (ltb n 10)
     (λ yes. rw yes (omega (arith, ltb-true n 10 yes)))
-    (λ no. rw (no, List·getD-append (shown (suc k) (n / 10)) ((48 + n % 10) ∷ []) 0 0 (shown-least k (n / 10))) (first-digit k (n / 10)))
+    (λ no. rw (no, List·getD-append (shown (suc k) (n / 10)) ((48 + n % 10) ∷ []) 0 0 (shown-least k (n / 10)))
+    (first-digit k (n / 10)))
 
 names-other : (line : List ℕ) → getD line 0 0 ≤ 57 → names line ≡ false
 unfolding begins sameText
@@ -165,7 +173,8 @@ pub names-row : (line : List ℕ) (v : ℕ) (t : List ℕ) → line ≡ showLeve
 names-row line v t e =
     let whole = showWhole (v / 100) in
     let some = shown-least 6 (v / 100) in
-    let a : getD (showLevel v) 0 0 ≡ getD whole 0 0 = List·getD-append whole (46 ∷ showDigits 2 (v % 100)) 0 0 some in
+    let a : getD (showLevel v) 0 0 ≡ getD whole 0 0 =
+    List·getD-append whole (46 ∷ showDigits 2 (v % 100)) 0 0 some in
     let l : 1 ≤ length (showLevel v) = omega (arith, length-append whole (46 ∷ showDigits 2 (v % 100))) in
     let b = List·getD-append (showLevel v) t 0 0 l in
     names-other line (omega (arith, ap (λ s. getD s 0 0) e, a, b, first-digit 6 (v / 100)))

@@ -22,140 +22,7 @@ use Rattle.network.specs.declared.Frame.{Frame}
 use Rattle.grid.specs.Write.{keyLine, headLines, rowLine, rowAt, rowLines, textOf, showNetwork, writeRefusal}
 use Rattle.grid.specs.Write.{textAfter, sizeAfter}
 use Rattle.grid.specs.InnerSteps.{sizesOf, Quiet, Near, ended, sideLines, placeLines}
-
--- ---- lines as a text
-
-pub text-cons : (line : List ℕ) (lines : List (List ℕ)) → textOf (line ∷ lines) ≡ ended line ++ textOf lines
-unfolding textOf
-text-cons line lines = sym (append-assoc line (13 ∷ 10 ∷ []) (textOf lines))
-
-pub text-none : textOf [] ≡ []
-unfolding textOf
-text-none = refl
-
-pub text-append : (a b : List (List ℕ)) → textOf (a ++ b) ≡ textOf a ++ textOf b
-unfolding textOf
-text-append [] b = refl
-text-append (l ∷ a) b = ap (λ t. l ++ (13 ∷ 10 ∷ t)) (text-append a b) ∙ sym (append-assoc l (13 ∷ 10 ∷ textOf a) (textOf b))
-
-pub text-length : (line : List ℕ) (lines : List (List ℕ)) → length (textOf (line ∷ lines)) ≡ length line + 2 + length (textOf lines)
-unfolding textOf
-text-length line lines = length-append line (13 ∷ 10 ∷ textOf lines) ∙ omega arith
-
-pub ended-length : (line : List ℕ) → length (ended line) ≡ length line + 2
-ended-length line = length-append line (13 ∷ 10 ∷ [])
-
-pub key-length : (key : List ℕ) (n : ℕ) → length (keyLine key n) ≡ length key + length (showWhole n)
-key-length key n = length-append key (showWhole n)
-
--- two lines and three, as they are written
-pub two-lines : (a b : List ℕ) → textOf (a ∷ b ∷ []) ≡ ended a ++ ended b
-two-lines a b = text-cons a (b ∷ []) ∙ ap (λ t. ended a ++ t) (text-cons b [] ∙ rw text-none (append-nil (ended b)))
-
-pub three-lines : (a b c : List ℕ) → textOf (a ∷ b ∷ c ∷ []) ≡ ended a ++ (ended b ++ ended c)
-three-lines a b c = text-cons a (b ∷ c ∷ []) ∙ ap (λ t. ended a ++ t) (two-lines b c)
-
-pub two-length : (a b : List ℕ) → length (textOf (a ∷ b ∷ [])) ≡ length (ended a) + length (ended b)
-two-length a b = ap length (two-lines a b) ∙ length-append (ended a) (ended b)
-
-pub three-length : (a b c : List ℕ) → length (textOf (a ∷ b ∷ c ∷ [])) ≡ length (ended a) + (length (ended b) + length (ended c))
-three-length a b c = ap length (three-lines a b c) ∙ length-append (ended a) (ended b ++ ended c) ∙ ap (λ n. length (ended a) + n) (length-append (ended b) (ended c))
-
-pub network-text : (levels : List ℕ) (f : Frame) → showNetwork levels f ≡ textOf (sideLines f) ++ textOf (placeLines f) ++ textOf (rowLines (f .columns) levels (f .rows))
-unfolding showNetwork
-network-text levels f =
-    text-append (headLines f) (rowLines (f .columns) levels (f .rows))
-    ∙ ap (λ t. t ++ textOf (rowLines (f .columns) levels (f .rows))) (text-append (sideLines f) (placeLines f))
-
--- ---- sizes
-
--- the size of a level, by its size in units
-level-size : (v : ℕ) → length (showLevel v) ≡ length (showWhole (v / 100)) + 3
-level-size v = omega (arith, decimal-long 2 v)
-
-one-digit : (n : ℕ) → n < 10 → length (showWhole n) ≡ 1
-one-digit n h = ap length (whole-one n h)
-
-two-digits : (n : ℕ) → 10 ≤ n → n < 100 → length (showWhole n) ≡ 2
-two-digits n l h = whole-longer n l (omega arith) ∙ omega (arith, one-digit (n / 10) (omega arith))
-
-pub level-four : (v : ℕ) → v < 1000 → length (showLevel v) ≡ 4
-level-four v h = omega (arith, level-size v, one-digit (v / 100) (omega arith))
-
-pub level-five : (v : ℕ) → 1000 ≤ v → v < 10000 → length (showLevel v) ≡ 5
-level-five v l h = omega (arith, level-size v, two-digits (v / 100) (omega arith) (omega arith))
-
-pub level-six : (v : ℕ) → 10000 ≤ v → v ≤ maxNetworkLevel → length (showLevel v) ≡ 6
-level-six v l h =
-    let n = v / 100 in
-    omega (arith, level-size v, whole-longer n (omega arith) (omega arith), two-digits (n / 10) (omega arith) (omega arith))
-
-pub sizes-more : (levels : List ℕ) (i : ℕ) → i < length levels → sizesOf (drop i levels) ≡ length (showLevel (getD levels i 0)) + 1 + sizesOf (drop (i + 1) levels)
-unfolding sizesOf
-sizes-more levels i h = rw (add-one i, drop-cons levels i 0 h)
-
-pub sizes-none : (levels : List ℕ) (i : ℕ) → length levels ≤ i → sizesOf (drop i levels) ≡ 0
-unfolding sizesOf
-sizes-none levels i h = ap sizesOf (drop-of-length-le levels h)
-
-sizes-append : (a b : List ℕ) → sizesOf (a ++ b) ≡ sizesOf a + sizesOf b
-unfolding sizesOf
-sizes-append [] b = omega arith
-sizes-append (v ∷ a) b = omega (arith, sizes-append a b)
-
-pub row-size : (v : ℕ) (vs : List ℕ) → length (rowLine (v ∷ vs)) + 1 ≡ sizesOf (v ∷ vs)
-unfolding rowLine joinedBy sizesOf
-row-size v [] = omega arith
-row-size v (w ∷ vs) = omega (arith, length-append (showLevel v) (32 ∷ joinedBy 32 (map showLevel (w ∷ vs))), row-size w vs)
-
-some-size : (vs : List ℕ) → 1 ≤ length vs → length (rowLine vs) + 1 ≡ sizesOf vs
-some-size [] h = absurd (omega arith)
-some-size (v ∷ vs) h = row-size v vs
-
-pub rows-size : (columns : ℕ) (levels : List ℕ) (rows : ℕ) → 1 ≤ columns → rows * columns ≤ length levels
-    → length (textOf (rowLines columns levels rows)) ≡ sizesOf (take (rows * columns) levels) + rows
-unfolding rowLines textOf sizesOf
-rows-size columns levels zero h room = rw (zero-mul columns) (omega arith)
-rows-size columns levels (suc r) h room =
-    let at = r * columns in
-    let e = suc-mul r columns in
-    let row = rowAt columns levels r in
-    let d = length-drop at levels in
-    let n : length row ≡ columns = length-take-le columns (drop at levels) (omega arith) in
-    let s : sizesOf (take (suc r * columns) levels) ≡ sizesOf (take at levels) + sizesOf row =
-    rw (e, take-add at columns levels) (sizes-append (take at levels) row) in
-    omega (arith, length-append (rowLine row) (13 ∷ 10 ∷ textOf (rowLines columns levels r)), some-size row (omega arith), rows-size columns levels r h (omega arith), s)
-
-pub near : (levels : List ℕ) (f : Frame) → Checked levels f → Near f
-near levels f c =
-    let s = c .sized .sides in
-    record {
-      columns-most = omega (arith, s .narrow);
-      rows-most = omega (arith, s .low);
-      spacing-most = omega (arith, c .near);
-      west-most = c .west;
-      south-most = c .south;
-    }
-
-pub network-size : (levels : List ℕ) (f : Frame) → Checked levels f → length (showNetwork levels f) ≡ length (textOf (headLines f)) + sizesOf levels + f .rows
-unfolding showNetwork
-network-size levels f c =
-    let full = c .sized .full in
-    let wide = c .sized .sides .wide in
-    let all : take (f .rows * f .columns) levels ≡ levels = take-all (f .rows * f .columns) levels (omega arith) in
-    let rows = rows-size (f .columns) levels (f .rows) (omega arith) (omega arith) in
-    ap length (text-append (headLines f) (rowLines (f .columns) levels (f .rows)))
-    ∙ length-append (textOf (headLines f)) (textOf (rowLines (f .columns) levels (f .rows)))
-    ∙ omega (arith, rows, ap sizesOf all)
-
--- a header number has at most seven digits
-pub whole-most : (n : ℕ) → n ≤ maxOrigin → length (showWhole n) ≤ 7
-whole-most n h = shown-width 7 6 n (omega arith)
-
-pub head-length : (f : Frame) → length (textOf (headLines f))
-    ≡ 51 + (length (showWhole (f .columns)) + length (showWhole (f .rows))) + (length (showWhole (f .west)) + length (showWhole (f .south))) + length (showWhole (f .spacing))
-unfolding textOf
-head-length f = simp length-append (omega arith)
+use Rattle.grid.proofs.WriteSizes.{text-cons, network-text, near, network-size, whole-most, head-length}
 
 -- ---- the levels of a row
 
@@ -169,7 +36,8 @@ unfolding rowLine joinedBy spacedOf
 row-spaced v [] = sym (append-nil (showLevel v))
 row-spaced v (w ∷ vs) = ap (λ t. showLevel v ++ (32 ∷ t)) (row-spaced w vs)
 
-pub spaced-more : (vs : List ℕ) (i : ℕ) → i < length vs → spacedOf (drop i vs) ≡ (32 ∷ showLevel (getD vs i 0)) ++ spacedOf (drop (i + 1) vs)
+pub spaced-more : (vs : List ℕ) (i : ℕ) → i < length vs
+    → spacedOf (drop i vs) ≡ (32 ∷ showLevel (getD vs i 0)) ++ spacedOf (drop (i + 1) vs)
 unfolding spacedOf
 spaced-more vs i h = rw (add-one i, drop-cons vs i 0 h)
 
@@ -182,11 +50,17 @@ row-first [] h = absurd (omega arith)
 row-first (v ∷ vs) h = row-spaced v vs
 
 -- a part of quiet levels is quiet
-pub quiet-part : (levels : List ℕ) (at n : ℕ) → Quiet levels → at + n ≤ length levels → Quiet (take n (drop at levels))
+pub quiet-part : (levels : List ℕ) (at n : ℕ) → Quiet levels → at + n ≤ length levels
+    → Quiet (take n (drop at levels))
 quiet-part levels at n q h i =
     either (ltb i n)
     (λ yes. rw (getD-take n (drop at levels) i 0 (ltb-true i n yes), getD-drop at levels i 0) (q (at + i)))
-    (λ past. let z = List·getD-eq-default (take n (drop at levels)) 0 {n = i} (omega (arith, length-take-le n (drop at levels) (omega (arith, length-drop at levels)), ltb-false i n past)) in rw z (omega arith))
+    (λ past. let z = List·getD-eq-default (take n (drop at levels)) 0 {n = i}
+    (omega (
+      arith,
+      length-take-le n (drop at levels) (omega (arith, length-drop at levels)),
+      ltb-false i n past,
+    )) in rw z (omega arith))
 
 pub sizes-most : (levels : List ℕ) → Quiet levels → sizesOf levels ≤ 7 * length levels
 unfolding sizesOf
@@ -194,7 +68,8 @@ sizes-most [] q = omega arith
 sizes-most (v ∷ vs) q = omega (arith, level-most v (omega (arith, q 0)), sizes-most vs (λ i. q (suc i)))
 
 -- the levels of the row before `left` stand among them
-pub row-inside : (levels : List ℕ) (columns rows left : ℕ) → Sized levels columns rows → 0 < left → left ≤ rows → (left - 1) * columns + columns ≤ length levels
+pub row-inside : (levels : List ℕ) (columns rows left : ℕ) → Sized levels columns rows → 0 < left
+    → left ≤ rows → (left - 1) * columns + columns ≤ length levels
 row-inside levels columns rows zero s h l = absurd (omega arith)
 row-inside levels columns rows (suc r) s h l =
     let e : suc r - 1 ≡ r = omega arith in
@@ -207,12 +82,14 @@ points-most levels columns rows s =
     omega (arith, mul-le-mul (s .sides .low) (s .sides .narrow))
 
 -- a part by its start and its end
-pub part-row : (levels : List ℕ) (start n : ℕ) → take (start + n - start) (drop start levels) ≡ take n (drop start levels)
+pub part-row : (levels : List ℕ) (start n : ℕ)
+    → take (start + n - start) (drop start levels) ≡ take n (drop start levels)
 part-row levels start n = let e : start + n - start ≡ n = omega arith in rw e
 
 -- the rows still to write
 pub rows-more : (columns : ℕ) (levels : List ℕ) (left : ℕ) → 0 < left
-    → textOf (rowLines columns levels left) ≡ ended (rowLine (rowAt columns levels (left - 1))) ++ textOf (rowLines columns levels (left - 1))
+    → textOf (rowLines columns levels left) ≡ ended (rowLine (rowAt columns levels (left - 1)))
+    ++ textOf (rowLines columns levels (left - 1))
 unfolding rowLines
 rows-more columns levels zero h = absurd (omega arith)
 rows-more columns levels (suc r) h =
@@ -227,10 +104,19 @@ rows-none columns levels = refl
 
 pub head-most : (f : Frame) → Near f → length (textOf (headLines f)) ≤ 86
 head-most f n =
-    omega (arith, head-length f, whole-most (f .columns) (n .columns-most), whole-most (f .rows) (n .rows-most), whole-most (f .west) (n .west-most), whole-most (f .south) (n .south-most), whole-most (f .spacing) (n .spacing-most))
+    omega (
+      arith,
+      head-length f,
+      whole-most (f .columns) (n .columns-most),
+      whole-most (f .rows) (n .rows-most),
+      whole-most (f .west) (n .west-most),
+      whole-most (f .south) (n .south-most),
+      whole-most (f .spacing) (n .spacing-most),
+    )
 
 pub levels-most : (levels : List ℕ) (f : Frame) → Checked levels f → sizesOf levels ≤ 458752
-levels-most levels f c = omega (arith, sizes-most levels (c .quiet), points-most levels (f .columns) (f .rows) (c .sized))
+levels-most levels f c = omega
+    (arith, sizes-most levels (c .quiet), points-most levels (f .columns) (f .rows) (c .sized))
 
 pub network-most : (levels : List ℕ) (f : Frame) → Checked levels f → length (showNetwork levels f) ≤ 459094
 network-most levels f c =
@@ -238,19 +124,23 @@ network-most levels f c =
 
 -- the room of its parts
 pub parts-length : (levels : List ℕ) (f : Frame) → length (showNetwork levels f)
-    ≡ length (textOf (sideLines f)) + length (textOf (placeLines f)) + length (textOf (rowLines (f .columns) levels (f .rows)))
+    ≡ length (textOf (sideLines f)) + length (textOf (placeLines f)) + length
+    (textOf (rowLines (f .columns) levels (f .rows)))
 parts-length levels f =
     ap length (network-text levels f)
     ∙ length-append (textOf (sideLines f) ++ textOf (placeLines f)) (textOf (rowLines (f .columns) levels (f .rows)))
-    ∙ ap (λ n. n + length (textOf (rowLines (f .columns) levels (f .rows)))) (length-append (textOf (sideLines f)) (textOf (placeLines f)))
+    ∙ ap (λ n. n + length (textOf (rowLines (f .columns) levels (f .rows))))
+    (length-append (textOf (sideLines f)) (textOf (placeLines f)))
 
 -- ---- what a call leaves
 
 module _ (levels : List ℕ) (f : Frame) (text sizes : List ℕ) where
   abbrev pub Outcome : ℕ → List ℕ → List ℕ → Type 0
-  Outcome n t s = (n ≡ writeRefusal levels f (length text) (length sizes)) × (t ≡ textAfter levels f text sizes) × (s ≡ sizeAfter levels f text sizes)
+  Outcome n t s = (n ≡ writeRefusal levels f (length text) (length sizes))
+      × (t ≡ textAfter levels f text sizes) × (s ≡ sizeAfter levels f text sizes)
 
-  refused : (n : ℕ) → writeRefusal levels f (length text) (length sizes) ≡ n → (n ≡ 0 → ⊥) → Outcome n text sizes
+  refused : (n : ℕ) → writeRefusal levels f (length text) (length sizes) ≡ n → (n ≡ 0 → ⊥)
+      → Outcome n text sizes
   refused n e h =
       let off = ne-eqb (writeRefusal levels f (length text) (length sizes)) 0 (λ z. h (sym e ∙ z)) in
       (sym e, rw off, rw off)
@@ -261,16 +151,20 @@ module _ (levels : List ℕ) (f : Frame) (text sizes : List ℕ) where
 
   module _ (none : networkRefusal levels f ≡ 0) where
     pub text-refused : length text < length (showNetwork levels f) → Outcome 14 text sizes
-    text-refused h = refused 14 (checked-on maxNetworkLevel levels f _ none ∙ rw (lt-leb (length (showNetwork levels f)) (length text) h)) (λ z. omega arith)
+    text-refused h = refused 14 (checked-on maxNetworkLevel levels f _ none
+        ∙ rw (lt-leb (length (showNetwork levels f)) (length text) h)) (λ z. omega arith)
 
     pub size-refused : length (showNetwork levels f) ≤ length text → length sizes < 1 → Outcome 14 text sizes
     size-refused h l =
-        refused 14 (checked-on maxNetworkLevel levels f _ none ∙ rw (le-leb (length (showNetwork levels f)) (length text) h, lt-leb 1 (length sizes) l)) (λ z. omega arith)
+        refused 14 (checked-on maxNetworkLevel levels f _ none
+        ∙ rw (le-leb (length (showNetwork levels f)) (length text) h, lt-leb 1 (length sizes) l))
+        (λ z. omega arith)
 
     pub written : length (showNetwork levels f) ≤ length text → 1 ≤ length sizes
         → Outcome 0 (front (showNetwork levels f) text) (front (length (showNetwork levels f) ∷ []) sizes)
     written h l =
         let e : writeRefusal levels f (length text) (length sizes) ≡ 0 =
-        checked-on maxNetworkLevel levels f _ none ∙ rw (le-leb (length (showNetwork levels f)) (length text) h, le-leb 1 (length sizes) l) in
+        checked-on maxNetworkLevel levels f _ none
+        ∙ rw (le-leb (length (showNetwork levels f)) (length text) h, le-leb 1 (length sizes) l) in
         let on = eq-eqb (writeRefusal levels f (length text) (length sizes)) 0 e in
         (sym e, rw on, rw on)

@@ -30,62 +30,7 @@ use Rattle.grid_rules.specs.Laid.{line, Named, Behind}
 use Rattle.grid_rules.specs.Refused.{keys, Keyed, Level, Naming, RowOn, LineOn, Fault}
 use Rattle.grid_rules.proofs.Places.{test-at, all-at, map-at, value-field, value-count}
 use Rattle.grid_rules.proofs.Said.{word-names, other-names}
-
-got-is : {n : ℕ} (x : _) → x ≡ Got n → isGot x ≡ true
-got-is x e = rw e refl
-
--- ---- header lines
-
-key-on : (key l : List ℕ) → isGot (numberAfter key l) ≡ true → Keyed key l
-key-on key l e =
-    let k = key-line key l (valueOf (numberAfter key l)) (got-value (numberAfter key l) e) in
-    record { number = valueOf (numberAfter key l); most = k .0; is = k .1 }
-
-key-passes : (key l : List ℕ) → Keyed key l → isGot (numberAfter key l) ≡ true
-key-passes key l k = got-is (numberAfter key l) (ap (numberAfter key) (k .is) ∙ number-back key (k .number) (k .most))
-
--- ---- values and rows
-
-level-on : (t : List ℕ) → isGot (levelOf t) ≡ true → Level t
-level-on t e = let g = got-value (levelOf t) e in record { number = valueOf (levelOf t); most = level-small t _ g; is = level-exact t _ g }
-
-level-passes : (t : List ℕ) → Level t → isGot (levelOf t) ≡ true
-level-passes t l = got-is (levelOf t) (ap levelOf (l .is) ∙ level-back (l .number) (l .most))
-
-value-on : (nodata t : List ℕ) → isValue nodata t ≡ true → (t ≡ nodata → ⊥) → Level t
-value-on nodata t v other = level-on t (first (isGot (levelOf t)) (sameText t nodata) v (λ s. other (same-equal t nodata s)))
-  where
-    first : (a b : Bool) → (a || b) ≡ true → (b ≡ true → ⊥) → a ≡ true
-    first true b e f = refl
-    first false b e f = absurd (f e)
-
-or-true : (a : Bool) → (a || true) ≡ true
-or-true true = refl
-or-true false = refl
-
-value-passes : (nodata t : List ℕ) → ((t ≡ nodata → ⊥) → Level t) → isValue nodata t ≡ true
-value-passes nodata t l =
-    either (sameText t nodata)
-    (λ yes. rw yes (or-true (isGot (levelOf t))))
-    (λ other. let level = level-passes t (l (λ e. true≢false (sym (ap (λ (s : List ℕ). sameText s nodata) e ∙ same-self nodata) ∙ other))) in rw level refl)
-
--- a test that holds at each place holds of all
-pub all-from : {A : Type 0} (p : A → Bool) (xs : List A) (d : A) → ((i : ℕ) → i < length xs → p (getD xs i d) ≡ true) → all p xs ≡ true
-all-from p [] d h = all-none p
-all-from p (x ∷ xs) d h =
-    let first : p x ≡ true = h 0 (omega arith) in
-    all-cons p x xs ∙ rw first (all-from p xs d (λ i l. h (suc i) (omega arith)))
-
-row-on : (nodata l : List ℕ) → isRow nodata l ≡ true → RowOn nodata l
-row-on nodata l e c h other =
-    let v = all-at (isValue nodata) (valuesOf l) [] e c (omega (arith, value-count l)) in
-    value-on nodata (fieldOf 32 c l) (rw (value-field l c) at v) other
-
-row-passes : (nodata l : List ℕ) → RowOn nodata l → isRow nodata l ≡ true
-row-passes nodata l on =
-    all-from (isValue nodata) (valuesOf l) []
-    (λ i h. let in-line : i ≤ countOf 32 l = omega (arith, value-count l) in
-    rw (value-field l i) (value-passes nodata (fieldOf 32 i l) (on i in-line)))
+use Rattle.grid_rules.proofs.Lines.{key-on, key-passes, level-on, or-true, row-on, row-passes}
 
 -- ---- the line that names the no-data value
 
@@ -95,23 +40,30 @@ first-least zero n = either (ltb n 10) (λ yes. rw yes (omega arith)) (λ other.
 first-least (suc k) n =
     either (ltb n 10)
     (λ yes. rw yes (omega arith))
-    (λ other. rw (other, List·getD-append (shown (suc k) (n / 10)) ((48 + n % 10) ∷ []) 0 0 (shown-least k (n / 10))) (first-least k (n / 10)))
+    (λ other. rw (
+      other,
+      List·getD-append (shown (suc k) (n / 10)) ((48 + n % 10) ∷ []) 0 0
+          (shown-least k (n / 10)),
+    ) (first-least k (n / 10)))
 
 -- a number's text, and what a spelling is behind its minus
 abbrev body : Bool → ℕ → List ℕ
 body point n = cond point (showLevel n) (showWhole n)
 
 body-first : (point : Bool) (n : ℕ) → 48 ≤ getD (body point n) 0 0
-body-first true n = rw (List·getD-append (showWhole (n / 100)) (46 ∷ showDigits 2 (n % 100)) 0 0 (shown-least 6 (n / 100))) (first-least 6 (n / 100))
+body-first true n = rw (List·getD-append (showWhole (n / 100)) (46 ∷ showDigits 2 (n % 100)) 0 0
+    (shown-least 6 (n / 100))) (first-least 6 (n / 100))
 body-first false n = first-least 6 n
 
 body-number : (point : Bool) (n : ℕ) → n < cond point 100000 10000000 → isNumber (body point n) ≡ true
 body-number true n h = rw (level-back n h) (or-true (isGot (wholeOf (showLevel n))))
 body-number false n h = rw (whole-back n h) refl
 
-spelling-passes : (minus point : Bool) (n : ℕ) → n < cond point 100000 10000000 → isSpelling (cond minus (bytes "-") [] ++ body point n) ≡ true
+spelling-passes : (minus point : Bool) (n : ℕ) → n < cond point 100000 10000000
+    → isSpelling (cond minus (bytes "-") [] ++ body point n) ≡ true
 spelling-passes true point n h = body-number point n h
-spelling-passes false point n h = rw (ne-eqb (getD (body point n) 0 0) 45 (λ e. omega (arith, body-first point n))) (body-number point n h)
+spelling-passes false point n h =
+    rw (ne-eqb (getD (body point n) 0 0) 45 (λ e. omega (arith, body-first point n))) (body-number point n h)
 
 naming-passes : (l : List ℕ) → Naming l → namesWell l ≡ true
 unfolding namesWell
@@ -147,14 +99,29 @@ naming-on l word well =
     (λ yes. ltb-true 12 (length l) yes)
     (λ short. absurd (omega (arith, space, List·getD-eq-default l 0 {n = 12} (ltb-false 12 (length l) short)))) in
     let front : take 13 l ≡ bytes "NODATA_value " = take-suc l 12 0 long ∙ rw (word, space) refl in
-    let split : l ≡ bytes "NODATA_value " ++ drop 13 l = sym (take-append-drop 13 l) ∙ ap (λ (a : List ℕ). a ++ drop 13 l) front in
+    let split : l ≡ bytes "NODATA_value " ++ drop 13 l = sym (take-append-drop 13 l)
+    ∙ ap (λ (a : List ℕ). a ++ drop 13 l) front in
     either (eqb (getD (drop 13 l) 0 0) 45)
     (λ yes. let d = number-on (drop 1 (drop 13 l)) (rw yes at spelled) in
     let sign : drop 13 l ≡ 45 ∷ body (d .point) (d .number) =
     first-byte (drop 13 l) (eqb-true (getD (drop 13 l) 0 0) 45 yes) ∙ ap (λ (t : List ℕ). 45 ∷ t) (d .is) in
-    record { minus = true; point = d .point; number = d .number; most = d .most; is = split ∙ ap (λ (t : List ℕ). bytes "NODATA_value " ++ t) sign })
+    record {
+      minus = true;
+      point = d .point;
+      number = d .number;
+      most = d .most;
+      is = split
+          ∙ ap (λ (t : List ℕ). bytes "NODATA_value " ++ t) sign;
+    })
     (λ other. let d = number-on (drop 13 l) (rw other at spelled) in
-    record { minus = false; point = d .point; number = d .number; most = d .most; is = split ∙ ap (λ (t : List ℕ). bytes "NODATA_value " ++ t) (d .is) })
+    record {
+      minus = false;
+      point = d .point;
+      number = d .number;
+      most = d .most;
+      is = split
+          ∙ ap (λ (t : List ℕ). bytes "NODATA_value " ++ t) (d .is);
+    })
 
 -- ---- the line at fault
 
@@ -165,7 +132,8 @@ off-least m (true ∷ bs) h = omega (arith, off-least (m + 1) bs h)
 off-least m (false ∷ bs) h = omega arith
 
 -- the first test that fails, and those before it
-off-at : (m : ℕ) (bs : List Bool) (k : ℕ) → 1 ≤ m → firstOff m bs ≡ m + k → (getD bs k true ≡ false) × ((j : ℕ) → j < k → getD bs j true ≡ true)
+off-at : (m : ℕ) (bs : List Bool) (k : ℕ) → 1 ≤ m → firstOff m bs ≡ m + k
+    → (getD bs k true ≡ false) × ((j : ℕ) → j < k → getD bs j true ≡ true)
 unfolding firstOff
 off-at m [] k h e = absurd (omega arith)
 off-at m (false ∷ bs) zero h e = (refl, λ j l. absurd (omega arith))
@@ -175,7 +143,8 @@ off-at m (true ∷ bs) (suc k) h e =
     let rest = off-at (m + 1) bs k (omega arith) (omega arith) in
     (rest .0, λ j l. before bs k (rest .1) j l)
   where
-    before : (bs : List Bool) (k : ℕ) → ((j : ℕ) → j < k → getD bs j true ≡ true) → (j : ℕ) → j < suc k → getD (true ∷ bs) j true ≡ true
+    before : (bs : List Bool) (k : ℕ) → ((j : ℕ) → j < k → getD bs j true ≡ true) → (j : ℕ)
+        → j < suc k → getD (true ∷ bs) j true ≡ true
     before bs k h zero l = refl
     before bs k h (suc j) l = h j (omega arith)
 
@@ -185,7 +154,8 @@ module _ (text : List ℕ) where
   lines = linesOf text
 
   abbrev tests : List Bool
-  tests = headOn (linesOf text) ++ (namedOn (linesOf text) ++ map (isRow (noDataOf (linesOf text))) (rowsOf (linesOf text)))
+  tests = headOn (linesOf text)
+      ++ (namedOn (linesOf text) ++ map (isRow (noDataOf (linesOf text))) (rowsOf (linesOf text)))
 
   head-test : (k : ℕ) → k < 5 → getD tests k true ≡ isGot (numberAfter (getD keys k []) (line text k))
   head-test zero h = refl
@@ -196,63 +166,71 @@ module _ (text : List ℕ) where
   head-test (suc (suc (suc (suc (suc k))))) h = absurd (omega arith)
 
   -- the rows start in line `first`, and such is the spelling of no data
-  module _ (first : ℕ) (nodata : List ℕ) (low : 5 ≤ first) (high : first ≤ 6) (word : first ≡ 6 → Named text)
+  module _ (first : ℕ) (nodata : List ℕ) (low : 5 ≤ first) (high : first ≤ 6) (word : first ≡ 6
+      → Named text)
       (at-name : first ≡ 6 → getD tests 5 true ≡ namesWell (line text 5))
-      (at-rest : (i : ℕ) → getD tests (first + i) true ≡ getD (map (isRow nodata) (drop first lines)) i true) where
-    rest-test : (k : ℕ) → first ≤ k → getD tests k true ≡ getD (map (isRow nodata) (drop first lines)) (k - first) true
-    rest-test k h = let place : k ≡ first + (k - first) = omega arith in ap (λ (j : ℕ). getD tests j true) place ∙ at-rest (k - first)
+      (at-rest : (i : ℕ) → getD tests (first + i) true ≡ getD (map (isRow nodata) (drop first lines)) i true)
+    where
+      rest-test : (k : ℕ) → first ≤ k
+          → getD tests k true ≡ getD (map (isRow nodata) (drop first lines)) (k - first) true
+      rest-test k h = let place : k ≡ first + (k - first) = omega arith in
+          ap (λ (j : ℕ). getD tests j true) place ∙ at-rest (k - first)
 
-    row-test : (k : ℕ) → first ≤ k → k < length lines → getD tests k true ≡ isRow nodata (line text k)
-    row-test k h l =
-        let place : first + (k - first) ≡ k = omega arith in
-        let inside : k - first < length (drop first lines) = omega (arith, length-drop first lines) in
-        rest-test k h ∙ map-at (isRow nodata) (drop first lines) [] true (k - first) inside
-        ∙ ap (isRow nodata) (getD-drop first lines (k - first) [] ∙ ap (λ (j : ℕ). getD lines j []) place)
+      row-test : (k : ℕ) → first ≤ k → k < length lines → getD tests k true ≡ isRow nodata (line text k)
+      row-test k h l =
+          let place : first + (k - first) ≡ k = omega arith in
+          let inside : k - first < length (drop first lines) = omega (arith, length-drop first lines) in
+          rest-test k h ∙ map-at (isRow nodata) (drop first lines) [] true (k - first) inside
+          ∙ ap (isRow nodata) (getD-drop first lines (k - first) [] ∙ ap (λ (j : ℕ). getD lines j []) place)
 
-    end-test : (k : ℕ) → first ≤ k → length lines ≤ k → getD tests k true ≡ true
-    end-test k h l =
-        let past : length (map (isRow nodata) (drop first lines)) ≤ k - first = omega (arith, length-drop first lines, length-map (drop first lines) (isRow nodata)) in
-        rest-test k h ∙ List·getD-eq-default (map (isRow nodata) (drop first lines)) true {n = k - first} past
+      end-test : (k : ℕ) → first ≤ k → length lines ≤ k → getD tests k true ≡ true
+      end-test k h l =
+          let past : length (map (isRow nodata) (drop first lines)) ≤ k - first =
+          omega (arith, length-drop first lines, length-map (drop first lines) (isRow nodata)) in
+          rest-test k h ∙ List·getD-eq-default (map (isRow nodata) (drop first lines)) true {n = k - first} past
 
-    name-test : (k : ℕ) → k ≡ 5 → first ≡ 6 → getD tests k true ≡ namesWell (line text k)
-    name-test k e six = ap (λ (j : ℕ). getD tests j true) e ∙ at-name six ∙ ap (λ (j : ℕ). namesWell (line text j)) (sym e)
+      name-test : (k : ℕ) → k ≡ 5 → first ≡ 6 → getD tests k true ≡ namesWell (line text k)
+      name-test k e six = ap (λ (j : ℕ). getD tests j true) e ∙ at-name six
+          ∙ ap (λ (j : ℕ). namesWell (line text j)) (sym e)
 
-    word-at : (k : ℕ) → k ≡ 5 → first ≡ 6 → take 12 (line text k) ≡ bytes "NODATA_value"
-    word-at k e six = ap (λ (j : ℕ). take 12 (line text j)) e ∙ word six
+      word-at : (k : ℕ) → k ≡ 5 → first ≡ 6 → take 12 (line text k) ≡ bytes "NODATA_value"
+      word-at k e six = ap (λ (j : ℕ). take 12 (line text j)) e ∙ word six
 
-    pub line-on : (k : ℕ) → getD tests k true ≡ true → LineOn text first nodata k
-    line-on k e = record {
-      head = λ h. key-on (getD keys k []) (line text k) (sym (head-test k h) ∙ e);
-      naming = λ five six. naming-on (line text k) (word-at k five six) (sym (name-test k five six) ∙ e);
-      row = λ h l. row-on nodata (line text k) (sym (row-test k h l) ∙ e);
-    }
+      pub line-on : (k : ℕ) → getD tests k true ≡ true → LineOn text first nodata k
+      line-on k e = record {
+        head = λ h. key-on (getD keys k []) (line text k) (sym (head-test k h) ∙ e);
+        naming = λ five six. naming-on (line text k) (word-at k five six) (sym (name-test k five six) ∙ e);
+        row = λ h l. row-on nodata (line text k) (sym (row-test k h l) ∙ e);
+      }
 
-    pub line-passes : (k : ℕ) → LineOn text first nodata k → getD tests k true ≡ true
-    line-passes k on =
-        either (ltb k 5)
-        (λ yes. let h = ltb-true k 5 yes in head-test k h ∙ key-passes (getD keys k []) (line text k) (on .head h))
-        (λ other. let h = ltb-false k 5 other in
-        either (ltb k first)
-        (λ yes. let l = ltb-true k first yes in
-        let five : k ≡ 5 = omega arith in
-        let six : first ≡ 6 = omega arith in
-        name-test k five six ∙ naming-passes (line text k) (on .naming five six))
-        (λ later. let l = ltb-false k first later in
-        either (ltb k (length lines))
-        (λ yes. let m = ltb-true k (length lines) yes in row-test k l m ∙ row-passes nodata (line text k) (on .row l m))
-        (λ past. end-test k l (ltb-false k (length lines) past))))
+      pub line-passes : (k : ℕ) → LineOn text first nodata k → getD tests k true ≡ true
+      line-passes k on =
+          either (ltb k 5)
+          (λ yes. let h = ltb-true k 5 yes in head-test k h ∙ key-passes (getD keys k []) (line text k) (on .head h))
+          (λ other. let h = ltb-false k 5 other in
+          either (ltb k first)
+          (λ yes. let l = ltb-true k first yes in
+          let five : k ≡ 5 = omega arith in
+          let six : first ≡ 6 = omega arith in
+          name-test k five six ∙ naming-passes (line text k) (on .naming five six))
+          (λ later. let l = ltb-false k first later in
+          either (ltb k (length lines))
+          (λ yes. let m = ltb-true k (length lines) yes in row-test k l m
+          ∙ row-passes nodata (line text k) (on .row l m))
+          (λ past. end-test k l (ltb-false k (length lines) past))))
 
-    pub fault-from : Fault text (faultLine (linesOf text)) first nodata
-    unfolding faultLine
-    fault-from =
-        let one : (k : ℕ) → suc k ≡ 1 + k = λ k. omega arith in
-        record {
-          none = λ e k. line-on k (test-at 1 tests (omega arith) e k);
-          here = λ k e l. true≢false (sym (line-passes k l) ∙ off-at 1 tests k (omega arith) (e ∙ one k) .0);
-          before = λ k e j h. line-on j (off-at 1 tests k (omega arith) (e ∙ one k) .1 j h);
-        }
+      pub fault-from : Fault text (faultLine (linesOf text)) first nodata
+      unfolding faultLine
+      fault-from =
+          let one : (k : ℕ) → suc k ≡ 1 + k = λ k. omega arith in
+          record {
+            none = λ e k. line-on k (test-at 1 tests (omega arith) e k);
+            here = λ k e l. true≢false (sym (line-passes k l) ∙ off-at 1 tests k (omega arith) (e ∙ one k) .0);
+            before = λ k e j h. line-on j (off-at 1 tests k (omega arith) (e ∙ one k) .1 j h);
+          }
 
-  tests-named : Named text → tests ≡ headOn lines ++ (namesWell (line text 5) ∷ map (isRow (drop 13 (line text 5))) (drop 6 lines))
+  tests-named : Named text → tests ≡ headOn lines
+      ++ (namesWell (line text 5) ∷ map (isRow (drop 13 (line text 5))) (drop 6 lines))
   unfolding noDataOf rowsOf
   tests-named word = rw (word-names text word)
 
@@ -280,10 +258,12 @@ module _ (text : List ℕ) where
         let rest = map (isRow (bytes "-9999")) (drop 5 lines) in
         rule 5 (bytes "-9999") (omega arith) (omega arith) (λ six. absurd (omega arith))
         (λ six. absurd (omega arith))
-        (λ i. ap (λ (bs : List Bool). getD bs (5 + i) true) (tests-plain other) ∙ getD-append-add (headOn lines) rest i true)
+        (λ i. ap (λ (bs : List Bool). getD bs (5 + i) true) (tests-plain other)
+        ∙ getD-append-add (headOn lines) rest i true)
         (rw plain) (rw plain);
   }
 
   -- the line at fault is the first off its layout
   pub fault : Behind text (Fault text (faultLine (linesOf text)))
-  fault = behind (Fault text (faultLine (linesOf text))) (λ first nodata low high word name rest start spelling. fault-from first nodata low high word name rest)
+  fault = behind (Fault text (faultLine (linesOf text)))
+      (λ first nodata low high word name rest start spelling. fault-from first nodata low high word name rest)

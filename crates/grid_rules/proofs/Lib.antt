@@ -1,6 +1,7 @@
 pub mod Places
 pub mod Said
 pub mod Wrote
+pub mod Lines
 pub mod Layouts
 pub mod Ordered
 pub mod Sound

@@ -28,12 +28,15 @@ test-at n (true ∷ bs) h e zero = refl
 test-at n (true ∷ bs) h e (suc i) = test-at (n + 1) bs (omega arith) e i
 test-at n (false ∷ bs) h e i = absurd (omega arith)
 
-pub all-at : {A : Type 0} (p : A → Bool) (xs : List A) (d : A) → all p xs ≡ true → (i : ℕ) → i < length xs → p (getD xs i d) ≡ true
+pub all-at : {A : Type 0} (p : A → Bool) (xs : List A) (d : A) → all p xs ≡ true → (i : ℕ)
+    → i < length xs → p (getD xs i d) ≡ true
 all-at p [] d e i h = absurd (omega arith)
 all-at p (x ∷ xs) d e zero h = and-left (p x) (all p xs) (sym (all-cons p x xs) ∙ e)
-all-at p (x ∷ xs) d e (suc i) h = all-at p xs d (and-right (p x) (all p xs) (sym (all-cons p x xs) ∙ e)) i (omega arith)
+all-at p (x ∷ xs) d e (suc i) h =
+    all-at p xs d (and-right (p x) (all p xs) (sym (all-cons p x xs) ∙ e)) i (omega arith)
 
-pub map-at : {A B : Type 0} (f : A → B) (xs : List A) (d : A) (e : B) (i : ℕ) → i < length xs → getD (map f xs) i e ≡ f (getD xs i d)
+pub map-at : {A B : Type 0} (f : A → B) (xs : List A) (d : A) (e : B) (i : ℕ) → i < length xs
+    → getD (map f xs) i e ≡ f (getD xs i d)
 map-at f [] d e i h = absurd (omega arith)
 map-at f (x ∷ xs) d e zero h = refl
 map-at f (x ∷ xs) d e (suc i) h = map-at f xs d e i (omega arith)
@@ -80,18 +83,22 @@ value-count (c ∷ s) =
 
 -- ---- the levels of rows, from the south row on
 
-pub level-at : (columns : ℕ) (rows : List (List ℕ)) → all (hasValues columns) rows ≡ true → (r c : ℕ) → r < length rows → c < columns
+pub level-at : (columns : ℕ) (rows : List (List ℕ)) → all (hasValues columns) rows ≡ true → (r c : ℕ)
+    → r < length rows → c < columns
     → getD (levelsOf rows) (r * columns + c) 0 ≡ levelIn (fieldOf 32 c (getD rows (length rows - suc r) []))
 unfolding levelsOf rowLevels
 level-at columns [] e r c h w = absurd (omega arith)
 level-at columns (row ∷ rows) e r c h w =
-    let both : (hasValues columns row && all (hasValues columns) rows) ≡ true = sym (all-cons (hasValues columns) row rows) ∙ e in
-    let here = eqb-true (length (valuesOf row)) columns (and-left (hasValues columns row) (all (hasValues columns) rows) both) in
+    let both : (hasValues columns row && all (hasValues columns) rows) ≡ true =
+    sym (all-cons (hasValues columns) row rows) ∙ e in
+    let here = eqb-true (length (valuesOf row)) columns
+    (and-left (hasValues columns row) (all (hasValues columns) rows) both) in
     let rest = and-right (hasValues columns row) (all (hasValues columns) rows) both in
     let size = levels-length columns rows rest in
     either (eqb r (length rows))
     (λ north. let same = eqb-true r (length rows) north in
-    let place : r * columns + c ≡ length (levelsOf rows) + c = ap (λ (n : ℕ). n * columns + c) same ∙ ap (λ (n : ℕ). n + c) (sym size) in
+    let place : r * columns + c ≡ length (levelsOf rows) + c = ap (λ (n : ℕ). n * columns + c) same
+    ∙ ap (λ (n : ℕ). n + c) (sym size) in
     let first : suc (length rows) - suc r ≡ 0 = omega arith in
     rw (place, first)
     (getD-append-add (levelsOf rows) (map levelIn (valuesOf row)) c 0
@@ -101,4 +108,5 @@ level-at columns (row ∷ rows) e r c h w =
     let room : suc r * columns ≤ length rows * columns = mul-le-mul-right columns less in
     let room' : r * columns + columns ≤ length rows * columns = rw (suc-mul r columns) at room in
     let later : suc (length rows) - suc r ≡ suc (length rows - suc r) = omega arith in
-    rw later (List·getD-append (levelsOf rows) (map levelIn (valuesOf row)) 0 (r * columns + c) (omega arith) ∙ level-at columns rows rest r c less w))
+    rw later (List·getD-append (levelsOf rows) (map levelIn (valuesOf row)) 0 (r * columns + c) (omega arith)
+    ∙ level-at columns rows rest r c less w))

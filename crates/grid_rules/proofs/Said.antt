@@ -25,33 +25,41 @@ use Rattle.grid_rules.specs.Laid.{line, Named, Headed, Sized, Laid, Says
 use Rattle.grid_rules.proofs.Places.{test-at, all-at, map-at, value-field, value-count, level-at}
 
 -- a header line that gives a number, by its place
-pub number-at : (lines : List (List ℕ)) (key : List ℕ) (i : ℕ) → isGot (numberAt key i lines) ≡ true → getD lines i [] ≡ key ++ showWhole (valueOf (numberAt key i lines))
-number-at lines key i e = key-line key (getD lines i []) (valueOf (numberAt key i lines)) (got-value (numberAt key i lines) e) .1
+pub number-at : (lines : List (List ℕ)) (key : List ℕ) (i : ℕ) → isGot (numberAt key i lines) ≡ true
+    → getD lines i [] ≡ key ++ showWhole (valueOf (numberAt key i lines))
+number-at lines key i e =
+    key-line key (getD lines i []) (valueOf (numberAt key i lines)) (got-value (numberAt key i lines) e) .1
 
 -- rows that start in line `first`
-pub row-line : (lines : List (List ℕ)) (first : ℕ) → rowsOf lines ≡ drop first lines → (k : ℕ) → getD (rowsOf lines) k [] ≡ getD lines (first + k) []
+pub row-line : (lines : List (List ℕ)) (first : ℕ) → rowsOf lines ≡ drop first lines → (k : ℕ)
+    → getD (rowsOf lines) k [] ≡ getD lines (first + k) []
 row-line lines first start k = ap (λ (l : List (List ℕ)). getD l k []) start ∙ getD-drop first lines k []
 
 -- and fit
 module _ (lines : List (List ℕ)) (first : ℕ) (fits : rowsFit (frameOf lines) (rowsOf lines) ≡ true)
     (start : rowsOf lines ≡ drop first lines) (there : first ≤ length lines) where
-  pub fit : (length (rowsOf lines) ≡ frameOf lines .rows) × (all (hasValues (frameOf lines .columns)) (rowsOf lines) ≡ true)
+  pub fit : (length (rowsOf lines) ≡ frameOf lines .rows)
+      × (all (hasValues (frameOf lines .columns)) (rowsOf lines) ≡ true)
   fit = fit-both (frameOf lines) (rowsOf lines) fits
 
   pub height : length lines ≡ first + frameOf lines .rows
   height = omega (arith, fit .0, ap length start, length-drop first lines)
 
-  pub wide : (k : ℕ) → k < length (rowsOf lines) → length (valuesOf (getD (rowsOf lines) k [])) ≡ frameOf lines .columns
+  pub wide : (k : ℕ) → k < length (rowsOf lines)
+      → length (valuesOf (getD (rowsOf lines) k [])) ≡ frameOf lines .columns
   wide k h = eqb-true _ _ (all-at (hasValues (frameOf lines .columns)) (rowsOf lines) [] (fit .1) k h)
 
-  pub width : (k : ℕ) → k < frameOf lines .rows → countOf 32 (getD lines (first + k) []) + 1 ≡ frameOf lines .columns
-  width k h = rw (← row-line lines first start k) (omega (arith, value-count (getD (rowsOf lines) k []), wide k (omega (arith, fit .0))))
+  pub width : (k : ℕ) → k < frameOf lines .rows
+      → countOf 32 (getD lines (first + k) []) + 1 ≡ frameOf lines .columns
+  width k h = rw (← row-line lines first start k)
+      (omega (arith, value-count (getD (rowsOf lines) k []), wide k (omega (arith, fit .0))))
 
   pub sized : (text : List ℕ) → linesOf text ≡ lines → Sized text (frameOf lines) first
   sized text same = record { height = rw same height; width = λ k h. rw same (width k h) }
 
 -- and of which every value is given
-module _ (lines : List (List ℕ)) (first : ℕ) (p : Passed lines) (start : rowsOf lines ≡ drop first lines) (there : first ≤ length lines)
+module _ (lines : List (List ℕ)) (first : ℕ) (p : Passed lines) (start : rowsOf lines ≡ drop first lines)
+    (there : first ≤ length lines)
     (on : (k : ℕ) → k < length (rowsOf lines) → isRow (noDataOf lines) (getD (rowsOf lines) k []) ≡ true) where
   value : (k c : ℕ) → k < length (rowsOf lines) → c < frameOf lines .columns
       → let t = fieldOf 32 c (getD (rowsOf lines) k []) in t ≡ showLevel (levelIn t)
@@ -59,18 +67,21 @@ module _ (lines : List (List ℕ)) (first : ℕ) (p : Passed lines) (start : row
       let row = getD (rowsOf lines) k [] in
       let inside : c < length (valuesOf row) = omega (arith, wide lines first (p .fits) start there k h) in
       let v = all-at (isValue (noDataOf lines)) (valuesOf row) [] (on k h) c inside in
-      let g = all-at (given (noDataOf lines)) (valuesOf row) [] (all-at (rowGiven (noDataOf lines)) (rowsOf lines) [] (p .given) k h) c inside in
+      let g = all-at (given (noDataOf lines)) (valuesOf row) []
+      (all-at (rowGiven (noDataOf lines)) (rowsOf lines) [] (p .given) k h) c inside in
       rw (← value-field row c) (value-is (noDataOf lines) (getD (valuesOf row) c []) v g)
 
   level : (r c : ℕ) → r < frameOf lines .rows → c < frameOf lines .columns
-      → fieldOf 32 c (getD lines (first + (frameOf lines .rows - suc r)) []) ≡ showLevel (getD (levelsOf (rowsOf lines)) (r * frameOf lines .columns + c) 0)
+      → fieldOf 32 c (getD lines (first + (frameOf lines .rows - suc r)) [])
+      ≡ showLevel (getD (levelsOf (rowsOf lines)) (r * frameOf lines .columns + c) 0)
   level r c h w =
       let fit-now = fit lines first (p .fits) start there in
       let k = length (rowsOf lines) - suc r in
       let same : frameOf lines .rows - suc r ≡ k = ap (λ (n : ℕ). n - suc r) (sym (fit-now .0)) in
       let below : r < length (rowsOf lines) = omega (arith, fit-now .0) in
       rw (same, ← row-line lines first start k)
-      (value k c (omega arith) w ∙ ap showLevel (sym (level-at (frameOf lines .columns) (rowsOf lines) (fit-now .1) r c below w)))
+      (value k c (omega arith) w
+      ∙ ap showLevel (sym (level-at (frameOf lines .columns) (rowsOf lines) (fit-now .1) r c below w)))
 
 -- a line that has bytes is there
 line-there : (lines : List (List ℕ)) (i : ℕ) → 1 ≤ length (getD lines i []) → suc i ≤ length lines
@@ -103,7 +114,8 @@ module _ (text : List ℕ) (none : faultLine (linesOf text) ≡ 0) where
   abbrev lines : List (List ℕ)
   lines = linesOf text
 
-  test : (i : ℕ) → getD (headOn lines ++ (namedOn lines ++ map (isRow (noDataOf lines)) (rowsOf lines))) i true ≡ true
+  test : (i : ℕ) → getD (headOn lines ++ (namedOn lines ++ map (isRow (noDataOf lines)) (rowsOf lines))) i true
+      ≡ true
   unfolding faultLine
   test = test-at 1 (headOn lines ++ (namedOn lines ++ map (isRow (noDataOf lines)) (rowsOf lines))) (omega arith) none
 
@@ -124,10 +136,12 @@ module _ (text : List ℕ) (none : faultLine (linesOf text) ≡ 0) where
   six-there word = line-there lines 5 (word-there (line text 5) (bytes "NODATA_value") 12 word (omega arith))
 
   -- the tests of rows that stand behind n other tests
-  rows-on : (nodata : List ℕ) (rows : List (List ℕ)) (bs : List Bool) → ((i : ℕ) → getD (bs ++ map (isRow nodata) rows) i true ≡ true)
+  rows-on : (nodata : List ℕ) (rows : List (List ℕ)) (bs : List Bool)
+      → ((i : ℕ) → getD (bs ++ map (isRow nodata) rows) i true ≡ true)
       → (k : ℕ) → k < length rows → isRow nodata (getD rows k []) ≡ true
   rows-on nodata rows bs h k inside =
-      sym (map-at (isRow nodata) rows [] true k inside) ∙ sym (getD-append-add bs (map (isRow nodata) rows) k true) ∙ h (length bs + k)
+      sym (map-at (isRow nodata) rows [] true k inside)
+      ∙ sym (getD-append-add bs (map (isRow nodata) rows) k true) ∙ h (length bs + k)
 
   pub rows-are : (k : ℕ) → k < length (rowsOf lines) → isRow (noDataOf lines) (getD (rowsOf lines) k []) ≡ true
   rows-are = rows-on (noDataOf lines) (rowsOf lines) (headOn lines ++ namedOn lines) test
@@ -157,15 +171,18 @@ module _ (text : List ℕ) (p : Passed (linesOf text)) where
   }
 
 -- a text that is not refused says its network
-pub says : (text : List ℕ) (headers room : ℕ) → readRefusal text headers room ≡ 0 → Says text (textLevels text) (textFrame text)
+pub says : (text : List ℕ) (headers room : ℕ) → readRefusal text headers room ≡ 0
+    → Says text (textLevels text) (textFrame text)
 says text headers room read = says-passed text (passed (linesOf text) headers room read)
 
 -- and so what a call leaves, where it does not refuse
 pub says-left : (text headers levels : List ℕ) → readRefusal text (length headers) (length levels) ≡ 0
-    → let header = headerAfter text headers levels in Says text (levelsIn header (levelsAfter text headers levels)) (frameIn header)
+    → let header = headerAfter text headers levels in
+    Says text (levelsIn header (levelsAfter text headers levels)) (frameIn header)
 says-left text headers levels read =
     let on = eq-eqb (readRefusal text (length headers) (length levels)) 0 read in
     let p = passed (linesOf text) (length headers) (length levels) read in
     let size = fit-length (textFrame text) (rowsOf (linesOf text)) (p .fits) in
-    rw on (rw (take-at (textLevels text) (drop (length (textLevels text)) levels) (textFrame text .rows * textFrame text .columns) size)
+    rw on (rw (take-at (textLevels text) (drop (length (textLevels text)) levels)
+    (textFrame text .rows * textFrame text .columns) size)
     (says-passed text p))

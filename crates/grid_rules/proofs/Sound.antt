@@ -30,7 +30,8 @@ pub range-on : (f : Frame) → (sided f && placed f) ≡ true → InRange f
 range-on f h =
     let s = both (sided f) (placed f) h in
     let p = both (between leastSide (f .columns) maxSide) (between leastSide (f .rows) maxSide) (s .0) in
-    let o = both (between leastSpacing (f .spacing) maxSpacing) (leb (f .west) maxOrigin && leb (f .south) maxOrigin) (s .1) in
+    let o = both (between leastSpacing (f .spacing) maxSpacing)
+    (leb (f .west) maxOrigin && leb (f .south) maxOrigin) (s .1) in
     let w = both (leb (f .west) maxOrigin) (leb (f .south) maxOrigin) (o .1) in
     record {
       columns = in-between leastSide (f .columns) maxSide (p .0);
@@ -55,22 +56,29 @@ range-passes f r =
 
 -- ---- 13
 
-within-from : (top : ℕ) (xs : List ℕ) → ((i : ℕ) → i < length xs → getD xs i 0 ≤ top) → allWithin top xs ≡ true
+within-from : (top : ℕ) (xs : List ℕ) → ((i : ℕ) → i < length xs → getD xs i 0 ≤ top)
+    → allWithin top xs ≡ true
 unfolding allWithin
 within-from top [] h = refl
-within-from top (x ∷ xs) h = rw (le-leb x top (h 0 (omega arith))) (within-from top xs (λ i l. h (suc i) (omega arith)))
+within-from top (x ∷ xs) h =
+    rw (le-leb x top (h 0 (omega arith))) (within-from top xs (λ i l. h (suc i) (omega arith)))
 
-within-append : (top : ℕ) (a b : List ℕ) → allWithin top a ≡ true → allWithin top b ≡ true → allWithin top (a ++ b) ≡ true
+within-append : (top : ℕ) (a b : List ℕ) → allWithin top a ≡ true → allWithin top b ≡ true
+    → allWithin top (a ++ b) ≡ true
 within-append top a b p q = up-append top a b ∙ both-true (allWithin top a) (allWithin top b) p q
 
-pub levels-within : (top : ℕ) (rows : List (List ℕ)) → ((k : ℕ) → k < length rows → allWithin top (rowLevels (getD rows k [])) ≡ true)
+pub levels-within : (top : ℕ) (rows : List (List ℕ))
+    → ((k : ℕ) → k < length rows → allWithin top (rowLevels (getD rows k [])) ≡ true)
     → allWithin top (levelsOf rows) ≡ true
 unfolding levelsOf allWithin
 levels-within top [] h = refl
 levels-within top (row ∷ rows) h =
-    within-append top (levelsOf rows) (rowLevels row) (levels-within top rows (λ k l. h (suc k) (omega arith))) (h 0 (omega arith))
+    within-append top (levelsOf rows) (rowLevels row) (levels-within top rows (λ k l. h (suc k) (omega arith)))
+    (h 0 (omega arith))
 
-pub row-within : (top : ℕ) (row : List ℕ) → ((c : ℕ) → c ≤ countOf 32 row → levelIn (fieldOf 32 c row) ≤ top) → allWithin top (rowLevels row) ≡ true
+pub row-within : (top : ℕ) (row : List ℕ)
+    → ((c : ℕ) → c ≤ countOf 32 row → levelIn (fieldOf 32 c row) ≤ top)
+    → allWithin top (rowLevels row) ≡ true
 unfolding rowLevels
 row-within top row h =
     within-from top (map levelIn (valuesOf row))
@@ -88,4 +96,5 @@ given-is nodata t other =
 
 pub given-other : (nodata t : List ℕ) → given nodata t ≡ true → t ≡ nodata → ⊥
 given-other nodata t g e =
-    true≢false (sym (ap (λ (s : List ℕ). sameText s nodata) e ∙ same-self nodata) ∙ not-true (sameText t nodata) g)
+    true≢false (sym (ap (λ (s : List ℕ). sameText s nodata) e ∙ same-self nodata)
+    ∙ not-true (sameText t nodata) g)

@@ -26,7 +26,8 @@ text-ends : (l : List ℕ) (ls : List (List ℕ)) → textOf (l ∷ ls) ≡ all-
 unfolding textOf all-but-end
 text-ends l [] = refl
 text-ends l (m ∷ ls) =
-    ap (λ (t : List ℕ). l ++ (13 ∷ 10 ∷ t)) (text-ends m ls) ∙ sym (append-assoc l (13 ∷ 10 ∷ all-but-end (m ∷ ls)) (13 ∷ 10 ∷ []))
+    ap (λ (t : List ℕ). l ++ (13 ∷ 10 ∷ t)) (text-ends m ls)
+    ∙ sym (append-assoc l (13 ∷ 10 ∷ all-but-end (m ∷ ls)) (13 ∷ 10 ∷ []))
 
 module _ (levels : List ℕ) (f : Frame) (none : networkRefusal levels f ≡ 0) where
   plain : Named (showNetwork levels f) → ⊥
@@ -42,7 +43,8 @@ module _ (levels : List ℕ) (f : Frame) (none : networkRefusal levels f ≡ 0) 
   unfolding showNetwork
   written =
       let text = showNetwork levels f in
-      let laid = says text 5 (length levels) (refusal-back levels f none 5 (length levels) (omega arith) (omega arith)) .unnamed plain in
+      let laid = says text 5 (length levels)
+      (refusal-back levels f none 5 (length levels) (omega arith) (omega arith)) .unnamed plain in
       record {
         laid = rw (levels-back levels f none, frame-back levels f none) at laid;
         before = all-but-end (networkLines levels f);
@@ -50,7 +52,8 @@ module _ (levels : List ℕ) (f : Frame) (none : networkRefusal levels f ≡ 0) 
       }
 
 -- what a call leaves in the room lent, where it does not refuse
-pub written-left : (levels : List ℕ) (f : Frame) (text sizes : List ℕ) → writeRefusal levels f (length text) (length sizes) ≡ 0
+pub written-left : (levels : List ℕ) (f : Frame) (text sizes : List ℕ)
+    → writeRefusal levels f (length text) (length sizes) ≡ 0
     → Written (take (getD (sizeAfter levels f text sizes) 0 0) (textAfter levels f text sizes)) levels f
 written-left levels f text sizes w =
     let file = written-file levels f text sizes w in

@@ -19,7 +19,8 @@ use Rattle.book_rules.specs.Chain.Chain.{done, called}
 use Rattle.book_rules.proofs.History.{history}
 use Rattle.book_rules.proofs.Order.{decides, given-by, sound-decides}
 use Rattle.room.specs.Room.{front}
-use Rattle.journal.specs.Journal.{widthOf, callAt, complete, callsOf, laidOut, callsFor, replayRefusal, Replayed}
+use Rattle.journal.specs.Journal.{widthOf, callAt, complete, callsOf, laidOut, callsFor, replayRefusal}
+use Rattle.journal.specs.Journal.{Replayed}
 use Rattle.journal.specs.Spelling.{spelled, journalOf, Spelled}
 use Rattle.journal.specs.Replay.{ReplayHolds}
 use Rattle.journal.proofs.Reading.{calls-more, laid-more, nothing-left}
@@ -53,7 +54,11 @@ complete-spelled c rest =
     let w = width-spelled c rest in
     let s = some-spelled c in
     let l = length-append (spelled c) rest in
-    rw (le-leb 1 (widthOf (spelled c ++ rest)) (omega arith), le-leb (widthOf (spelled c ++ rest)) (length (spelled c ++ rest)) (omega arith)) refl
+    rw (
+      le-leb 1 (widthOf (spelled c ++ rest)) (omega arith),
+      le-leb (widthOf (spelled c ++ rest))
+          (length (spelled c ++ rest)) (omega arith),
+    ) refl
 
 rest-spelled : (c : Call) (rest : List ℕ) → drop (widthOf (spelled c ++ rest)) (spelled c ++ rest) ≡ rest
 rest-spelled c rest = ap (λ n. drop n (spelled c ++ rest)) (width-spelled c rest) ∙ drop-append-seam (spelled c) rest
@@ -103,13 +108,18 @@ unfolding replayRefusal
 replay-made {p} {r} {b} {b′} {j} {room} {room′} k =
     let calls = length (callsOf j) in
     let n = length room in
-    let none : r ≡ 0 → eqb (replayRefusal p b j n) 0 ≡ true = λ z. eq-eqb (replayRefusal p b j n) 0 (sym (k .answer) ∙ z) in
-    let some : (r ≡ 0 → ⊥) → eqb (replayRefusal p b j n) 0 ≡ false = λ h. ne-eqb (replayRefusal p b j n) 0 (λ z. h (k .answer ∙ z)) in
+    let none : r ≡ 0 → eqb (replayRefusal p b j n) 0 ≡ true =
+    λ z. eq-eqb (replayRefusal p b j n) 0 (sym (k .answer) ∙ z) in
+    let some : (r ≡ 0 → ⊥) → eqb (replayRefusal p b j n) 0 ≡ false =
+    λ h. ne-eqb (replayRefusal p b j n) 0 (λ z. h (k .answer ∙ z)) in
     record {
       order =
-          given-by (laidOut j) (k .answer) (decides (laidOut j) (λ e f. true≢false (sym e ∙ f)) (λ e. e)) λ _ e₁₆.
+          given-by (laidOut j) (k .answer) (decides (laidOut j) (λ e f. true≢false (sym e ∙ f)) (λ e. e)) λ _
+          e₁₆.
           given-by (sound p b) e₁₆ (sound-decides p b) λ _ e₉.
-          given-by (leb calls n) e₉ (decides (leb calls n) (λ e f. omega (arith, leb-true calls n e)) (leb-false calls n)) λ _ e₁₄. e₁₄;
+          given-by (leb calls n) e₉
+          (decides (leb calls n) (λ e f. omega (arith, leb-true calls n e)) (leb-false calls n)) λ _
+          e₁₄. e₁₄;
       calls = λ z.
           subst (Chain b (callsFor p j) (answered b (callsFor p j)))
           (sym (k .book ∙ ap (λ (t : Bool). cond t (booked b (callsFor p j)) b) (none z)))

@@ -34,23 +34,28 @@ rest-is (suc w) x j h = let e : suc w - 1 ≡ w = omega arith in ap (λ n. drop 
 
 pub complete-width : (j : List ℕ) → complete j ≡ true → (1 ≤ widthOf j) × (widthOf j ≤ length j)
 unfolding complete
-complete-width j e =
-    (leb-true 1 (widthOf j) (and-left (leb 1 (widthOf j)) _ e), leb-true (widthOf j) (length j) (and-right (leb 1 (widthOf j)) _ e))
+complete-width j e = (
+  leb-true 1 (widthOf j) (and-left (leb 1 (widthOf j)) _ e),
+  leb-true (widthOf j) (length j) (and-right (leb 1 (widthOf j)) _ e),
+)
 
 -- the first call, and the rest
 
-pub calls-more : (j : List ℕ) → 0 < length j → complete j ≡ true → callsOf j ≡ callAt j ∷ callsOf (drop (widthOf j) j)
+pub calls-more : (j : List ℕ) → 0 < length j → complete j ≡ true
+    → callsOf j ≡ callAt j ∷ callsOf (drop (widthOf j) j)
 unfolding callsOf callsFrom
 calls-more [] h e = absurd (omega arith)
 calls-more (x ∷ j) h e =
     ap (λ (cs : List Call). callAt (x ∷ j) ∷ cs)
-    (skip-calls (widthOf (x ∷ j) - 1) j ∙ ap (callsFrom 0) (rest-is (widthOf (x ∷ j)) x j (complete-width (x ∷ j) e .0)))
+    (skip-calls (widthOf (x ∷ j) - 1) j
+    ∙ ap (callsFrom 0) (rest-is (widthOf (x ∷ j)) x j (complete-width (x ∷ j) e .0)))
 
 pub laid-more : (j : List ℕ) → 0 < length j → complete j ≡ true → laidOut j ≡ laidOut (drop (widthOf j) j)
 unfolding laidOut laidOutFrom
 laid-more [] h e = absurd (omega arith)
 laid-more (x ∷ j) h e =
-    rw e (skip-laid (widthOf (x ∷ j) - 1) j ∙ ap (laidOutFrom 0) (rest-is (widthOf (x ∷ j)) x j (complete-width (x ∷ j) e .0)))
+    rw e (skip-laid (widthOf (x ∷ j) - 1) j
+    ∙ ap (laidOutFrom 0) (rest-is (widthOf (x ∷ j)) x j (complete-width (x ∷ j) e .0)))
 
 pub laid-off : (j : List ℕ) → 0 < length j → complete j ≡ false → laidOut j ≡ false
 unfolding laidOut laidOutFrom
@@ -83,14 +88,17 @@ pub tail-is : (j : List ℕ) (at : ℕ) → tail j at ≡ drop at j
 tail-is j at = take-all (length j - at) (drop at j) (omega (arith, length-drop at j))
 
 -- a call that is not complete: of no known kind, or cut short
-pub laid-cut : (j : List ℕ) (at w : ℕ) → w ≡ widthOf (tail j at) → at < length j → (w < 1) ⊎ (length j - at < w)
+pub laid-cut : (j : List ℕ) (at w : ℕ) → w ≡ widthOf (tail j at) → at < length j
+    → (w < 1) ⊎ (length j - at < w)
     → laidOut (drop at j) ≡ false
 unfolding complete
 laid-cut j at w e h k =
     let v : w ≡ widthOf (drop at j) = e ∙ ap widthOf (tail-is j at) in
     let n = length-drop at j in
     laid-off (drop at j) (omega arith)
-    (⊎-elim (λ a. rw (lt-leb 1 (widthOf (drop at j)) (omega arith)) refl) (λ a. rw (lt-leb (widthOf (drop at j)) (length (drop at j)) (omega arith)) (no (leb 1 (widthOf (drop at j))))) k)
+    (⊎-elim (λ a. rw (lt-leb 1 (widthOf (drop at j)) (omega arith)) refl)
+    (λ a. rw (lt-leb (widthOf (drop at j)) (length (drop at j)) (omega arith))
+    (no (leb 1 (widthOf (drop at j))))) k)
   where
     no : (t : Bool) → (t && false) ≡ false
     no true = refl
@@ -104,12 +112,14 @@ pub record Step (j : List ℕ) (at w : ℕ) : Type 0 where
   pub laid : laidOut (drop at j) ≡ laidOut (drop (at + w) j)
   pub calls : callsOf (drop at j) ≡ callAt (tail j at) ∷ callsOf (drop (at + w) j)
 
-step-of : (j : List ℕ) (at w : ℕ) → w ≡ widthOf (tail j at) → at < length j → complete (drop at j) ≡ true → Step j at w
+step-of : (j : List ℕ) (at w : ℕ) → w ≡ widthOf (tail j at) → at < length j
+    → complete (drop at j) ≡ true → Step j at w
 step-of j at w e h t =
     let v : w ≡ widthOf (drop at j) = e ∙ ap widthOf (tail-is j at) in
     let n = length-drop at j in
     let ww = complete-width (drop at j) t in
-    let d : drop (widthOf (drop at j)) (drop at j) ≡ drop (at + w) j = drop-drop (widthOf (drop at j)) at j ∙ ap (λ k. drop (at + k) j) (sym v) in
+    let d : drop (widthOf (drop at j)) (drop at j) ≡ drop (at + w) j = drop-drop (widthOf (drop at j)) at j
+    ∙ ap (λ k. drop (at + k) j) (sym v) in
     record {
       some = omega arith;
       fits = omega arith;
@@ -119,16 +129,21 @@ step-of j at w e h t =
     }
 
 -- by the tests of the check
-pub step-tested : (j : List ℕ) (at w : ℕ) → w ≡ widthOf (tail j at) → at < length j → 1 ≤ w → w ≤ length j - at
+pub step-tested : (j : List ℕ) (at w : ℕ) → w ≡ widthOf (tail j at) → at < length j → 1 ≤ w
+    → w ≤ length j - at
     → Step j at w
 unfolding complete
 step-tested j at w e h a b =
     let v : w ≡ widthOf (drop at j) = e ∙ ap widthOf (tail-is j at) in
     let n = length-drop at j in
-    step-of j at w e h (rw (le-leb 1 (widthOf (drop at j)) (omega arith), le-leb (widthOf (drop at j)) (length (drop at j)) (omega arith)) refl)
+    step-of j at w e h (rw (
+      le-leb 1 (widthOf (drop at j)) (omega arith),
+      le-leb (widthOf (drop at j)) (length (drop at j)) (omega arith),
+    ) refl)
 
 -- or by the layout
-pub step-laid : (j : List ℕ) (at w : ℕ) → w ≡ widthOf (tail j at) → at < length j → laidOut (drop at j) ≡ true
+pub step-laid : (j : List ℕ) (at w : ℕ) → w ≡ widthOf (tail j at) → at < length j
+    → laidOut (drop at j) ≡ true
     → Step j at w
 step-laid j at w e h l = step-of j at w e h (laid-complete (drop at j) (omega (arith, length-drop at j)) l)
 
@@ -151,13 +166,15 @@ module _ (j : List ℕ) where
   unfolding widthOf
   width-withdraw e = rw e refl
 
-  pub width-none : (getD j 0 0 ≡ 1 → ⊥) → (getD j 0 0 ≡ 2 → ⊥) → (getD j 0 0 ≡ 3 → ⊥) → (getD j 0 0 ≡ 4 → ⊥)
+  pub width-none : (getD j 0 0 ≡ 1 → ⊥) → (getD j 0 0 ≡ 2 → ⊥) → (getD j 0 0 ≡ 3 → ⊥)
+      → (getD j 0 0 ≡ 4 → ⊥)
       → widthOf j ≡ 0
   unfolding widthOf
   width-none a b d e =
       rw (ne-eqb (getD j 0 0) 1 a, ne-eqb (getD j 0 0) 2 b, ne-eqb (getD j 0 0) 3 d, ne-eqb (getD j 0 0) 4 e) refl
 
-  pub call-enter : getD j 0 0 ≡ 1 → callAt j ≡ enter (getD j 1 0) (getD j 2 0) (getD j 3 0) (getD j 4 0) (getD j 5 0)
+  pub call-enter : getD j 0 0 ≡ 1
+      → callAt j ≡ enter (getD j 1 0) (getD j 2 0) (getD j 3 0) (getD j 4 0) (getD j 5 0)
   unfolding callAt
   call-enter e = rw e refl
 
@@ -184,7 +201,8 @@ width-by j a b d p q r = rw (p, q, r) refl
 -- every complete call has at least two numbers
 pub complete-two : (j : List ℕ) → complete j ≡ true → 2 ≤ length j
 complete-two j e =
-    by (eqb (getD j 0 0) 1) (eqb (getD j 0 0) 2) (eqb (getD j 0 0) 3 || eqb (getD j 0 0) 4) (width-by j _ _ _ refl refl refl) (complete-width j e)
+    by (eqb (getD j 0 0) 1) (eqb (getD j 0 0) 2) (eqb (getD j 0 0) 3 || eqb (getD j 0 0) 4)
+    (width-by j _ _ _ refl refl refl) (complete-width j e)
   where
     by : (a b d : Bool) → widthOf j ≡ cond a 6 (cond b (3 + getD j 2 0) (cond d 2 0))
         → (1 ≤ widthOf j) × (widthOf j ≤ length j) → 2 ≤ length j

@@ -28,7 +28,8 @@ calls p j at = callsFor p (drop at j)
 abbrev pub all : ℕ → Book → List ℕ → List ℕ
 all p b j = answered b (callsFor p j)
 
-pub record Replaying (p : ℕ) (b₀ : Book) (j room₀ : List ℕ) (at made : ℕ) (b : Book) (room : List ℕ) : Type 0 where
+pub record Replaying (p : ℕ) (b₀ : Book) (j room₀ : List ℕ) (at made : ℕ) (b : Book)
+    (room : List ℕ) : Type 0 where
   pub within : at ≤ length j
   pub sound= : sound p b ≡ true
   pub laid : laidOut (drop at j) ≡ true
@@ -49,7 +50,8 @@ replay-starts p b j room s l = record {
   answered= = refl;
 }
 
-more : (p at w : ℕ) (j : List ℕ) → Step j at w → calls p j at ≡ made p (callAt (tail j at)) ∷ calls p j (at + w)
+more : (p at w : ℕ) (j : List ℕ) → Step j at w
+    → calls p j at ≡ made p (callAt (tail j at)) ∷ calls p j (at + w)
 unfolding madeFor
 more p at w j s = ap (madeFor p) (s .calls)
 
@@ -65,12 +67,14 @@ pub next : {p : ℕ} {b₀ : Book} {j room₀ : List ℕ} {at w made : ℕ} {b :
 unfolding answered
 next {p} {b₀} {j} {room₀} {at} {w} {made} {b} {room} r step =
     let s = all p b₀ j in
-    let e : drop made s ≡ refusal p b (callAt (tail j at)) ∷ answered (after p b (callAt (tail j at))) (calls p j (at + w)) =
+    let e : drop made s ≡ refusal p b (callAt (tail j at)) ∷ answered (after p b (callAt (tail j at)))
+    (calls p j (at + w)) =
     r .answers ∙ ap (answered b) (more p at w j step) in
     record {
       inside = omega (arith, ap length e, length-drop made s);
       answer =
-          sym (ap (λ n. getD s n 0) (add-zero made)) ∙ sym (getD-drop made s 0 0) ∙ ap (λ (t : List ℕ). getD t 0 0) e;
+          sym (ap (λ n. getD s n 0) (add-zero made)) ∙ sym (getD-drop made s 0 0)
+          ∙ ap (λ (t : List ℕ). getD t 0 0) e;
       later = sym (drop-drop 1 made s) ∙ ap (drop 1) e;
     }
 
@@ -87,7 +91,8 @@ replay-more {p} {b₀} {j} {room₀} {at} {w} {made} {r} {b} {b′} {room} s ste
       sound= = called-sound (s .sound=) c;
       laid = sym (step .laid) ∙ s .laid;
       book =
-          s .book ∙ ap (booked b) (more p at w j step) ∙ ap (λ (k : Book). booked k (calls p j (at + w))) (sym (c .book));
+          s .book ∙ ap (booked b) (more p at w j step)
+          ∙ ap (λ (k : Book). booked k (calls p j (at + w))) (sym (c .book));
       answers = n .later ∙ ap (λ (k : Book). answered k (calls p j (at + w))) (sym (c .book));
       done = omega arith;
       answered= = front-to-more (all p b₀ j) room₀ (s .answered=) (n .answer ∙ sym (c .answer)) i (omega arith);
@@ -124,7 +129,8 @@ replay-ready p b j room e =
     let r₁₄ = refuse-none 14 (leb (length (callsOf j)) room) _ (omega arith) (r₉ .1) in
     (r₉ .0, (r₁₆ .0, leb-true (length (callsOf j)) room (r₁₄ .0)))
 
-pub replay-refused : {p r : ℕ} {b : Book} {j room : List ℕ} → r ≡ replayRefusal p b j (length room) → (r ≡ 0 → ⊥)
+pub replay-refused : {p r : ℕ} {b : Book} {j room : List ℕ} → r ≡ replayRefusal p b j (length room)
+    → (r ≡ 0 → ⊥)
     → Replayed p b j room r b room
 replay-refused {p} {r} {b} {j} {room} e h =
     let n = ne-eqb (replayRefusal p b j (length room)) 0 (λ z. h (e ∙ z)) in
@@ -137,7 +143,8 @@ replay-done {p} {b} {b′} {j} {room} {room′} e f g =
     record { answer = sym e; book = rw n f; answers = rw n g }
 
 -- two outcomes of one replay are equal
-pub replayed-once : {p r s : ℕ} {b b′ b″ : Book} {j room room′ room″ : List ℕ} → Replayed p b j room r b′ room′
+pub replayed-once : {p r s : ℕ} {b b′ b″ : Book} {j room room′ room″ : List ℕ}
+    → Replayed p b j room r b′ room′
     → Replayed p b j room s b″ room″
     → (r ≡ s) × (b′ ≡ b″) × (room′ ≡ room″)
 replayed-once x y = (x .answer ∙ sym (y .answer), x .book ∙ sym (y .book), x .answers ∙ sym (y .answers))

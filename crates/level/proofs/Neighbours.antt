@@ -4,7 +4,8 @@ use mathlib.Core.Path.{_≡_, refl, subst}
 use mathlib.Core.Bool.{Bool, true, false, cond}
 use mathlib.Core.Logic.{_↔_, Iff·trans, Iff·not}
 use Prim.Native.Nat.{ℕ, zero, suc, _+_, _*_, _/_, _%_, _^_, _≤_, _<_}
-use native.Mathlib.Nat.{le-antisymm, lt-of-not-le, not-le-of-lt, suc-mul, div-mul-le-self, lt-div-mul-add, le-div-iff-mul-le}
+use native.Mathlib.Nat.{le-antisymm, lt-of-not-le, not-le-of-lt, suc-mul, div-mul-le-self, lt-div-mul-add}
+use native.Mathlib.Nat.{le-div-iff-mul-le}
 use native.Mathlib.Omega.{arith}
 use lib.Dec.{ltb, lit<}
 use borrow.Author.Tests.{le-ltb, lt-ltb, ltb-true, ltb-false}
@@ -73,7 +74,8 @@ over-when : (l : Level) (limit : ℕ)
 over-when BelowZero limit = (λ e. absurd (omega arith), λ h. absurd (omega arith))
 over-when (At n) limit = go (ltb limit n) refl
   where
-    go : (b : Bool) → ltb limit n ≡ b → verdictNumber (cond b Over Within) ≡ 1 ↔ (levelGiven (At n) ≡ 1) × (limit < n)
+    go : (b : Bool) → ltb limit n ≡ b
+        → verdictNumber (cond b Over Within) ≡ 1 ↔ (levelGiven (At n) ≡ 1) × (limit < n)
     go true e = (λ o. (refl, ltb-true limit n e), λ h. refl)
     go false e = (λ o. absurd (omega arith), λ h. absurd (omega (arith, ltb-false limit n e)))
 

@@ -13,7 +13,8 @@ use Rattle.level.specs.Level.{levelGiven, levelValue, bound, firstFrom, 
 use Rattle.level.proofs.LevelLaws.{bound-last}
 
 -- the number found passes the test, where some number that is tried does
-first-passes : (test : ℕ → Bool) (i f k : ℕ) → i ≤ k → k < i + f → test k ≡ true → test (firstFrom test i f) ≡ true
+first-passes : (test : ℕ → Bool) (i f k : ℕ) → i ≤ k → k < i + f → test k ≡ true
+    → test (firstFrom test i f) ≡ true
 unfolding firstFrom
 first-passes test i zero k lo hi t = absurd (omega arith)
 first-passes test i (suc f) k lo hi t = go (test i) refl (λ later. first-passes test (suc i) f k later (omega arith) t)
@@ -21,7 +22,8 @@ first-passes test i (suc f) k lo hi t = go (test i) refl (λ later. first-passes
     go : (b : Bool) → test i ≡ b → (suc i ≤ k → test (firstFrom test (suc i) f) ≡ true)
         → test (cond b i (firstFrom test (suc i) f)) ≡ true
     go true e rest = e
-    go false e rest = ⊎-elim (λ same. absurd (true≢false (sym t ∙ ap test (sym same) ∙ e))) rest (eq-or-lt-of-le lo)
+    go false e rest = ⊎-elim (λ same. absurd (true≢false (sym t ∙ ap test (sym same) ∙ e))) rest
+        (eq-or-lt-of-le lo)
 
 -- and no number before it does
 first-misses : (test : ℕ → Bool) (i f j : ℕ) → i ≤ j → j < firstFrom test i f → test j ≡ false
@@ -53,6 +55,7 @@ smallest m lo hi =
     (record {
       given = refl;
       reaches =
-          leb-true m _ (first-passes test 0 20000 19999 (omega arith) (omega arith) (le-leb m (bound 19999) (omega (arith, bound-last))));
+          leb-true m _ (first-passes test 0 20000 19999 (omega arith) (omega arith)
+          (le-leb m (bound 19999) (omega (arith, bound-last))));
       no-smaller = λ j l. leb-false m (bound j) (first-misses test 0 20000 j (omega arith) l);
     })

@@ -35,19 +35,27 @@ mean-le t d h =
     (div-mono 86400 {a = 1000 * t} {b = 1000 * maxTotal} (omega arith) (omega arith))
 
 -- a group's scaled energy is at most 10^13 for each of its movements
-scaled-small : (c : Group) → c .energy ≤ c .computed * maxEnergy → scaledEnergy c ≤ maxEnergy * known (countsOf c)
+scaled-small : (c : Group) → c .energy ≤ c .computed * maxEnergy
+    → scaledEnergy c ≤ maxEnergy * known (countsOf c)
 unfolding scaledEnergy scaledBy known
 scaled-small c h = go (eqb (c .computed) 0)
   where
     go : (t : Bool)
-        → cond t 0 (c .energy * (c .computed + c .missing) / c .computed) ≤ maxEnergy * cond t 0 (c .computed + c .missing)
+        → cond t 0 (c .energy * (c .computed + c .missing) / c .computed) ≤ maxEnergy * cond t 0
+        (c .computed + c .missing)
     go true = omega arith
     go false = scaled-le (c .energy) (c .computed + c .missing) (c .computed) maxEnergy h
 
-pub scaled-sum-small : (f : ℕ → Group) (n : ℕ) → ((g : ℕ) → g < n → f g .energy ≤ f g .computed * maxEnergy)
+pub scaled-sum-small : (f : ℕ → Group) (n : ℕ)
+    → ((g : ℕ) → g < n → f g .energy ≤ f g .computed * maxEnergy)
     → sumTo (λ g. scaledEnergy (f g)) n ≤ maxEnergy * sumTo (λ g. known (countsOf (f g))) n
 scaled-sum-small f n h =
-    omega (arith, sum-le (λ g. scaledEnergy (f g)) (λ g. maxEnergy * known (countsOf (f g))) n (λ g l. scaled-small (f g) (h g l)), sum-times maxEnergy (λ g. known (countsOf (f g))) n)
+    omega (
+      arith,
+      sum-le (λ g. scaledEnergy (f g)) (λ g. maxEnergy * known (countsOf (f g))) n
+          (λ g l. scaled-small (f g) (h g l)),
+      sum-times maxEnergy (λ g. known (countsOf (f g))) n,
+    )
 
 sum-next : (k : ℕ → ℕ) (n : ℕ) → sumTo k (suc n) ≡ sumTo k n + k n
 unfolding sumTo

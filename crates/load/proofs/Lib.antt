@@ -1,4 +1,5 @@
 pub mod CellLaws
+pub mod MoreRows
 pub mod RowLaws
 pub mod BoundLaws
 pub mod SumsLaws

@@ -20,7 +20,8 @@ use Rattle.load_rules.specs.declared.Judged.the-variants.{Given, Refused}
 use Rattle.load_rules.specs.Shares.{Share}
 use Rattle.load_rules.specs.Tally.{tally, listFrom}
 use Rattle.load_rules.specs.Factors.{ratio, scaledBy, sumTo, known, unknown, knownSum, unknownSum, generalFactor}
-use Rattle.load_rules.specs.Load.{countsOf, scaledEnergy, scaledSum, totalOf, daysFit, noneComputed, loadRefusal, answer, refusedLoad, loadOf}
+use Rattle.load_rules.specs.Load.{countsOf, scaledEnergy, scaledSum, totalOf, daysFit, noneComputed, loadRefusal}
+use Rattle.load_rules.specs.Load.{answer, refusedLoad, loadOf}
 use Rattle.load_rules.specs.Verdict.{limitFits, verdictRefusal, refusalNumber, judged, judgedOf}
 use Rattle.load_rules.proofs.TallyLaws.{AllGrouped, rule-ten}
 use Rattle.load_rules.proofs.FactorLaws.{known-sum}
@@ -65,7 +66,8 @@ module _ (f : ℕ → Group) (days : ℕ) where
   from-refused e = rw e refl
 
   pub from-answered : (total : ℕ) (level : Level) (counts : List Counts) → none ≡ false
-      → total ≡ totalOf f → level ≡ levelOf (meanOf total days) → counts ≡ listFrom (λ g. countsOf (f g)) 0 groupCount
+      → total ≡ totalOf f → level ≡ levelOf (meanOf total days)
+      → counts ≡ listFrom (λ g. countsOf (f g)) 0 groupCount
       → record { refused = 0; total = total; level = level; counts = counts } ≡ loadFrom f days
   unfolding loadFrom answer
   from-answered total level counts e t l c = rw (e, l, t, c) refl
@@ -102,6 +104,7 @@ module _ (ss : List Share) (days : ℕ) (fit : daysFit days ≡ true) where
   judged-load limit l = rw (fit, l) (go (noneComputed ss))
     where
       go : (t : Bool) → judged (cond (not t) 0 10) (verdictOf (answer (tally ss) days .level) limit)
-          ≡ judgedBy (cond (eqb (cond (not t) 0 10) 0) (answer (tally ss) days) (refusedLoad (cond (not t) 0 10))) limit
+          ≡ judgedBy (cond (eqb (cond (not t) 0 10) 0) (answer (tally ss) days) (refusedLoad (cond (not t) 0 10)))
+          limit
       go true = refl
       go false = refl

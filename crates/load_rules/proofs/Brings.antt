@@ -19,7 +19,8 @@ use Rattle.load_rules.proofs.RefusalLaws.{none-exactly}
 
 -- one movement alone
 one : (pt g : ℕ) (m : Movement)
-    → Brought pt g (m ∷ []) (cond (eqb (m .group) g && hasLevels (m .held)) 1 0) (cond (eqb (m .group) g && not (hasLevels (m .held))) 1 0)
+    → Brought pt g (m ∷ []) (cond (eqb (m .group) g && hasLevels (m .held)) 1 0)
+    (cond (eqb (m .group) g && not (hasLevels (m .held))) 1 0)
     (cond (eqb (m .group) g) (heldEnergy pt (m .group) (m .held)) 0)
 unfolding computedIn missingIn energyOfGroup
 one pt g m = record { computed = omega arith; missing = omega arith; energy = omega arith }
@@ -41,12 +42,18 @@ of-other : (pt g : ℕ) (m : Movement) → ¬ (m .group ≡ g) → Brought pt g 
 of-other pt g m h = rw (ne-eqb (m .group) g h) at (one pt g m)
 
 of-both : (pt g : ℕ) (xs ys : List Movement)
-    → Brought pt g (xs ++ ys) (computedIn g xs + computedIn g ys) (missingIn g xs + missingIn g ys) (energyOfGroup pt g xs + energyOfGroup pt g ys)
+    → Brought pt g (xs ++ ys) (computedIn g xs + computedIn g ys) (missingIn g xs + missingIn g ys)
+    (energyOfGroup pt g xs + energyOfGroup pt g ys)
 unfolding computedIn missingIn energyOfGroup
 of-both pt g [] ys = record { computed = omega arith; missing = omega arith; energy = omega arith }
 of-both pt g (x ∷ xs) ys =
     let r = of-both pt g xs ys in
-    record { computed = omega (arith, r .computed); missing = omega (arith, r .missing); energy = omega (arith, r .energy) }
+    record {
+      computed = omega (arith, r .computed);
+      missing = omega (arith, r .missing);
+      energy =
+          omega (arith, r .energy);
+    }
 
 of-none : (pt g : ℕ) → Brought pt g [] 0 0 0
 unfolding computedIn missingIn energyOfGroup

@@ -27,18 +27,23 @@ use Rattle.load_rules.specs.declared.Load.{Load}
 use Rattle.load_rules.specs.declared.Judged.{Judged}
 use Rattle.load_rules.specs.Shares.{Share, anyComputed, sharesOf, bookShares}
 use Rattle.load_rules.specs.Tally.{sumOf, tally, listFrom}
-use Rattle.load_rules.specs.Factors.{sumTo, scaledBy, known, unknown, knownSum, unknownSum, groupFactor, generalFactor}
-use Rattle.load_rules.specs.Load.{countsOf, scaledEnergy, scaledSum, totalOf, daysFit, noneComputed, loadRefusal, answer, refusedLoad, loadOf, bookLoad}
+use Rattle.load_rules.specs.Factors.{sumTo, scaledBy, known, unknown, knownSum, unknownSum, groupFactor}
+use Rattle.load_rules.specs.Factors.{generalFactor}
+use Rattle.load_rules.specs.Load.{countsOf, scaledEnergy, scaledSum, totalOf, daysFit, noneComputed}
+use Rattle.load_rules.specs.Load.{loadRefusal, answer, refusedLoad, loadOf, bookLoad}
 use Rattle.load_rules.specs.Verdict.{verdictRefusal, refusalNumber, judged, judgedOf, bookVerdict}
-use Rattle.load_rules.specs.Refusals.{InRange, DaysInRange, LimitInRange, NoneComputed, LoadNumbers, VerdictNumbers}
-use Rattle.load_rules.specs.Afresh.{listLoad, listVerdict, someComputed, computedIn, missingIn, energyOfGroup, countsAt, TotalHolds, CountsEach, Alone, EachCountedOnce}
+use Rattle.load_rules.specs.Refusals.{InRange, DaysInRange, LimitInRange, NoneComputed, LoadNumbers}
+use Rattle.load_rules.specs.Refusals.{VerdictNumbers}
+use Rattle.load_rules.specs.Afresh.{listLoad, listVerdict, someComputed, computedIn, missingIn, energyOfGroup}
+use Rattle.load_rules.specs.Afresh.{countsAt, TotalHolds, CountsEach, Alone, EachCountedOnce}
 use Rattle.load_rules.proofs.SumLaws.{sum-ext}
 use Rattle.load_rules.proofs.FactorLaws.{never-divided, known-same, general-same, weights-all}
 use Rattle.load_rules.proofs.TallyLaws.{counts, AllGrouped, counted-all, all-standing, some-known}
 use Rattle.load_rules.proofs.ListLaws.{shares-count, shares-computed, list-computed, list-missing, list-energy}
 use Rattle.load_rules.proofs.HistoryLaws.{history-shares, history-grouped}
 use Rattle.load_rules.proofs.Determined.{over-exactly-when}
-use Rattle.load_rules.proofs.RefusalLaws.{range-exactly, days-exactly, limit-exactly, ten-exactly, load-numbers, verdict-numbers}
+use Rattle.load_rules.proofs.RefusalLaws.{range-exactly, days-exactly, limit-exactly, ten-exactly}
+use Rattle.load_rules.proofs.RefusalLaws.{load-numbers, verdict-numbers}
 use Rattle.load_rules.proofs.Formulas.{formulas}
 use Rattle.load_rules.proofs.TotalBound.{energy-small, total-small, mean-small}
 
@@ -68,18 +73,21 @@ module _ (pt : ℕ) (ms : List Movement) (days : ℕ) (grouped : AllGrouped (sha
 
   standing : sumTo (λ g. countsAt a g .computed + countsAt a g .missing) groupCount ≡ length ms
   standing =
-      sum-ext _ (λ g. tally ss g .computed + tally ss g .missing) groupCount (λ g h. ap (λ (c : Counts). c .computed + c .missing) (counts-at (tally ss) days g h))
+      sum-ext _ (λ g. tally ss g .computed + tally ss g .missing) groupCount
+      (λ g h. ap (λ (c : Counts). c .computed + c .missing) (counts-at (tally ss) days g h))
       ∙ counted-all ss grouped ∙ shares-count pt ms
 
   energy : a .total
-      ≡ scaledBy (generalFactor (countsAt a)) (sumTo (λ g. scaledBy (groupFactor (countsAt a g)) (energyOfGroup pt g ms)) groupCount)
+      ≡ scaledBy (generalFactor (countsAt a))
+      (sumTo (λ g. scaledBy (groupFactor (countsAt a g)) (energyOfGroup pt g ms)) groupCount)
   unfolding answer totalOf scaledSum scaledEnergy
   energy =
       rw (general-same (countsAt a) (counts ss) (counts-at (tally ss) days))
       (ap (scaledBy (generalFactor (counts ss)))
       (sum-ext _ _ groupCount (λ g h. rw (counts-at (tally ss) days g h, list-energy pt g ms) refl)))
 
-  by-formulas : TotalHolds (λ g. countsAt a g .computed) (λ g. countsAt a g .missing) (λ g. energyOfGroup pt g ms) (a .total)
+  by-formulas : TotalHolds (λ g. countsAt a g .computed) (λ g. countsAt a g .missing)
+      (λ g. energyOfGroup pt g ms) (a .total)
   by-formulas = rw energy (formulas (countsAt a) (λ g. energyOfGroup pt g ms))
 
   level : a .level ≡ levelOf (meanOf (a .total) days)
@@ -88,7 +96,12 @@ module _ (pt : ℕ) (ms : List Movement) (days : ℕ) (grouped : AllGrouped (sha
 
   none-known : length ms ≡ 0 → knownSum (countsAt a) ≡ 0
   none-known z =
-      omega (arith, known-same (countsAt a) (counts ss) (counts-at (tally ss) days) .0, all-standing ss grouped, shares-count pt ms)
+      omega (
+        arith,
+        known-same (countsAt a) (counts ss) (counts-at (tally ss) days) .0,
+        all-standing ss grouped,
+        shares-count pt ms,
+      )
 
   no-total : length ms ≡ 0 → a .total ≡ 0
   unfolding generalFactor
@@ -96,7 +109,8 @@ module _ (pt : ℕ) (ms : List Movement) (days : ℕ) (grouped : AllGrouped (sha
 
   fits : (p : ℕ) → AllGood p ms → length ms ≤ 50000 → meanOf (a .total) days < 2 ^ 64
   fits p good few =
-      let t = total-small (countsAt a) (λ g. energyOfGroup pt g ms) (λ g h. rw (counts-at (tally ss) days g h, list-computed pt g ms) (energy-small p pt g ms good)) in
+      let t = total-small (countsAt a) (λ g. energyOfGroup pt g ms)
+      (λ g h. rw (counts-at (tally ss) days g h, list-computed pt g ms) (energy-small p pt g ms good)) in
       let same = known-same (countsAt a) (counts ss) (counts-at (tally ss) days) in
       omega (arith, mean-small (a .total) days, energy, same .0, same .1, all-standing ss grouped, shares-count pt ms)
 
@@ -110,7 +124,8 @@ module _ (pt : ℕ) (ms : List Movement) (days : ℕ) (grouped : AllGrouped (sha
         weighed = λ e.
             let same = known-same (countsAt a) (counts ss) (counts-at (tally ss) days) in
             let some = some-known ss grouped (shares-computed pt ms ∙ e) in
-            let n : knownSum (countsAt a) + unknownSum (countsAt a) ≡ length ms = omega (arith, same .0, same .1, all-standing ss grouped, shares-count pt ms) in
+            let n : knownSum (countsAt a) + unknownSum (countsAt a) ≡ length ms =
+            omega (arith, same .0, same .1, all-standing ss grouped, shares-count pt ms) in
             rw (← n) (weights-all (countsAt a) (omega (arith, same .0)));
         energy = energy;
         formulas = by-formulas;
@@ -156,7 +171,8 @@ load-alone fits shares days = go (eqb n 0) refl
           level = refl;
           counts =
               λ g h. let c =
-              repeated-at {A = Counts} groupCount g (record { computed = 0; missing = 0 }) in (ap (λ (x : Counts). x .computed) c, ap (λ (x : Counts). x .missing) c);
+              repeated-at {A = Counts} groupCount g (record { computed = 0; missing = 0 }) in
+              (ap (λ (x : Counts). x .computed) c, ap (λ (x : Counts). x .missing) c);
         }
 
 -- After any calls on an empty book of n rows and p points
@@ -167,10 +183,12 @@ module _ (p pt n : ℕ) (cs : List Made) where
 
   -- what is worked from the rows is worked from the list, where it is the same of every book that does not fit
   afresh : {A : Type 0} (k : Bool → List Share → A) → ((xs ys : List Share) → k false xs ≡ k false ys)
-      → k (sound p book && ltb pt p) (bookShares p pt book) ≡ k (sizesFit p n && ltb pt p) (sharesOf pt (movements p n cs))
+      → k (sound p book && ltb pt p) (bookShares p pt book) ≡ k (sizesFit p n && ltb pt p)
+      (sharesOf pt (movements p n cs))
   afresh k same = rw (history-sound p n cs) (go (sizesFit p n) (ltb pt p) refl)
     where
-      go : (z t : Bool) → ltb pt p ≡ t → k (z && t) (bookShares p pt book) ≡ k (z && t) (sharesOf pt (movements p n cs))
+      go : (z t : Bool) → ltb pt p ≡ t
+          → k (z && t) (bookShares p pt book) ≡ k (z && t) (sharesOf pt (movements p n cs))
       go false t e = same _ _
       go true false e = same _ _
       go true true e = ap (k true) (history-shares p pt n cs (ltb-true pt p e))
@@ -185,11 +203,13 @@ module _ (p pt n : ℕ) (cs : List Made) where
   verdict-afresh days limit = afresh (λ t ss. judgedOf t ss days limit) (λ xs ys. refl)
 
   refusals : (days : ℕ)
-      → LoadNumbers (InRange p n pt) (DaysInRange days) (NoneComputed (movements p n cs)) (bookLoad p pt book days .refused)
+      → LoadNumbers (InRange p n pt) (DaysInRange days) (NoneComputed (movements p n cs))
+      (bookLoad p pt book days .refused)
   unfolding listLoad
   refusals days =
       rw (load-afresh days)
-      (load-numbers (sizesFit p n && ltb pt p) (sharesOf pt (movements p n cs)) days (range-exactly p n pt) (days-exactly days) (ten-exactly pt (movements p n cs)))
+      (load-numbers (sizesFit p n && ltb pt p) (sharesOf pt (movements p n cs)) days (range-exactly p n pt)
+      (days-exactly days) (ten-exactly pt (movements p n cs)))
 
   counts-each : (days : ℕ) → bookLoad p pt book days .refused ≡ 0
       → CountsEach (bookLoad p pt book days) pt (movements p n cs) days
@@ -198,7 +218,8 @@ module _ (p pt n : ℕ) (cs : List Made) where
       let ss = sharesOf pt (movements p n cs) in
       let fits = sizesFit p n && ltb pt p in
       let e = load-afresh days ∙ load-answered fits ss days (rw (load-afresh days) at z) in
-      let room : length (movements p n cs) ≤ 50000 = omega (arith, told-all p n cs .same, refusals days .answered .0 z .0 .rows .1) in
+      let room : length (movements p n cs) ≤ 50000 =
+      omega (arith, told-all p n cs .same, refusals days .answered .0 z .0 .rows .1) in
       subst (λ (a : Load). CountsEach a pt (movements p n cs) days) (sym e)
       (answer-counts pt (movements p n cs) days (history-grouped p pt n cs) p (told-all p n cs .good) room)
 
@@ -210,11 +231,13 @@ module _ (p pt n : ℕ) (cs : List Made) where
       rw (load-afresh days, sizes, lt-ltb pt p there, fit, shares-computed pt (movements p n cs), some) refl
 
   verdict-refusals : (days limit : ℕ)
-      → VerdictNumbers (InRange p n pt) (DaysInRange days) (LimitInRange limit) (NoneComputed (movements p n cs)) (refusalNumber (bookVerdict p pt book days limit))
+      → VerdictNumbers (InRange p n pt) (DaysInRange days) (LimitInRange limit) (NoneComputed (movements p n cs))
+      (refusalNumber (bookVerdict p pt book days limit))
   unfolding listVerdict
   verdict-refusals days limit =
       rw (verdict-afresh days limit)
-      (verdict-numbers (sizesFit p n && ltb pt p) (sharesOf pt (movements p n cs)) days (range-exactly p n pt) (days-exactly days) (ten-exactly pt (movements p n cs)) limit (limit-exactly limit))
+      (verdict-numbers (sizesFit p n && ltb pt p) (sharesOf pt (movements p n cs)) days (range-exactly p n pt)
+      (days-exactly days) (ten-exactly pt (movements p n cs)) limit (limit-exactly limit))
 
   alone : (days : ℕ) → ¬ (bookLoad p pt book days .refused ≡ 0) → Alone (bookLoad p pt book days)
   unfolding bookLoad
@@ -235,5 +258,6 @@ module _ (p pt n : ℕ) (cs : List Made) where
 
 -- a book with no movement: total 0, and below zero
 pub no-movement : (days : ℕ) → daysFit days ≡ true → loadOf true [] days ≡ refusedLoad 0
-unfolding loadOf loadRefusal noneComputed anyComputed answer refusedLoad totalOf generalFactor scaledBy knownSum sumTo known tally sumOf levelOf
+unfolding loadOf loadRefusal noneComputed anyComputed answer refusedLoad totalOf generalFactor scaledBy knownSum
+    sumTo known tally sumOf levelOf
 no-movement days fit = rw (fit, zero-div (86400 * days)) refl

@@ -20,7 +20,8 @@ use Rattle.load_rules.specs.Shares.{Share, bookShares}
 use Rattle.load_rules.specs.Tally.{tally}
 use Rattle.load_rules.specs.Load.{daysFit, noneComputed, loadRefusal, answer, refusedLoad, loadOf, bookLoad}
 use Rattle.load_rules.specs.declared.Judged.the-variants.{Refused, Given}
-use Rattle.load_rules.specs.Verdict.{limitFits, verdictRefusal, refusalNumber, overNumber, judged, judgedOf, bookVerdict, Judging}
+use Rattle.load_rules.specs.Verdict.{limitFits, verdictRefusal, refusalNumber, overNumber, judged, judgedOf}
+use Rattle.load_rules.specs.Verdict.{bookVerdict, Judging}
 
 -- the answer of a verdict has the number that the rules give
 pub number-of : (n : ℕ) (v : Verdict) → refusalNumber (judged n v) ≡ n
@@ -47,7 +48,8 @@ level-of false ss days limit z = absurd (omega arith)
 level-of true ss days limit z = go (daysFit days) (limitFits limit) (noneComputed ss) z
   where
     go : (d l t : Bool) → refuse 11 d (refuse 15 l (refuse 10 (not t) 0)) ≡ 0
-        → cond (eqb (refuse 11 d (refuse 10 (not t) 0)) 0) (answer (tally ss) days) (refusedLoad (refuse 11 d (refuse 10 (not t) 0))) .level
+        → cond (eqb (refuse 11 d (refuse 10 (not t) 0)) 0) (answer (tally ss) days)
+        (refusedLoad (refuse 11 d (refuse 10 (not t) 0))) .level
         ≡ answer (tally ss) days .level
     go false l t e = absurd (omega arith)
     go true false t e = absurd (omega arith)
@@ -55,7 +57,8 @@ level-of true ss days limit z = go (daysFit days) (limitFits limit) (noneCompute
     go true true false e = refl
 
 over-level : (fits : Bool) (ss : List Share) (days limit : ℕ)
-    → overNumber (judgedOf fits ss days limit) ≡ cond (eqb (refusalNumber (judgedOf fits ss days limit)) 0) (verdictNumber (verdictOf (loadOf fits ss days .level) limit)) 0
+    → overNumber (judgedOf fits ss days limit) ≡ cond (eqb (refusalNumber (judgedOf fits ss days limit)) 0)
+    (verdictNumber (verdictOf (loadOf fits ss days .level) limit)) 0
 unfolding judgedOf
 over-level fits ss days limit =
     over-of n (verdictOf (answer (tally ss) days .level) limit)
@@ -65,7 +68,8 @@ over-level fits ss days limit =
     n = verdictRefusal fits ss days limit
 
     go : (t : Bool) → eqb n 0 ≡ t
-        → cond t (verdictNumber (verdictOf (answer (tally ss) days .level) limit)) 0 ≡ cond t (verdictNumber (verdictOf (loadOf fits ss days .level) limit)) 0
+        → cond t (verdictNumber (verdictOf (answer (tally ss) days .level) limit)) 0
+        ≡ cond t (verdictNumber (verdictOf (loadOf fits ss days .level) limit)) 0
     go true e = rw (level-of fits ss days limit (eqb-true n 0 e)) refl
     go false e = refl
 
@@ -82,7 +86,8 @@ judging {p} {pt} {b} {days} {limit} {r} e =
 -- over exactly if a verdict is given and the load's level is, and is greater than the limit
 pub over-exactly-when : (p pt : ℕ) (b : Book) (days limit : ℕ)
     → overNumber (bookVerdict p pt b days limit) ≡ 1
-    ↔ (refusalNumber (bookVerdict p pt b days limit) ≡ 0) × (levelGiven (bookLoad p pt b days .level) ≡ 1) × (limit < levelValue (bookLoad p pt b days .level))
+    ↔ (refusalNumber (bookVerdict p pt b days limit) ≡ 0) × (levelGiven (bookLoad p pt b days .level) ≡ 1)
+    × (limit < levelValue (bookLoad p pt b days .level))
 over-exactly-when p pt b days limit = go (eqb (refusalNumber r) 0) refl (judging {r = r} refl .over)
   where
     r : Judged
@@ -98,7 +103,8 @@ over-exactly-when p pt b days limit = go (eqb (refusalNumber r) 0) refl (judging
         (λ h. let h' = w .0 (sym o ∙ h) in (eqb-true _ 0 e, h' .0, h' .1), λ h. o ∙ w .1 (h .1, h .2))
     go false e o = (λ h. absurd (omega arith), λ h. absurd (eqb-false _ 0 e (h .0)))
 
-pub same-load : (p pt : ℕ) (b : Book) (days : ℕ) (r s : Load) → r ≡ bookLoad p pt b days → s ≡ bookLoad p pt b days
+pub same-load : (p pt : ℕ) (b : Book) (days : ℕ) (r s : Load) → r ≡ bookLoad p pt b days
+    → s ≡ bookLoad p pt b days
     → r ≡ s
 same-load p pt b days r s e f = e ∙ sym f
 

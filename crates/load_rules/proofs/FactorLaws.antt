@@ -4,13 +4,15 @@
 use mathlib.Core.Path.{_≡_, refl, sym, ap, _∙_}
 use mathlib.Core.Bool.{Bool, true, false, cond}
 use Prim.Native.Nat.{ℕ, zero, suc, _+_, _*_, _/_, _≤_, _<_}
-use native.Mathlib.Nat.{add-zero, add-mul, suc-mul, mul-assoc, mul-comm, mul-left-comm, mul-right-comm, mul-one, one-mul, mul-pos, eq-of-mul-eq-mul-left, div-mul-le-self, lt-div-mul-add}
+use native.Mathlib.Nat.{add-zero, add-mul, suc-mul, mul-assoc, mul-comm, mul-left-comm, mul-right-comm, mul-one}
+use native.Mathlib.Nat.{one-mul, mul-pos, eq-of-mul-eq-mul-left, div-mul-le-self, lt-div-mul-add}
 use native.Mathlib.Omega.{arith}
 use lib.Dec.{eqb, lit<}
 use borrow.Author.Tests.{eqb-true, eqb-false, ne-eqb, eq-eqb}
 use Rattle.movement.specs.Limits.{groupCount}
 use Rattle.load_rules.specs.declared.Counts.{Counts}
-use Rattle.load_rules.specs.Factors.{Fraction, wholeFraction, times, plus, Equal, RoundedDown, scaledBy, sumTo, known, unknown, knownSum, unknownSum, groupFactor, generalFactor}
+use Rattle.load_rules.specs.Factors.{Fraction, wholeFraction, times, plus, Equal, RoundedDown, scaledBy, sumTo}
+use Rattle.load_rules.specs.Factors.{known, unknown, knownSum, unknownSum, groupFactor, generalFactor}
 use Rattle.load_rules.specs.Afresh.{weightTo}
 use Rattle.load_rules.proofs.SumLaws.{sum-add, sum-ext}
 
@@ -55,15 +57,19 @@ computed-known c = go (eqb (c .computed) 0) refl
 pub known-same : (f h : ℕ → Counts) → ((g : ℕ) → g < groupCount → f g ≡ h g)
     → (knownSum f ≡ knownSum h) × (unknownSum f ≡ unknownSum h)
 unfolding knownSum unknownSum
-known-same f h e =
-    (sum-ext (λ g. known (f g)) (λ g. known (h g)) groupCount (λ g l. ap known (e g l)), sum-ext (λ g. unknown (f g)) (λ g. unknown (h g)) groupCount (λ g l. ap unknown (e g l)))
+known-same f h e = (
+  sum-ext (λ g. known (f g)) (λ g. known (h g)) groupCount (λ g l. ap known (e g l)),
+  sum-ext (λ g. unknown (f g)) (λ g. unknown (h g)) groupCount (λ g l. ap unknown (e g l)),
+)
 
-pub general-same : (f h : ℕ → Counts) → ((g : ℕ) → g < groupCount → f g ≡ h g) → generalFactor f ≡ generalFactor h
+pub general-same : (f h : ℕ → Counts) → ((g : ℕ) → g < groupCount → f g ≡ h g)
+    → generalFactor f ≡ generalFactor h
 unfolding generalFactor
 general-same f h e = cc (known-same f h e .0, known-same f h e .1)
 
 -- one group more: a/b so far is k·g/n, and the group adds t·g/n, as v·(t/v)·(g/n)
-more : (a b k g n v t : ℕ) → a * n ≡ k * g * b → (a * (1 * v * n) + v * t * g * b) * n ≡ (k + t) * g * (b * (1 * v * n))
+more : (a b k g n v t : ℕ) → a * n ≡ k * g * b
+    → (a * (1 * v * n) + v * t * g * b) * n ≡ (k + t) * g * (b * (1 * v * n))
 more a b k g n v t e =
     rw (add-mul, mul-right-comm a (1 * v * n) n, e, add-mul k t g, add-mul (k * g) (t * g) (b * (1 * v * n)))
     (simp (one-mul, mul-assoc, mul-comm, mul-left-comm))
@@ -71,7 +77,8 @@ more a b k g n v t e =
 module _ (f : ℕ → Counts) where
   -- the sum over the groups below n is that of their V + U, times the general factor
   so-far : zero < generalFactor f .lower → (n : ℕ) → (zero < weightTo f n .lower)
-      × (weightTo f n .upper * generalFactor f .lower ≡ sumTo (λ g. known (f g)) n * generalFactor f .upper * weightTo f n .lower)
+      × (weightTo f n .upper * generalFactor f .lower
+      ≡ sumTo (λ g. known (f g)) n * generalFactor f .upper * weightTo f n .lower)
   unfolding weightTo sumTo known
   so-far some zero = (lit< tt, omega arith)
   so-far some (suc n) = go (eqb (f n .computed) 0) refl (so-far some n .0) (so-far some n .1)
@@ -86,13 +93,15 @@ module _ (f : ℕ → Counts) where
           → weightTo f n .upper * generalFactor f .lower ≡ k * generalFactor f .upper * weightTo f n .lower
           → (zero < cond t (weightTo f n) added .lower)
           × (cond t (weightTo f n) added .upper * generalFactor f .lower
-          ≡ (k + cond t 0 (f n .computed + f n .missing)) * generalFactor f .upper * cond t (weightTo f n) added .lower)
+          ≡ (k + cond t 0 (f n .computed + f n .missing)) * generalFactor f .upper * cond t
+          (weightTo f n) added .lower)
       go true e pos q = (pos, rw add-zero q)
       go false e pos q =
           let z = eqb-false (f n .computed) 0 e in
           let v : zero < f n .computed = omega arith in (
             mul-pos pos (mul-pos (rw one-mul v) some),
-            more (weightTo f n .upper) (weightTo f n .lower) k (generalFactor f .upper) (generalFactor f .lower) (f n .computed) (f n .computed + f n .missing) q,
+            more (weightTo f n .upper) (weightTo f n .lower) k (generalFactor f .upper) (generalFactor f .lower)
+                (f n .computed) (f n .computed + f n .missing) q,
           )
 
   -- over all groups that is V + U + W
@@ -103,5 +112,7 @@ module _ (f : ℕ → Counts) where
         left = so-far some groupCount .0;
         right = lit< tt;
         cross =
-            rw mul-one (eq-of-mul-eq-mul-left (knownSum f) some _ _ (mul-comm (knownSum f) (weightTo f groupCount .upper) ∙ so-far some groupCount .1 ∙ mul-assoc (knownSum f) (knownSum f + unknownSum f) (weightTo f groupCount .lower)));
+            rw mul-one (eq-of-mul-eq-mul-left (knownSum f) some _ _
+            (mul-comm (knownSum f) (weightTo f groupCount .upper) ∙ so-far some groupCount .1
+            ∙ mul-assoc (knownSum f) (knownSum f + unknownSum f) (weightTo f groupCount .lower)));
       }

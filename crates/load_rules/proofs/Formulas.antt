@@ -9,7 +9,8 @@ use borrow.Author.Tests.{ne-eqb, lt-ltb}
 use Rattle.level.specs.Neighbours.{Quotient}
 use Rattle.movement.specs.Limits.{groupCount}
 use Rattle.load_rules.specs.declared.Counts.{Counts}
-use Rattle.load_rules.specs.Factors.{Fraction, RoundedDown, scaledBy, sumTo, known, unknown, knownSum, unknownSum, groupFactor, generalFactor}
+use Rattle.load_rules.specs.Factors.{Fraction, RoundedDown, scaledBy, sumTo, known, unknown, knownSum}
+use Rattle.load_rules.specs.Factors.{unknownSum, groupFactor, generalFactor}
 use Rattle.load_rules.specs.Afresh.{TotalHolds}
 use Rattle.load_rules.proofs.SumLaws.{sum-ext}
 use Rattle.load_rules.proofs.FactorLaws.{rounded-down, never-divided}
@@ -28,7 +29,8 @@ as-quotient : {x : Fraction} {e r : ℕ} → RoundedDown x e r → Quotient (e *
 as-quotient d = record { reached = d .reached; next = d .next }
 
 pub formulas : (f : ℕ → Counts) (s : ℕ → ℕ)
-    → TotalHolds (λ g. f g .computed) (λ g. f g .missing) s (scaledBy (generalFactor f) (sumTo (λ g. scaledBy (groupFactor (f g)) (s g)) groupCount))
+    → TotalHolds (λ g. f g .computed) (λ g. f g .missing) s
+    (scaledBy (generalFactor f) (sumTo (λ g. scaledBy (groupFactor (f g)) (s g)) groupCount))
 unfolding generalFactor knownSum unknownSum known unknown
 formulas f s =
     record {

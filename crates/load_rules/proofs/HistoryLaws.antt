@@ -10,7 +10,8 @@ use lib.Seq.{getD-append-add}
 use borrow.Author.Tests.{ne-eqb}
 use Rattle.movement.specs.Limits.{groupCount}
 use Rattle.book_rules.specs.Columns.{bookOf}
-use Rattle.book_rules.specs.History.{Held, Movement, markOf, levelsOf, column, identityCell, rowsOf, emptyBook, Made, booked, movements}
+use Rattle.book_rules.specs.History.{Held, Movement, markOf, levelsOf, column, identityCell, rowsOf, emptyBook, Made}
+use Rattle.book_rules.specs.History.{booked, movements}
 use Rattle.book_rules.specs.History.Held.{none, holds}
 use Rattle.book_rules.proofs.Standing.{AllGood}
 use Rattle.book_rules.proofs.History.{told-all}
@@ -36,7 +37,8 @@ module _ (p pt : ℕ) where
 
   -- the first row, and the others
   shares-cons : (x g m : ℕ) (w xs gs ms ls : List ℕ) → length w ≡ p → pt < p → (n : ℕ)
-      → sharesTo p pt (bookOf (x ∷ xs) (g ∷ gs) (m ∷ ms) (w ++ ls)) (suc n) ≡ rowShare x g m (getD w pt 0) ++ sharesTo p pt (bookOf xs gs ms ls) n
+      → sharesTo p pt (bookOf (x ∷ xs) (g ∷ gs) (m ∷ ms) (w ++ ls)) (suc n) ≡ rowShare x g m (getD w pt 0)
+      ++ sharesTo p pt (bookOf xs gs ms ls) n
   unfolding sharesTo
   shares-cons x g m w xs gs ms ls e h zero =
       rw (zero-mul, zero-add, List·getD-append w ls 0 pt (omega arith), append-nil) refl
@@ -45,7 +47,8 @@ module _ (p pt : ℕ) where
       rw (shares-cons x g m w xs gs ms ls e h n, q, getD-append-add w ls (n * p + pt) 0, append-assoc) refl
 
   -- one movement's row
-  row-held : (x g : ℕ) (h : Held) → 1 ≤ x → rowShare x g (markOf h) (getD (levelsOf p h) pt 0) ≡ heldShare pt g h ∷ []
+  row-held : (x g : ℕ) (h : Held) → 1 ≤ x
+      → rowShare x g (markOf h) (getD (levelsOf p h) pt 0) ≡ heldShare pt g h ∷ []
   unfolding rowShare heldShare markOf levelsOf
   row-held x g none l = rw (ne-eqb x 0 (omega arith)) refl
   row-held x g (holds ls) l = rw (ne-eqb x 0 (omega arith)) refl
@@ -55,7 +58,8 @@ module _ (p pt : ℕ) where
   unfolding rowsOf column sharesOf
   shares-rows u [] s h = shares-zeros (u * 1) _ _ _ _
   shares-rows u (a ∷ ms) s h =
-      shares-cons (a .identity) (a .group) (markOf (a .held)) (levelsOf p (a .held)) _ _ _ _ (s .0 .filled .wide) h (length (column identityCell 1 u ms))
+      shares-cons (a .identity) (a .group) (markOf (a .held)) (levelsOf p (a .held)) _ _ _ _ (s .0 .filled .wide) h
+      (length (column identityCell 1 u ms))
       ∙ rw (row-held (a .identity) (a .group) (a .held) (s .0 .low), shares-rows u ms (s .1) h) refl
 
   shares-grouped : (ms : List Movement) → AllGood p ms → AllGrouped (sharesOf pt ms)

@@ -20,7 +20,8 @@ use Rattle.load_rules.specs.Refusals.{NoneMarked, BookRefusals}
 use Rattle.load_rules.proofs.RefusalLaws.{days-exactly, limit-exactly, load-numbers, verdict-numbers}
 
 -- what holds of each number below k, and of k
-below-suc : {P : ℕ → Type 0} (k : ℕ) → ((i : ℕ) → i < k → P i) × P k ↔ ((i : ℕ) → i < suc k → P i)
+below-suc : {P : ℕ → Type 0} (k : ℕ)
+    → ((i : ℕ) → i < k → P i) × P k ↔ ((i : ℕ) → i < suc k → P i)
 below-suc {P} k = (
   λ b i h. ⊎-elim (λ (e : i ≡ k). subst P (sym e) (b .1)) (b .0 i) (eq-or-lt-of-le {n = i} {m = k} (omega arith)),
   λ f. (λ i h. f i (omega arith), f k (omega arith)),
@@ -43,7 +44,8 @@ unfolding rowShare anyComputed
 row-any x g m l = go (eqb x 0) refl (eqb m 0) refl
   where
     go : (s : Bool) → eqb x 0 ≡ s → (t : Bool) → eqb m 0 ≡ t
-        → anyComputed (cond s [] (cond t (lacks g) (has g (energyIn g l)) ∷ [])) ≡ false ↔ (¬ (x ≡ 0) → m ≡ 0)
+        → anyComputed (cond s [] (cond t (lacks g) (has g (energyIn g l)) ∷ [])) ≡ false ↔ (¬ (x ≡ 0)
+        → m ≡ 0)
     go true e t f = (λ h used. absurd (used (eqb-true x 0 e)), λ h. refl)
     go false e true f = (λ h used. eqb-true m 0 f, λ h. refl)
     go false e false f = (λ h. absurd (false≢true (sym h)), λ h. absurd (eqb-false m 0 f (h (eqb-false x 0 e))))
@@ -66,15 +68,20 @@ module _ (p pt : ℕ) (b : Book) where
   rows-any zero = (λ e i h. absurd (omega arith), λ f. refl)
   rows-any (suc k) =
       rw any-append
-      (Iff·trans (neither _ _) (Iff·trans (Iff·and (rows-any k) (row-any (getD (b .identities) k 0) (getD (b .groups) k 0) (getD (b .marks) k 0) (getD (b .levels) (k * p + pt) 0)))
+      (Iff·trans (neither _ _) (Iff·trans
+      (Iff·and (rows-any k) (row-any (getD (b .identities) k 0) (getD (b .groups) k 0) (getD (b .marks) k 0)
+      (getD (b .levels) (k * p + pt) 0)))
       (below-suc {P = λ i. ¬ (getD (b .identities) i 0 ≡ 0) → getD (b .marks) i 0 ≡ 0} k)))
 
-  rows-length : (k : ℕ) → length (sharesTo p pt b k) ≡ 0 ↔ ((i : ℕ) → i < k → getD (b .identities) i 0 ≡ 0)
+  rows-length : (k : ℕ) → length (sharesTo p pt b k) ≡ 0 ↔ ((i : ℕ) → i < k
+      → getD (b .identities) i 0 ≡ 0)
   unfolding sharesTo
   rows-length zero = (λ e i h. absurd (omega arith), λ f. refl)
   rows-length (suc k) =
       rw length-append
-      (Iff·trans no-sum (Iff·trans (Iff·and (rows-length k) (row-length (getD (b .identities) k 0) (getD (b .groups) k 0) (getD (b .marks) k 0) (getD (b .levels) (k * p + pt) 0)))
+      (Iff·trans no-sum (Iff·trans
+      (Iff·and (rows-length k) (row-length (getD (b .identities) k 0) (getD (b .groups) k 0)
+      (getD (b .marks) k 0) (getD (b .levels) (k * p + pt) 0)))
       (below-suc {P = λ i. getD (b .identities) i 0 ≡ 0} k)))
     where
       no-sum : {x y : ℕ} → x + y ≡ 0 ↔ (x ≡ 0) × (y ≡ 0)
@@ -85,7 +92,8 @@ module _ (p pt : ℕ) (b : Book) where
   marked-exactly =
       let n = length (b .identities) in
       let ss = sharesTo p pt b n in
-      let a = both (not (anyComputed ss)) (ltb 0 (length ss)) (Iff·trans (opposite (anyComputed ss)) (rows-any n)) (Iff·trans (less 0 (length ss)) (Iff·trans (above (length ss)) (Iff·not (rows-length n)))) in
+      let a = both (not (anyComputed ss)) (ltb 0 (length ss)) (Iff·trans (opposite (anyComputed ss)) (rows-any n))
+      (Iff·trans (less 0 (length ss)) (Iff·trans (above (length ss)) (Iff·not (rows-length n)))) in
       (λ e. record { stand = a .0 e .1; none-marked = a .0 e .0 }, λ r. a .1 (r .none-marked, r .stand))
     where
       above : (n : ℕ) → 0 < n ↔ ¬ (n ≡ 0)
@@ -99,5 +107,6 @@ module _ (p pt : ℕ) (b : Book) where
       record {
         load = load-numbers (sound p b && ltb pt p) (bookShares p pt b) days f (days-exactly days) marked-exactly;
         verdict =
-            λ limit. verdict-numbers (sound p b && ltb pt p) (bookShares p pt b) days f (days-exactly days) marked-exactly limit (limit-exactly limit);
+            λ limit. verdict-numbers (sound p b && ltb pt p) (bookShares p pt b) days f
+            (days-exactly days) marked-exactly limit (limit-exactly limit);
       }

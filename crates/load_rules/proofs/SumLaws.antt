@@ -46,7 +46,8 @@ unfolding sumTo
 sum-one h zero = rw (le-ltb h 0 (omega arith)) refl
 sum-one h (suc n) = go (eqb h n) refl (ltb h n) refl (sum-one h n)
   where
-    go : (b : Bool) → eqb h n ≡ b → (t : Bool) → ltb h n ≡ t → sumTo (λ g. cond (eqb h g) 1 0) n ≡ cond t 1 0
+    go : (b : Bool) → eqb h n ≡ b → (t : Bool) → ltb h n ≡ t
+        → sumTo (λ g. cond (eqb h g) 1 0) n ≡ cond t 1 0
         → sumTo (λ g. cond (eqb h g) 1 0) n + cond b 1 0 ≡ cond (ltb h (suc n)) 1 0
     go true e true l i = let q = eqb-true h n e in let w = ltb-true h n l in absurd (omega arith)
     go true e false l i = let q = eqb-true h n e in rw (lt-ltb h (suc n) (omega arith)) (omega arith)

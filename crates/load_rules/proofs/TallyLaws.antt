@@ -51,10 +51,12 @@ adds-one g (lacks h) = omega arith
 abbrev pub counted : List Share → ℕ
 counted ss = sumTo (λ g. tally ss g .computed + tally ss g .missing) groupCount
 
-counted-more : (s : Share) (ss : List Share) → counted (s ∷ ss) ≡ cond (ltb (groupIn s) groupCount) 1 0 + counted ss
+counted-more : (s : Share) (ss : List Share)
+    → counted (s ∷ ss) ≡ cond (ltb (groupIn s) groupCount) 1 0 + counted ss
 unfolding tally sumOf
 counted-more s ss =
-    sum-ext _ (λ g. cond (eqb (groupIn s) g) 1 0 + (tally ss g .computed + tally ss g .missing)) groupCount (λ g h. omega (arith, adds-one g s))
+    sum-ext _ (λ g. cond (eqb (groupIn s) g) 1 0 + (tally ss g .computed + tally ss g .missing)) groupCount
+    (λ g h. omega (arith, adds-one g s))
     ∙ sum-add (λ g. cond (eqb (groupIn s) g) 1 0) (λ g. tally ss g .computed + tally ss g .missing) groupCount
     ∙ ap (λ n. n + counted ss) (sum-one (groupIn s) groupCount)
 
@@ -88,9 +90,19 @@ some-computed : (ss : List Share) → AllGrouped ss → anyComputed ss ≡ true
 unfolding anyComputed tally sumOf addsComputed
 some-computed [] a e = absurd (false≢true e)
 some-computed (has g x ∷ ss) a e =
-    omega (arith, sum-add (λ h. cond (eqb g h) 1 0) (λ h. tally ss h .computed) groupCount, sum-one g groupCount ∙ ap (λ (t : Bool). cond t 1 0) (lt-ltb g groupCount (a .0)))
+    omega (
+      arith,
+      sum-add (λ h. cond (eqb g h) 1 0) (λ h. tally ss h .computed) groupCount,
+      sum-one g groupCount
+          ∙ ap (λ (t : Bool). cond t 1 0) (lt-ltb g groupCount (a .0)),
+    )
 some-computed (lacks g ∷ ss) a e =
-    omega (arith, sum-ext (λ h. 0 + tally ss h .computed) (λ h. tally ss h .computed) groupCount (λ h l. omega arith), some-computed ss (a .1) e)
+    omega (
+      arith,
+      sum-ext (λ h. 0 + tally ss h .computed) (λ h. tally ss h .computed) groupCount
+          (λ h l. omega arith),
+      some-computed ss (a .1) e,
+    )
 
 none-computed : (ss : List Share) → anyComputed ss ≡ false → (g : ℕ) → tally ss g .computed ≡ 0
 unfolding anyComputed tally sumOf addsComputed
@@ -101,12 +113,18 @@ none-computed (lacks h ∷ ss) e g = omega (arith, none-computed ss e g)
 pub some-known : (ss : List Share) → AllGrouped ss → anyComputed ss ≡ true → zero < knownSum (counts ss)
 unfolding knownSum
 some-known ss a e =
-    omega (arith, some-computed ss a e, sum-le (λ g. tally ss g .computed) (λ g. known (counts ss g)) groupCount (λ g h. computed-known (counts ss g)))
+    omega (
+      arith,
+      some-computed ss a e,
+      sum-le (λ g. tally ss g .computed) (λ g. known (counts ss g)) groupCount
+          (λ g h. computed-known (counts ss g)),
+    )
 
 none-known : (ss : List Share) → anyComputed ss ≡ false → knownSum (counts ss) ≡ 0
 unfolding knownSum known
 none-known ss e =
-    sum-ext (λ g. known (counts ss g)) (λ g. 0) groupCount (λ g h. rw (none-computed ss e g) refl) ∙ sum-zero groupCount
+    sum-ext (λ g. known (counts ss g)) (λ g. 0) groupCount (λ g h. rw (none-computed ss e g) refl)
+    ∙ sum-zero groupCount
 
 -- rule 10 by the sums: none known, some unknown
 pub rule-ten : (ss : List Share) → AllGrouped ss

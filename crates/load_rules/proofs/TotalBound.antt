@@ -41,7 +41,8 @@ held-small p pt g ls f =
     energy-le _ (omega (arith, periods-hold .weight g))
 
 one-small : (p pt g : ℕ) (m : Movement) → Filled p (m .held)
-    → cond (eqb (m .group) g) (heldEnergy pt (m .group) (m .held)) 0 ≤ cond (eqb (m .group) g && hasLevels (m .held)) 1 0 * maxEnergy
+    → cond (eqb (m .group) g) (heldEnergy pt (m .group) (m .held)) 0 ≤ cond
+    (eqb (m .group) g && hasLevels (m .held)) 1 0 * maxEnergy
 unfolding hasLevels heldEnergy
 one-small p pt g m = go (eqb (m .group) g) (m .held)
   where
@@ -60,7 +61,8 @@ energy-small p pt g (m ∷ ms) s =
 
 -- A group's scaled energy, their sum and the total
 
-scaled-small : (c : Counts) (e : ℕ) → e ≤ c .computed * maxEnergy → scaledBy (groupFactor c) e ≤ maxEnergy * known c
+scaled-small : (c : Counts) (e : ℕ) → e ≤ c .computed * maxEnergy
+    → scaledBy (groupFactor c) e ≤ maxEnergy * known c
 unfolding scaledBy known
 scaled-small c e h = go (eqb (c .computed) 0)
   where
@@ -69,18 +71,26 @@ scaled-small c e h = go (eqb (c .computed) 0)
     go true = omega arith
     go false = scaled-le e (c .computed + c .missing) (c .computed) maxEnergy h
 
-module _ (f : ℕ → Counts) (s : ℕ → ℕ) (each : (g : ℕ) → g < groupCount → s g ≤ f g .computed * maxEnergy) where
+module _ (f : ℕ → Counts) (s : ℕ → ℕ) (each : (g : ℕ) → g < groupCount
+    → s g ≤ f g .computed * maxEnergy) where
   sum-small : sumTo (λ g. scaledBy (groupFactor (f g)) (s g)) groupCount ≤ knownSum f * maxEnergy
   unfolding knownSum
   sum-small =
-      omega (arith, sum-le (λ g. scaledBy (groupFactor (f g)) (s g)) (λ g. maxEnergy * known (f g)) groupCount (λ g h. scaled-small (f g) (s g) (each g h)), sum-times maxEnergy (λ g. known (f g)) groupCount)
+      omega (
+        arith,
+        sum-le (λ g. scaledBy (groupFactor (f g)) (s g)) (λ g. maxEnergy * known (f g)) groupCount
+            (λ g h. scaled-small (f g) (s g) (each g h)),
+        sum-times maxEnergy (λ g. known (f g)) groupCount,
+      )
 
-  pub total-small : scaledBy (generalFactor f) (sumTo (λ g. scaledBy (groupFactor (f g)) (s g)) groupCount) ≤ maxEnergy * (knownSum f + unknownSum f)
+  pub total-small : scaledBy (generalFactor f) (sumTo (λ g. scaledBy (groupFactor (f g)) (s g)) groupCount) ≤
+      maxEnergy * (knownSum f + unknownSum f)
   unfolding scaledBy generalFactor
   total-small = go (eqb (knownSum f) 0)
     where
       go : (t : Bool)
-          → cond t 0 (sumTo (λ g. scaledBy (groupFactor (f g)) (s g)) groupCount * (knownSum f + unknownSum f) / knownSum f) ≤ maxEnergy * (knownSum f + unknownSum f)
+          → cond t 0 (sumTo (λ g. scaledBy (groupFactor (f g)) (s g)) groupCount *
+          (knownSum f + unknownSum f) / knownSum f) ≤ maxEnergy * (knownSum f + unknownSum f)
       go true = omega arith
       go false = scaled-le _ (knownSum f + unknownSum f) (knownSum f) maxEnergy sum-small
 

@@ -7,6 +7,7 @@ use Rattle.network.specs.Limits.{maxSide}
 use Rattle.network.specs.Edges.{Sides, WithinEdge}
 use Rattle.mapping.specs.Places.{rowOf, colOf}
 
-pub ends-small : {nx ny : ℕ} (e : Edge) → Sides nx ny → WithinEdge nx ny e → (rowOf e < maxSide) × (colOf e < maxSide)
+pub ends-small : {nx ny : ℕ} (e : Edge) → Sides nx ny → WithinEdge nx ny e
+    → (rowOf e < maxSide) × (colOf e < maxSide)
 ends-small (Horizontal row col) s w = (omega (arith, w .0, s .low), omega (arith, w .1, s .narrow))
 ends-small (Vertical row col) s w = (omega (arith, w .0, s .low), omega (arith, w .1, s .narrow))

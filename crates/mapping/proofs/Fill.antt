@@ -24,7 +24,8 @@ module _ (levels : List ℕ) (f : Frame) (v : ℕ) where
       ≡ placesOf levels f v ns ++ (shownOf (locatedOf levels f v n) .x ∷ shownOf (locatedOf levels f v n) .y ∷ [])
   unfolding placesOf
   places-last [] n = refl
-  places-last (m ∷ ns) n = ap (λ (l : List Float). shownOf (locatedOf levels f v m) .x ∷ shownOf (locatedOf levels f v m) .y ∷ l) (places-last ns n)
+  places-last (m ∷ ns) n = ap (λ (l : List Float). shownOf (locatedOf levels f v m) .x ∷ shownOf
+      (locatedOf levels f v m) .y ∷ l) (places-last ns n)
 
   pub length-numbers : (ns : List ℕ) → length (numbersOf levels f v ns) ≡ length ns
   unfolding numbersOf

@@ -37,22 +37,27 @@ both-leb a b c d = (
 module _ (levels : List ℕ) (f : Frame) (v : ℕ) where
   -- ---- many
 
-  numbers-at : (ns : List ℕ) (i : ℕ) → i < length ns → getD (numbersOf levels f v ns) i 0 ≡ shownOf (locatedOf levels f v (getD ns i 0)) .which
+  numbers-at : (ns : List ℕ) (i : ℕ) → i < length ns
+      → getD (numbersOf levels f v ns) i 0 ≡ shownOf (locatedOf levels f v (getD ns i 0)) .which
   unfolding numbersOf
   numbers-at [] i h = absurd (omega arith)
   numbers-at (n ∷ ns) zero h = refl
   numbers-at (n ∷ ns) (suc i) h = numbers-at ns i (omega arith)
 
   places-at : (ns : List ℕ) (i : ℕ) (d : Float) → i < length ns
-      → (getD (placesOf levels f v ns) (2 * i) d ≡ shownOf (locatedOf levels f v (getD ns i 0)) .x) × (getD (placesOf levels f v ns) (2 * i + 1) d ≡ shownOf (locatedOf levels f v (getD ns i 0)) .y)
+      → (getD (placesOf levels f v ns) (2 * i) d ≡ shownOf (locatedOf levels f v (getD ns i 0)) .x)
+      × (getD (placesOf levels f v ns) (2 * i + 1) d ≡ shownOf (locatedOf levels f v (getD ns i 0)) .y)
   unfolding placesOf
   places-at [] i d h = absurd (omega arith)
   places-at (n ∷ ns) zero d h = (refl, refl)
   places-at (n ∷ ns) (suc i) d h =
       let e : 2 * suc i ≡ suc (suc (2 * i)) = omega arith in
       let e' : 2 * suc i + 1 ≡ suc (suc (2 * i + 1)) = omega arith in
-      let r = places-at ns i d (omega arith) in
-      (ap (λ (k : ℕ). getD (placesOf levels f v (n ∷ ns)) k d) e ∙ r .0, ap (λ (k : ℕ). getD (placesOf levels f v (n ∷ ns)) k d) e' ∙ r .1)
+      let r = places-at ns i d (omega arith) in (
+        ap (λ (k : ℕ). getD (placesOf levels f v (n ∷ ns)) k d) e
+            ∙ r .0,
+        ap (λ (k : ℕ). getD (placesOf levels f v (n ∷ ns)) k d) e' ∙ r .1,
+      )
 
   module _ (edges which : List ℕ) (places : List Float) (answer : ℕ) (which' : List ℕ) (places' : List Float)
       (m : Many levels f v edges which places answer which' places') where
@@ -122,7 +127,8 @@ module _ (levels : List ℕ) (f : Frame) (v : ℕ) where
 
   -- ---- one crossing
 
-  module _ (n : ℕ) (which : List ℕ) (fraction : List Float) (answer : ℕ) (which' : List ℕ) (fraction' : List Float)
+  module _ (n : ℕ) (which : List ℕ) (fraction : List Float) (answer : ℕ) (which' : List ℕ)
+      (fraction' : List Float)
       (m : OneCrossing levels f v n which fraction answer which' fraction') where
     abbrev kinds : List ℕ
     kinds = whichOf (crossingOf levels f v n) ∷ []

@@ -1,4 +1,5 @@
--- The binary64 quotient of two whole numbers is the nearest value to their fraction, and keeps the fraction's order. Assumes nothing.
+-- The binary64 quotient of two whole numbers is the nearest value to their fraction, and keeps the fraction's
+-- order. Assumes nothing.
 use mathlib.Core.Path.{_≡_, refl, sym, ap, _∙_, subst}
 use mathlib.Core.Bool.{Bool, true, false, cond}
 use Prim.Native.Nat.{ℕ, zero, suc, _*_, _^_, _≤_, _<_}
@@ -21,7 +22,8 @@ unfolding ofInt
 whole-value n h = round-whole binary64 false n h
 
 -- a / b of two values that are whole numbers, b above 0
-div-at : (f : Format) (x y : Float) (a b : ℕ) → HasValue x false a 1 → HasValue y false b 1 → 0 < b → div f x y ≡ round f false a b
+div-at : (f : Format) (x y : Float) (a b : ℕ) → HasValue x false a 1 → HasValue y false b 1 → 0 < b
+    → div f x y ≡ round f false a b
 unfolding div
 div-at f nan y a b p q h = absurd p
 div-at f (inf s) y a b p q h = absurd p
@@ -32,11 +34,13 @@ div-at f (fin s m e) (fin t n d) a b p q h =
     let m-up : m * up e ≡ a * down e = sym (mul-one (m * up e)) ∙ p .1 in
     let above : 0 < n * up d = subst (λ (k : ℕ). 0 < k) (sym n-up) (mul-pos h (down-pos d)) in
     let n-pos : 0 < n = first-pos n (up d) above in
-    let cross : m * up e * down d * b ≡ a * (n * up d * down e) = rw (m-up, n-up) (simp (mul-assoc, mul-comm, mul-left-comm)) in
+    let cross : m * up e * down d * b ≡ a * (n * up d * down e) =
+    rw (m-up, n-up) (simp (mul-assoc, mul-comm, mul-left-comm)) in
     rw (ne-eqb n 0 (omega arith), p .0, q .0)
     (round-same f false (m * up e * down d) (n * up d * down e) a b (mul-pos above (down-pos e)) h cross)
 
-pub div-whole : (a b : ℕ) → a ≤ 2 ^ 53 → b ≤ 2 ^ 53 → 0 < b → div binary64 (whole a) (whole b) ≡ round binary64 false a b
+pub div-whole : (a b : ℕ) → a ≤ 2 ^ 53 → b ≤ 2 ^ 53 → 0 < b
+    → div binary64 (whole a) (whole b) ≡ round binary64 false a b
 div-whole a b p q h = div-at binary64 (whole a) (whole b) a b (whole-value a p) (whole-value b q) h
 
 -- of a ≤ b, it lies from 0 to 1

@@ -1,8 +1,11 @@
--- Sums and products of values that lie between whole numbers lie between the sums and products of those. Assumes nothing.
+-- Sums and products of values that lie between whole numbers lie between the sums and products of those. Assumes
+-- nothing.
 use mathlib.Core.Path.{_≡_, refl, sym, ap, _∙_, subst}
 use mathlib.Core.Bool.{Bool, true, false, not, _&&_, _||_, cond, Bool·beq, true≢false}
 use Prim.Native.Nat.{ℕ, zero, suc, _+_, _*_, _^_, _≤_, _<_}
-use native.Mathlib.Nat.{mul-one, one-mul, mul-pos, mul-comm, mul-assoc, mul-left-comm, mul-right-comm, mul-le-mul, mul-le-mul-right, le-of-mul-le-mul-right, le-of-eq, le-of-lt, le-trans, add-zero, mul-mul-mul-comm, add-mul}
+use native.Mathlib.Nat.{mul-one, one-mul, mul-pos, mul-comm, mul-assoc, mul-left-comm, mul-right-comm, mul-le-mul}
+use native.Mathlib.Nat.{mul-le-mul-right, le-of-mul-le-mul-right, le-of-eq, le-of-lt, le-trans, add-zero}
+use native.Mathlib.Nat.{mul-mul-mul-comm, add-mul}
 use native.Mathlib.Omega.{arith}
 use lib.Dec.{T, ltb, eqb, lit<, lit≤, ltb→lt, eqb→eq}
 use lib.IntN.{ℤ, pos}
@@ -31,10 +34,12 @@ unfolding le lt eq
 cross m n e d h =
     let a = m * up e * down d in
     let b = n * up d * down e in
-    or-elim (ltb a b) (level false a false b) h (λ l. omega (arith, ltb→lt a b l)) (λ q. le-of-eq (eqb→eq a b (and-l (eqb a b) (Bool·beq false false || eqb a 0) q)))
+    or-elim (ltb a b) (level false a false b) h (λ l. omega (arith, ltb→lt a b l))
+    (λ q. le-of-eq (eqb→eq a b (and-l (eqb a b) (Bool·beq false false || eqb a 0) q)))
 
 -- what lies between two values, rounded, of whole numbers
-between : (r l h : Float) (low high a c : ℕ) → (T (finite r) → HasValue r false a c) → HasValue l false low 1 → HasValue h false high 1 → T (le l r) → T (le r h) → Ranged r low high
+between : (r l h : Float) (low high a c : ℕ) → (T (finite r) → HasValue r false a c)
+    → HasValue l false low 1 → HasValue h false high 1 → T (le l r) → T (le r h) → Ranged r low high
 unfolding le lt eq
 between r nan h low high a c v p q s t = absurd p
 between r (inf b) h low high a c v p q s t = absurd p
@@ -49,14 +54,20 @@ between (fin false m e) (fin false n d) (fin true n′ d′) low high a c v p q 
 between (fin false m e) (fin false n d) (fin false n′ d′) low high a c v p q s t =
     let x : n * up d ≡ low * down d = sym (mul-one (n * up d)) ∙ p .1 in
     let y : n′ * up d′ ≡ high * down d′ = sym (mul-one (n′ * up d′)) ∙ q .1 in (
-      le-of-mul-le-mul-right (le-trans (le-of-eq (mul-right-comm low (down e) (down d) ∙ ap (λ (k : ℕ). k * down e) (sym x))) (cross n m d e s)) (down-pos d),
-      le-of-mul-le-mul-right (le-trans (cross m n′ e d′ t) (le-of-eq (ap (λ (k : ℕ). k * down e) y ∙ mul-right-comm high (down d′) (down e)))) (down-pos d′),
+      le-of-mul-le-mul-right (le-trans
+          (le-of-eq (mul-right-comm low (down e) (down d) ∙ ap (λ (k : ℕ). k * down e) (sym x)))
+          (cross n m d e s)) (down-pos d),
+      le-of-mul-le-mul-right (le-trans (cross m n′ e d′ t)
+          (le-of-eq (ap (λ (k : ℕ). k * down e) y ∙ mul-right-comm high (down d′) (down e)))) (down-pos d′),
     )
 
-round-ranged : (a c low high : ℕ) → 0 < c → low * c ≤ a → a ≤ high * c → low ≤ 2 ^ 53 → high ≤ 2 ^ 53 → Ranged (round binary64 false a c) low high
+round-ranged : (a c low high : ℕ) → 0 < c → low * c ≤ a → a ≤ high * c → low ≤ 2 ^ 53
+    → high ≤ 2 ^ 53 → Ranged (round binary64 false a c) low high
 round-ranged a c low high z p q l h =
-    between (round binary64 false a c) (round binary64 false low 1) (round binary64 false high 1) low high (grid binary64 a c) (2 ^ 1074)
-    (λ f. round-val binary64 a c (round-under binary64 a c f)) (round-whole binary64 false low l) (round-whole binary64 false high h)
+    between (round binary64 false a c) (round binary64 false low 1) (round binary64 false high 1) low high
+    (grid binary64 a c) (2 ^ 1074)
+    (λ f. round-val binary64 a c (round-under binary64 a c f)) (round-whole binary64 false low l)
+    (round-whole binary64 false high h)
     (round-mono binary64 low 1 a c (lit< tt) z (omega arith)) (round-mono binary64 a c high 1 z (lit< tt) (omega arith))
 
 pub whole-ranged : (n : ℕ) → n ≤ 2 ^ 53 → Ranged (whole n) n n
@@ -83,7 +94,8 @@ sum-high l l′ x y p q h k =
     let d : l′ * (p * q) ≡ l′ * q * p = ap (λ (n : ℕ). l′ * n) (mul-comm p q) ∙ sym (mul-assoc l′ q p) in
     omega (arith, add-mul l l′ (p * q))
 
-pub add-ranged : (x y : Float) (l h l′ h′ : ℕ) → Ranged x l h → Ranged y l′ h′ → l + l′ ≤ 2 ^ 53 → h + h′ ≤ 2 ^ 53 → Ranged (add binary64 x y) (l + l′) (h + h′)
+pub add-ranged : (x y : Float) (l h l′ h′ : ℕ) → Ranged x l h → Ranged y l′ h′ → l + l′ ≤ 2 ^ 53
+    → h + h′ ≤ 2 ^ 53 → Ranged (add binary64 x y) (l + l′) (h + h′)
 unfolding add sum
 add-ranged nan y l h l′ h′ p q u v = absurd p
 add-ranged (inf s) y l h l′ h′ p q u v = absurd p
@@ -92,10 +104,13 @@ add-ranged (fin false m e) nan l h l′ h′ p q u v = absurd q
 add-ranged (fin false m e) (inf t) l h l′ h′ p q u v = absurd q
 add-ranged (fin false m e) (fin true n d) l h l′ h′ p q u v = absurd q
 add-ranged (fin false m e) (fin false n d) l h l′ h′ p q u v =
-    round-ranged (m * up e * down d + n * up d * down e) (down e * down d) (l + l′) (h + h′) (mul-pos (down-pos e) (down-pos d))
-    (sum-low l l′ (m * up e) (n * up d) (down e) (down d) (p .0) (q .0)) (sum-high h h′ (m * up e) (n * up d) (down e) (down d) (p .1) (q .1)) u v
+    round-ranged (m * up e * down d + n * up d * down e) (down e * down d) (l + l′) (h + h′)
+    (mul-pos (down-pos e) (down-pos d))
+    (sum-low l l′ (m * up e) (n * up d) (down e) (down d) (p .0) (q .0))
+    (sum-high h h′ (m * up e) (n * up d) (down e) (down d) (p .1) (q .1)) u v
 
-pub mul-ranged : (x y : Float) (l h l′ h′ : ℕ) → Ranged x l h → Ranged y l′ h′ → l * l′ ≤ 2 ^ 53 → h * h′ ≤ 2 ^ 53 → Ranged (mul binary64 x y) (l * l′) (h * h′)
+pub mul-ranged : (x y : Float) (l h l′ h′ : ℕ) → Ranged x l h → Ranged y l′ h′ → l * l′ ≤ 2 ^ 53
+    → h * h′ ≤ 2 ^ 53 → Ranged (mul binary64 x y) (l * l′) (h * h′)
 unfolding mul
 mul-ranged nan y l h l′ h′ p q u v = absurd p
 mul-ranged (inf s) y l h l′ h′ p q u v = absurd p
@@ -114,11 +129,15 @@ unfolding ofInt
 at-least nan l h k p = absurd p
 at-least (inf s) l h k p = absurd p
 at-least (fin true m e) l h k p = absurd p
-at-least (fin false m e) l h k p = le-of-values (whole l) (fin false m e) l 1 (m * up e) (down e) (lit< tt) (down-pos e) (round-whole binary64 false l k) (refl, refl) (omega (arith, p .0))
+at-least (fin false m e) l h k p =
+    le-of-values (whole l) (fin false m e) l 1 (m * up e) (down e) (lit< tt) (down-pos e)
+    (round-whole binary64 false l k) (refl, refl) (omega (arith, p .0))
 
 pub at-most : (x : Float) (l h : ℕ) → h ≤ 2 ^ 53 → Ranged x l h → T (le x (whole h))
 unfolding ofInt
 at-most nan l h k p = absurd p
 at-most (inf s) l h k p = absurd p
 at-most (fin true m e) l h k p = absurd p
-at-most (fin false m e) l h k p = le-of-values (fin false m e) (whole h) (m * up e) (down e) h 1 (down-pos e) (lit< tt) (refl, refl) (round-whole binary64 false h k) (omega (arith, p .1))
+at-most (fin false m e) l h k p =
+    le-of-values (fin false m e) (whole h) (m * up e) (down e) h 1 (down-pos e) (lit< tt) (refl, refl)
+    (round-whole binary64 false h k) (omega (arith, p .1))

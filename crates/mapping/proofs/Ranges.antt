@@ -27,7 +27,8 @@ use Rattle.mapping.specs.declared.Asked.{Asked}
 use Rattle.mapping.specs.declared.Asked.the-variants.{Crossed, Refused}
 use Rattle.mapping.specs.declared.Mapped.{Mapped}
 use Rattle.mapping.specs.declared.Mapped.the-variants.{Place, Denied}
-use Rattle.mapping.specs.Fractions.{whole, fractionOf, alongEdge, isCrossed, crossingOf, whichOf, fractionShown, askedRefusal, askedWhich, askedFraction, crossingAsked}
+use Rattle.mapping.specs.Fractions.{whole, fractionOf, alongEdge, isCrossed, crossingOf, whichOf, fractionShown}
+use Rattle.mapping.specs.Fractions.{askedRefusal, askedWhich, askedFraction, crossingAsked}
 use Rattle.mapping.specs.Places.{rowOf, colOf, locate, locatedOf, mappedRefusal, mappedShown, mappedOf}
 use Rattle.mapping.specs.Ranges.{Within, Exactly, Divided, AlongRow, AlongColumn, None, ByNumber, Answered}
 use Rattle.mapping.proofs.Ends.{ends-small}
@@ -46,33 +47,47 @@ zero-within : Within 0 (whole 0) 1
 unfolding ofInt
 zero-within = fraction-within 0 1 (omega arith, omega arith)
 
-along-within : (levels : List ℕ) (nx v : ℕ) (e : Edge) → crossedEdge levels nx v e ≡ true → Within 0 (fractionShown (alongEdge levels nx v e)) 1
+along-within : (levels : List ℕ) (nx v : ℕ) (e : Edge) → crossedEdge levels nx v e ≡ true
+    → Within 0 (fractionShown (alongEdge levels nx v e)) 1
 along-within levels nx v (Horizontal row col) h = fraction-within _ _ (num-den v _ _ (astride v _ _ h))
 along-within levels nx v (Vertical row col) h = fraction-within _ _ (num-den v _ _ (astride v _ _ h))
 
 -- an edge that is in the network and crossed
-in-network : (levels : List ℕ) (f : Frame) (v n : ℕ) → isCrossed levels f v n ≡ true → (n < edges (f .columns) (f .rows)) × (crossedAt levels (f .columns) (f .rows) v n ≡ true)
-in-network levels f v n h = let p = both (ltb n (edges (f .columns) (f .rows))) (crossedAt levels (f .columns) (f .rows) v n) h in (ltb-true _ _ (p .0), p .1)
+in-network : (levels : List ℕ) (f : Frame) (v n : ℕ) → isCrossed levels f v n ≡ true
+    → (n < edges (f .columns) (f .rows)) × (crossedAt levels (f .columns) (f .rows) v n ≡ true)
+in-network levels f v n h = let p =
+    both (ltb n (edges (f .columns) (f .rows))) (crossedAt levels (f .columns) (f .rows) v n) h in
+    (ltb-true _ _ (p .0), p .1)
 
 -- ---- an edge that is asked for by its number
 
 divided : (v a b : ℕ) → ((a < v) × (v ≤ b)) ⊎ ((b < v) × (v ≤ a)) → Divided v a b (fractionOf v a b)
-divided v a b w = record { num = distance v a; den = distance b a; parts = parts v a b; quotient = refl; within = fraction-within _ _ (num-den v a b w) }
+divided v a b w = record {
+  num = distance v a;
+  den = distance b a;
+  parts = parts v a b;
+  quotient = refl;
+  within =
+      fraction-within _ _ (num-den v a b w);
+}
 
 module _ (levels : List ℕ) (f : Frame) (v n : ℕ) where
   -- the calls' refusals are those of the network and the contour level
   asked-refused : askedRefusal (crossingAsked levels f v n) ≡ contourRefusal levels f v
-  asked-refused = by-cond (λ (a : Asked). askedRefusal a ≡ contourRefusal levels f v) (eqb (contourRefusal levels f v) 0) _ _ (λ h. sym (eqb-true _ _ h)) (λ _. refl)
+  asked-refused = by-cond (λ (a : Asked). askedRefusal a ≡ contourRefusal levels f v)
+      (eqb (contourRefusal levels f v) 0) _ _ (λ h. sym (eqb-true _ _ h)) (λ _. refl)
 
   mapped-refused : mappedRefusal (mappedOf levels f v n) ≡ contourRefusal levels f v
-  mapped-refused = by-cond (λ (a : Mapped). mappedRefusal a ≡ contourRefusal levels f v) (eqb (contourRefusal levels f v) 0) _ _ (λ h. sym (eqb-true _ _ h)) (λ _. refl)
+  mapped-refused = by-cond (λ (a : Mapped). mappedRefusal a ≡ contourRefusal levels f v)
+      (eqb (contourRefusal levels f v) 0) _ _ (λ h. sym (eqb-true _ _ h)) (λ _. refl)
 
   -- the answered fraction is never under 0 or over 1
   pub fraction-range : Within 0 (askedFraction (crossingAsked levels f v n)) 1
   fraction-range =
       by-cond (λ (a : Asked). Within 0 (askedFraction a) 1) (eqb (contourRefusal levels f v) 0) _ _
       (λ _. by-cond (λ (c : Crossing). Within 0 (fractionShown c) 1) (isCrossed levels f v n) _ _
-      (λ h. along-within levels (f .columns) v (edgeAt (f .columns) (f .rows) n) (in-network levels f v n h .1)) (λ _. zero-within))
+      (λ h. along-within levels (f .columns) v (edgeAt (f .columns) (f .rows) n) (in-network levels f v n h .1))
+      (λ _. zero-within))
       (λ _. zero-within)
 
   module _ (z : contourRefusal levels f v ≡ 0) where
@@ -86,22 +101,29 @@ module _ (levels : List ℕ) (f : Frame) (v n : ℕ) where
     wide = k .sized .sides .wide
 
     -- a property of the crossing and the map point of edge e, which is crossed
-    crossed-at : (P : Asked → Mapped → Type 0) (e : Edge) → edgeAt (f .columns) (f .rows) n ≡ e → isCrossed levels f v n ≡ true
-        → P (Crossed (alongEdge levels (f .columns) v e)) (Place (locate (alongEdge levels (f .columns) v e) (rowOf e) (colOf e) f)) → Both P
+    crossed-at : (P : Asked → Mapped → Type 0) (e : Edge) → edgeAt (f .columns) (f .rows) n ≡ e
+        → isCrossed levels f v n ≡ true
+        → P (Crossed (alongEdge levels (f .columns) v e))
+        (Place (locate (alongEdge levels (f .columns) v e) (rowOf e) (colOf e) f)) → Both P
     crossed-at P e q h p = rw (eq-eqb (contourRefusal levels f v) 0 z, h, q) p
 
     none-at : isCrossed levels f v n ≡ false → Both (None levels f v)
     none-at h = rw (eq-eqb (contourRefusal levels f v) 0 z, h) (refl, refl)
 
     -- the edge of the number, whether it is crossed, and that it is one
-    is-crossed : (b : Bool) → n < edges (f .columns) (f .rows) → crossedAt levels (f .columns) (f .rows) v n ≡ b → isCrossed levels f v n ≡ b
+    is-crossed : (b : Bool) → n < edges (f .columns) (f .rows)
+        → crossedAt levels (f .columns) (f .rows) v n ≡ b → isCrossed levels f v n ≡ b
     is-crossed b l c = rw (lt-ltb _ _ l) c
 
-    exact : (index origin : ℕ) → index < maxSide → origin ≤ maxOrigin → Exactly (whole (index * f .spacing + origin)) (index * f .spacing + origin)
-    exact index origin i o = whole-value (index * f .spacing + origin) (omega (arith, mul-le-mul (le-of-lt i) (k .near)))
+    exact : (index origin : ℕ) → index < maxSide → origin ≤ maxOrigin
+        → Exactly (whole (index * f .spacing + origin)) (index * f .spacing + origin)
+    exact index origin i o = whole-value (index * f .spacing + origin)
+        (omega (arith, mul-le-mul (le-of-lt i) (k .near)))
 
-    along-row : (row col : ℕ) → row < f .rows → col + 1 < f .columns → crossedEdge levels (f .columns) v (Horizontal row col) ≡ true
-        → AlongRow levels f v row col (Crossed (alongEdge levels (f .columns) v (Horizontal row col))) (Place (locate (alongEdge levels (f .columns) v (Horizontal row col)) row col f))
+    along-row : (row col : ℕ) → row < f .rows → col + 1 < f .columns
+        → crossedEdge levels (f .columns) v (Horizontal row col) ≡ true
+        → AlongRow levels f v row col (Crossed (alongEdge levels (f .columns) v (Horizontal row col)))
+        (Place (locate (alongEdge levels (f .columns) v (Horizontal row col)) row col f))
     along-row row col h l x =
         let w = astride v _ _ x in
         let d = num-den v _ _ w in
@@ -113,8 +135,10 @@ module _ (levels : List ℕ) (f : Frame) (v n : ℕ) where
           y-exact = exact row (f .south) (s .0) (k .south);
         }
 
-    along-column : (row col : ℕ) → row + 1 < f .rows → col < f .columns → crossedEdge levels (f .columns) v (Vertical row col) ≡ true
-        → AlongColumn levels f v row col (Crossed (alongEdge levels (f .columns) v (Vertical row col))) (Place (locate (alongEdge levels (f .columns) v (Vertical row col)) row col f))
+    along-column : (row col : ℕ) → row + 1 < f .rows → col < f .columns
+        → crossedEdge levels (f .columns) v (Vertical row col) ≡ true
+        → AlongColumn levels f v row col (Crossed (alongEdge levels (f .columns) v (Vertical row col)))
+        (Place (locate (alongEdge levels (f .columns) v (Vertical row col)) row col f))
     along-column row col h l x =
         let w = astride v _ _ x in
         let d = num-den v _ _ w in
@@ -127,16 +151,22 @@ module _ (levels : List ℕ) (f : Frame) (v n : ℕ) where
         }
 
     -- the edge of a number m
-    crossed-number : (P : Asked → Mapped → Type 0) (e : Edge) (m : ℕ) → n ≡ m → edgeAt (f .columns) (f .rows) m ≡ e → m < edges (f .columns) (f .rows)
+    crossed-number : (P : Asked → Mapped → Type 0) (e : Edge) (m : ℕ) → n ≡ m
+        → edgeAt (f .columns) (f .rows) m ≡ e → m < edges (f .columns) (f .rows)
         → crossedAt levels (f .columns) (f .rows) v m ≡ true
-        → (crossedEdge levels (f .columns) v e ≡ true → P (Crossed (alongEdge levels (f .columns) v e)) (Place (locate (alongEdge levels (f .columns) v e) (rowOf e) (colOf e) f))) → Both P
+        → (crossedEdge levels (f .columns) v e ≡ true
+        → P (Crossed (alongEdge levels (f .columns) v e))
+        (Place (locate (alongEdge levels (f .columns) v e) (rowOf e) (colOf e) f))) → Both P
     crossed-number P e m q i l c p =
         let at : edgeAt (f .columns) (f .rows) n ≡ e = ap (edgeAt (f .columns) (f .rows)) q ∙ i in
-        let x : crossedAt levels (f .columns) (f .rows) v n ≡ true = ap (crossedAt levels (f .columns) (f .rows) v) q ∙ c in
+        let x : crossedAt levels (f .columns) (f .rows) v n ≡ true =
+        ap (crossedAt levels (f .columns) (f .rows) v) q ∙ c in
         crossed-at P e at (is-crossed true (omega arith) x) (p (sym (ap (crossedEdge levels (f .columns) v) at) ∙ x))
 
-    none-number : (m : ℕ) → n ≡ m → m < edges (f .columns) (f .rows) → (crossedAt levels (f .columns) (f .rows) v m ≡ true → ⊥) → Both (None levels f v)
-    none-number m q l c = none-at (is-crossed false (omega arith) (ap (crossedAt levels (f .columns) (f .rows) v) q ∙ isnt _ c))
+    none-number : (m : ℕ) → n ≡ m → m < edges (f .columns) (f .rows)
+        → (crossedAt levels (f .columns) (f .rows) v m ≡ true → ⊥) → Both (None levels f v)
+    none-number m q l c = none-at (is-crossed false (omega arith) (ap (crossedAt levels (f .columns) (f .rows) v) q
+        ∙ isnt _ c))
       where
         isnt : (b : Bool) → (b ≡ true → ⊥) → b ≡ false
         isnt true h = absurd (h refl)
@@ -148,11 +178,14 @@ module _ (levels : List ℕ) (f : Frame) (v n : ℕ) where
         let x = crossed-exactly levels (f .columns) (f .rows) v wide in
         record {
           row-crossed = λ row col h l q o.
-              crossed-number (AlongRow levels f v row col) (Horizontal row col) _ q (e .lying row col h l .1) (e .below row col .0 h l) (x .lying row col h l .1 o) (along-row row col h l);
+              crossed-number (AlongRow levels f v row col) (Horizontal row col) _ q (e .lying row col h l .1)
+              (e .below row col .0 h l) (x .lying row col h l .1 o) (along-row row col h l);
           row-not = λ row col h l q o. none-number _ q (e .below row col .0 h l) (λ t. o (x .lying row col h l .0 t));
           column-crossed = λ row col h l q o.
-              crossed-number (AlongColumn levels f v row col) (Vertical row col) _ q (e .standing row col h l .1) (e .below row col .1 h l) (x .standing row col h l .1 o) (along-column row col h l);
-          column-not = λ row col h l q o. none-number _ q (e .below row col .1 h l) (λ t. o (x .standing row col h l .0 t));
+              crossed-number (AlongColumn levels f v row col) (Vertical row col) _ q (e .standing row col h l .1)
+              (e .below row col .1 h l) (x .standing row col h l .1 o) (along-column row col h l);
+          column-not = λ row col h l q o. none-number _ q (e .below row col .1 h l)
+              (λ t. o (x .standing row col h l .0 t));
           past = λ h. none-at (rw (le-ltb n (edges (f .columns) (f .rows)) h));
         }
 
@@ -170,8 +203,10 @@ along-some : (levels : List ℕ) (nx v : ℕ) (e : Edge) → whichOf (alongEdge 
 along-some levels nx v (Horizontal row col) h = omega arith
 along-some levels nx v (Vertical row col) h = omega arith
 
-pub none-where : (levels : List ℕ) (f : Frame) (v n : ℕ) → isCrossed levels f v n ≡ false → whichOf (crossingOf levels f v n) ≡ 0
+pub none-where : (levels : List ℕ) (f : Frame) (v n : ℕ) → isCrossed levels f v n ≡ false
+    → whichOf (crossingOf levels f v n) ≡ 0
 none-where levels f v n h = rw h
 
-pub some-where : (levels : List ℕ) (f : Frame) (v n : ℕ) → isCrossed levels f v n ≡ true → whichOf (crossingOf levels f v n) ≡ 0 → ⊥
+pub some-where : (levels : List ℕ) (f : Frame) (v n : ℕ) → isCrossed levels f v n ≡ true
+    → whichOf (crossingOf levels f v n) ≡ 0 → ⊥
 some-where levels f v n h z = along-some levels (f .columns) v (edgeAt (f .columns) (f .rows) n) (rw h at z)

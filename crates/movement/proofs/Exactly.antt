@@ -45,17 +45,20 @@ refused-first n true rest f other = (λ e. absurd (other e), λ no. absurd (no (
 refused-first n false rest f other = (λ e a. false≢true (f .1 a), λ no. refl)
 
 -- and any other exactly where it is given further on and this fact holds
-pub refused-later : (n k : ℕ) (ok : Bool) (rest : ℕ) {A B : Type 0} → ok ≡ true ↔ A → ¬ (n ≡ k) → rest ≡ k ↔ B
+pub refused-later : (n k : ℕ) (ok : Bool) (rest : ℕ) {A B : Type 0} → ok ≡ true ↔ A → ¬ (n ≡ k)
+    → rest ≡ k ↔ B
     → refuse n ok rest ≡ k ↔ A × B
 refused-later n k true rest f other g = (λ e. (f .0 refl, g .0 e), λ h. g .1 (h .1))
 refused-later n k false rest f other g = (λ e. absurd (other e), λ h. absurd (false≢true (f .1 (h .0))))
 
 -- no refusal exactly where the last fact holds
-pub passed-last : (n : ℕ) (ok : Bool) {A : Type 0} → ok ≡ true ↔ A → ¬ (n ≡ 0) → refuse n ok 0 ≡ 0 ↔ A
+pub passed-last : (n : ℕ) (ok : Bool) {A : Type 0} → ok ≡ true ↔ A → ¬ (n ≡ 0)
+    → refuse n ok 0 ≡ 0 ↔ A
 passed-last n true f other = (λ e. f .0 refl, λ a. refl)
 passed-last n false f other = (λ e. absurd (other e), λ a. absurd (false≢true (f .1 a)))
 
 -- a number that neither this refusal nor a later one has is not given
-pub not-given : (n k : ℕ) (ok : Bool) (rest : ℕ) → ¬ (n ≡ k) → ¬ (rest ≡ k) → ¬ (refuse n ok rest ≡ k)
+pub not-given : (n k : ℕ) (ok : Bool) (rest : ℕ) → ¬ (n ≡ k) → ¬ (rest ≡ k)
+    → ¬ (refuse n ok rest ≡ k)
 not-given n k true rest a b = b
 not-given n k false rest a b = a

@@ -66,5 +66,6 @@ unfolding groupPeriod groupOf groupNumber
 group-period type kind second =
     let p = periodOf second in
     let below = period-below p in
-    ap periodNumbered {x = groupNumber (aircraftNumbered type) (kindNumbered kind) p % 3} {y = periodNumber p} (omega arith)
+    ap periodNumbered {x = groupNumber (aircraftNumbered type) (kindNumbered kind) p % 3} {y = periodNumber p}
+    (omega arith)
     ∙ period-numbered p

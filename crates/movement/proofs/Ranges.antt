@@ -17,12 +17,14 @@ use Rattle.movement.specs.Period.{periodOf, periodNumber, periodNumbered
 use Rattle.movement.specs.Group.{groupOf, groupPeriod}
 use Rattle.movement.specs.Rules.{fieldsFit, counts, movementRefusal, identityFits, levelsFit}
 use Rattle.movement.specs.Ranges.{FieldsInRange, LevelsInRange, RangesHold, PeriodsHold}
-use Rattle.movement.proofs.Exactly.{less, most, same, both, not-less, refused-first, refused-later, passed-last, not-given}
+use Rattle.movement.proofs.Exactly.{less, most, same, both, not-less, refused-first, refused-later}
+use Rattle.movement.proofs.Exactly.{passed-last, not-given}
 use Rattle.movement.proofs.Numbers.{group-of, group-period}
 
 -- Rule 1
 
-mass-of : (type mass : ℕ) → type < 3 → massFits (aircraftNumbered type) mass ≡ true ↔ (type ≡ 1 → mass < 6000)
+mass-of : (type mass : ℕ) → type < 3
+    → massFits (aircraftNumbered type) mass ≡ true ↔ (type ≡ 1 → mass < 6000)
 mass-of zero mass h = (λ e i. absurd (omega arith), λ f. refl)
 mass-of (suc zero) mass h = (λ e i. ltb-true mass 6000 e, λ f. lt-ltb mass 6000 (f refl))
 mass-of (suc (suc zero)) mass h = (λ e i. absurd (omega arith), λ f. refl)
@@ -43,10 +45,16 @@ fields-exactly type kind second mass = (
         in-the-day = ltb-true second 86400 (and-left _ _ s);
         mass-most = leb-true mass 1000000 (and-right (ltb second 86400) _ s);
         small-below =
-            mass-of type mass l .0 (and-right ((ltb type 3 && ltb kind 2) && (ltb second 86400 && leb mass 1000000)) _ e);
+            mass-of type mass l .0 (and-right ((ltb type 3 && ltb kind 2) && (ltb second 86400 && leb mass 1000000))
+            _ e);
       },
   λ f.
-      rw (lt-ltb type 3 (f .type<3), lt-ltb kind 2 (f .kind<2), lt-ltb second 86400 (f .in-the-day), le-leb mass 1000000 (f .mass-most))
+      rw (
+        lt-ltb type 3 (f .type<3),
+        lt-ltb kind 2 (f .kind<2),
+        lt-ltb second 86400 (f .in-the-day),
+        le-leb mass 1000000 (f .mass-most),
+      )
       (mass-of type mass (f .type<3) .1 (f .small-below)),
 )
 
@@ -60,7 +68,8 @@ identity-exactly : (x : ℕ) → identityFits x ≡ true ↔ (1 ≤ x) × (x ≤
 unfolding identityFits
 identity-exactly x = both (leb 1 x) (leb x 99999) (most 1 x) (most x 99999)
 
-all-exactly : (top : ℕ) (ls : List ℕ) → allWithin top ls ≡ true ↔ ((i : ℕ) → i < length ls → getD ls i 0 ≤ top)
+all-exactly : (top : ℕ) (ls : List ℕ)
+    → allWithin top ls ≡ true ↔ ((i : ℕ) → i < length ls → getD ls i 0 ≤ top)
 unfolding allWithin
 all-exactly top [] = (λ e i h. absurd (omega arith), λ f. refl)
 all-exactly top (x ∷ ls) = (
@@ -117,7 +126,8 @@ ranges-hold =
 module _ (s : ℕ) where
   -- the tests of the three edges, one after the other
   by-edges : (k : ℕ) {A : Type 0} → (s < 25200 → 2 ≡ k ↔ A) → (25200 ≤ s → s < 68400 → 0 ≡ k ↔ A)
-      → (68400 ≤ s → s < 82800 → 1 ≡ k ↔ A) → (82800 ≤ s → 2 ≡ k ↔ A) → periodNumber (periodOf s) ≡ k ↔ A
+      → (68400 ≤ s → s < 82800 → 1 ≡ k ↔ A) → (82800 ≤ s → 2 ≡ k ↔ A)
+      → periodNumber (periodOf s) ≡ k ↔ A
   by-edges k {A} early day evening late = go (ltb s 25200) refl (ltb s 68400) refl (ltb s 82800) refl
     where
       go : (a : Bool) → ltb s 25200 ≡ a → (b : Bool) → ltb s 68400 ≡ b → (c : Bool) → ltb s 82800 ≡ c
@@ -130,11 +140,13 @@ module _ (s : ℕ) where
   is-day : periodNumber (periodOf s) ≡ 0 ↔ (7 * 3600 ≤ s) × (s < 19 * 3600)
   is-day =
       by-edges 0 (λ h. (λ e. absurd (omega arith), λ r. absurd (omega arith))) (λ h l. (λ e. (h, l), λ r. refl))
-      (λ h l. (λ e. absurd (omega arith), λ r. absurd (omega arith))) (λ h. (λ e. absurd (omega arith), λ r. absurd (omega arith)))
+      (λ h l. (λ e. absurd (omega arith), λ r. absurd (omega arith)))
+      (λ h. (λ e. absurd (omega arith), λ r. absurd (omega arith)))
 
   is-evening : periodNumber (periodOf s) ≡ 1 ↔ (19 * 3600 ≤ s) × (s < 23 * 3600)
   is-evening =
-      by-edges 1 (λ h. (λ e. absurd (omega arith), λ r. absurd (omega arith))) (λ h l. (λ e. absurd (omega arith), λ r. absurd (omega arith)))
+      by-edges 1 (λ h. (λ e. absurd (omega arith), λ r. absurd (omega arith)))
+      (λ h l. (λ e. absurd (omega arith), λ r. absurd (omega arith)))
       (λ h l. (λ e. (h, l), λ r. refl)) (λ h. (λ e. absurd (omega arith), λ r. absurd (omega arith)))
 
   is-night : periodNumber (periodOf s) ≡ 2 ↔ ¬ ((7 * 3600 ≤ s) × (s < 23 * 3600))
@@ -157,4 +169,12 @@ group-weight g = weight-numbered (g % 3) (omega arith)
 
 pub periods-hold : PeriodsHold
 periods-hold =
-    record { day = is-day; evening = is-evening; night = is-night; group = group-of; period = group-period; weight = group-weight }
+    record {
+      day = is-day;
+      evening = is-evening;
+      night = is-night;
+      group = group-of;
+      period = group-period;
+      weight =
+          group-weight;
+    }

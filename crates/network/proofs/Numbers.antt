@@ -13,7 +13,8 @@ use Rattle.network.specs.Limits.{maxSide, maxEdges}
 use Rattle.network.specs.Edges.{Sides, horizontals, edges, numberOf, edgeAt, WithinEdge}
 
 -- by which way a test went
-pub by-cond : {X : Type 0} (P : X → Type 0) (b : Bool) (x y : X) → (b ≡ true → P x) → (b ≡ false → P y) → P (cond b x y)
+pub by-cond : {X : Type 0} (P : X → Type 0) (b : Bool) (x y : X) → (b ≡ true → P x)
+    → (b ≡ false → P y) → P (cond b x y)
 by-cond P true x y f g = f refl
 by-cond P false x y f g = g refl
 
@@ -37,15 +38,22 @@ module _ (nx ny : ℕ) (wide : 2 ≤ nx) where
       by-cond (WithinEdge nx ny) (ltb n (horizontals nx ny)) _ _
       (λ t. (row-lt n (nx - 1) ny (omega arith) (ltb-true _ _ t), more-one _ _ (mod-lt n (omega arith))))
       (λ f. (
-        more-one _ _ (row-lt (n - horizontals nx ny) nx (ny - 1) (omega arith) (omega (arith, ltb-false n (horizontals nx ny) f))),
+        more-one _ _ (row-lt (n - horizontals nx ny) nx (ny - 1) (omega arith)
+            (omega (arith, ltb-false n (horizontals nx ny) f))),
         mod-lt (n - horizontals nx ny) (omega arith),
       ))
 
   pub at-number : (e : Edge) → WithinEdge nx ny e → edgeAt nx ny (numberOf nx ny e) ≡ e
-  at-number (Horizontal row col) w = simp (lt-ltb _ _ (digits-lt (w .0) (less-one col nx (w .1))), digits-div row (less-one col nx (w .1)), digits-mod row (less-one col nx (w .1)))
+  at-number (Horizontal row col) w =
+      simp (
+        lt-ltb _ _ (digits-lt (w .0) (less-one col nx (w .1))),
+        digits-div row (less-one col nx (w .1)),
+        digits-mod row (less-one col nx (w .1)),
+      )
   at-number (Vertical row col) w =
       let k : horizontals nx ny + row * nx + col - horizontals nx ny ≡ row * nx + col = omega arith in
-      let f : ltb (horizontals nx ny + row * nx + col) (horizontals nx ny) ≡ _ = le-ltb (horizontals nx ny + row * nx + col) (horizontals nx ny) (omega arith) in
+      let f : ltb (horizontals nx ny + row * nx + col) (horizontals nx ny) ≡ _ =
+      le-ltb (horizontals nx ny + row * nx + col) (horizontals nx ny) (omega arith) in
       simp (f, k, digits-div row (w .1), digits-mod row (w .1))
 
   pub number-at : (n : ℕ) → n < edges nx ny → numberOf nx ny (edgeAt nx ny n) ≡ n

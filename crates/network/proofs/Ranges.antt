@@ -21,7 +21,8 @@ use Rattle.network.proofs.Refusals.{both, in-between, contour-then}
 
 -- ---- each test passes exactly if what it stands for holds
 
-all-in : (top : ℕ) (xs : List ℕ) → ((i : ℕ) → i < length xs → getD xs i 0 ≤ top) → allWithin top xs ≡ true
+all-in : (top : ℕ) (xs : List ℕ) → ((i : ℕ) → i < length xs → getD xs i 0 ≤ top)
+    → allWithin top xs ≡ true
 unfolding allWithin
 all-in top [] h = refl
 all-in top (x ∷ xs) h = rw (le-leb x top (h 0 (omega arith)), all-in top xs (λ i l. h (suc i) (omega arith)))
@@ -32,7 +33,8 @@ levels-right levels = (λ h i l. within-at 15000 levels i h, all-in 15000 levels
 contour-right : (v : ℕ) → (between 1 v 15000 ≡ true) ↔ RightContour v
 contour-right v = (λ h. in-between 1 v 15000 h, λ h. rw (le-leb 1 v (h .0), le-leb v 15000 (h .1)))
 
-frame-right : (levels : List ℕ) (f : Frame) → ((sided f && placed f && filled levels f) ≡ true) ↔ RightFrame levels f
+frame-right : (levels : List ℕ) (f : Frame)
+    → ((sided f && placed f && filled levels f) ≡ true) ↔ RightFrame levels f
 frame-right levels f = (right, λ r. passes r)
   where
     right : (sided f && placed f && filled levels f) ≡ true → RightFrame levels f
@@ -72,30 +74,48 @@ fails : {A : Type 0} {a : Bool} → (a ≡ true) ↔ A → a ≡ false → A →
 fails p f x = true≢false (sym (p .1 x) ∙ f)
 
 -- tests of A, B and C in the order 12, 13, 15, and `rest` after them
-module _ (A B C : Type 0) (rest : ℕ) (no12 : rest ≡ 12 → ⊥) (no13 : rest ≡ 13 → ⊥) (no15 : rest ≡ 15 → ⊥) where
+module _ (A B C : Type 0) (rest : ℕ) (no12 : rest ≡ 12 → ⊥) (no13 : rest ≡ 13 → ⊥) (no15 : rest ≡ 15
+    → ⊥) where
   abbrev answer : Bool → Bool → Bool → ℕ
   answer a b c = cond a (cond b (cond c rest 15) 13) 12
 
   abbrev Given : ℕ → Type 0
   Given n =
-      (((n ≡ 12) ↔ (A → ⊥)) × ((n ≡ 13) ↔ (A × (B → ⊥)))) × (((n ≡ 15) ↔ (A × (B × (C → ⊥)))) × ((n ≡ rest) ↔ (A × (B × C))))
+      (((n ≡ 12) ↔ (A → ⊥)) × ((n ≡ 13) ↔ (A × (B → ⊥))))
+      × (((n ≡ 15) ↔ (A × (B × (C → ⊥)))) × ((n ≡ rest) ↔ (A × (B × C))))
 
-  in-order : (a b c : Bool) → (a ≡ true) ↔ A → (b ≡ true) ↔ B → (c ≡ true) ↔ C → Given (answer a b c)
+  in-order : (a b c : Bool) → (a ≡ true) ↔ A → (b ≡ true) ↔ B → (c ≡ true) ↔ C
+      → Given (answer a b c)
   in-order true true true p q r = (
     ((λ h. absurd (no12 h), λ n. absurd (n (p .0 refl))), (λ h. absurd (no13 h), λ n. absurd (n .1 (q .0 refl)))),
-    ((λ h. absurd (no15 h), λ n. absurd (n .1 .1 (r .0 refl))), (λ h. (p .0 refl, (q .0 refl, r .0 refl)), λ n. refl)),
+    (
+      (λ h. absurd (no15 h), λ n. absurd (n .1 .1 (r .0 refl))),
+      (λ h. (p .0 refl, (q .0 refl, r .0 refl)), λ n. refl),
+    ),
   )
   in-order true true false p q r = (
-    ((λ h. absurd (omega arith), λ n. absurd (n (p .0 refl))), (λ h. absurd (omega arith), λ n. absurd (n .1 (q .0 refl)))),
-    ((λ h. (p .0 refl, (q .0 refl, fails r refl)), λ n. refl), (λ h. absurd (no15 (sym h)), λ n. absurd (fails r refl (n .1 .1)))),
+    (
+      (λ h. absurd (omega arith), λ n. absurd (n (p .0 refl))),
+      (λ h. absurd (omega arith), λ n. absurd (n .1 (q .0 refl))),
+    ),
+    (
+      (λ h. (p .0 refl, (q .0 refl, fails r refl)), λ n. refl),
+      (λ h. absurd (no15 (sym h)), λ n. absurd (fails r refl (n .1 .1))),
+    ),
   )
   in-order true false c p q r = (
     ((λ h. absurd (omega arith), λ n. absurd (n (p .0 refl))), (λ h. (p .0 refl, fails q refl), λ n. refl)),
-    ((λ h. absurd (omega arith), λ n. absurd (fails q refl (n .1 .0))), (λ h. absurd (no13 (sym h)), λ n. absurd (fails q refl (n .1 .0)))),
+    (
+      (λ h. absurd (omega arith), λ n. absurd (fails q refl (n .1 .0))),
+      (λ h. absurd (no13 (sym h)), λ n. absurd (fails q refl (n .1 .0))),
+    ),
   )
   in-order false b c p q r = (
     ((λ h. fails p refl, λ n. refl), (λ h. absurd (omega arith), λ n. absurd (fails p refl (n .0)))),
-    ((λ h. absurd (omega arith), λ n. absurd (fails p refl (n .0))), (λ h. absurd (no12 (sym h)), λ n. absurd (fails p refl (n .0)))),
+    (
+      (λ h. absurd (omega arith), λ n. absurd (fails p refl (n .0))),
+      (λ h. absurd (no12 (sym h)), λ n. absurd (fails p refl (n .0))),
+    ),
   )
 
 pub contour-refused : (levels : List ℕ) (f : Frame) (v rest : ℕ) → (rest ≡ 0) ⊎ (rest ≡ 14)
@@ -119,7 +139,11 @@ room-refused levels f v Enough b i =
     go : (b : Bool) → (b ≡ true) ↔ Enough
         → RoomRefused levels f v Enough (contourChecked maxNetworkLevel levels f v (refuse 14 b 0))
     go true i = record { enough = λ _. contour-refused levels f v 0 (inl refl); short = λ n. absurd (n (i .0 refl)) }
-    go false i = record { enough = λ e. absurd (fails i refl e); short = λ _. contour-refused levels f v 14 (inr refl) }
+    go false i = record {
+      enough = λ e. absurd (fails i refl e);
+      short =
+          λ _. contour-refused levels f v 14 (inr refl);
+    }
 
 -- without a contour level, the same with a third test that always passes
 pub network-refused : (levels : List ℕ) (f : Frame) → NetworkRefused levels f (networkRefusal levels f)

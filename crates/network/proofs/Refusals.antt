@@ -39,7 +39,8 @@ pub is-checked : (levels : List ℕ) (f : Frame) → (sided f && placed f && fil
 is-checked levels f h q =
     let p = both (sided f && placed f) (filled levels f) h in
     let s = both (sided f) (placed f) (p .0) in
-    let o = both (between leastSpacing (f .spacing) maxSpacing) (leb (f .west) maxOrigin && leb (f .south) maxOrigin) (s .1) in
+    let o = both (between leastSpacing (f .spacing) maxSpacing)
+    (leb (f .west) maxOrigin && leb (f .south) maxOrigin) (s .1) in
     let w = both (leb (f .west) maxOrigin) (leb (f .south) maxOrigin) (o .1) in
     record {
       sized = record { sides = sides-of f (s .0); full = eqb-true _ _ (p .1) };
@@ -88,7 +89,8 @@ module _ (max : ℕ) (levels : List ℕ) (f : Frame) where
       go true false e = absurd (omega arith)
       go false b e = absurd (omega arith)
 
-  pub checked-off : (rest : ℕ) → (checked max levels f 0 ≡ 0 → ⊥) → checked max levels f rest ≡ checked max levels f 0
+  pub checked-off : (rest : ℕ) → (checked max levels f 0 ≡ 0 → ⊥)
+      → checked max levels f rest ≡ checked max levels f 0
   checked-off rest h = go framed (allWithin max levels) h
     where
       go : (a b : Bool) → (_≡_ {A = ℕ} (cond a (cond b 0 13) 12) 0 → ⊥)
@@ -98,11 +100,13 @@ module _ (max : ℕ) (levels : List ℕ) (f : Frame) where
       go false b e = refl
 
   -- the same with a contour level: its refusal, and then the rest
-  pub contour-then : (v rest : ℕ) → contourChecked max levels f v rest ≡ first (contourChecked max levels f v 0) rest
+  pub contour-then : (v rest : ℕ)
+      → contourChecked max levels f v rest ≡ first (contourChecked max levels f v 0) rest
   contour-then v rest = go framed (allWithin max levels) (between leastContour v maxContour)
     where
       go : (a b c : Bool)
-          → _≡_ {A = ℕ} (cond a (cond b (cond c rest 15) 13) 12) (first (cond a (cond b (cond c 0 15) 13) 12) rest)
+          → _≡_ {A = ℕ} (cond a (cond b (cond c rest 15) 13) 12)
+          (first (cond a (cond b (cond c 0 15) 13) 12) rest)
       go true true true = refl
       go true true false = refl
       go true false c = refl

@@ -19,10 +19,11 @@ use Rattle.register.specs.declared.row.Fields.{Fields}
 use Rattle.register.specs.declared.row.Layout.{Layout}
 use Rattle.register.specs.declared.row.Answer.{Answer}
 use Rattle.register.specs.declared.row.Answer.the-variants.{Row, Refused}
-use Rattle.register.specs.Row.{pointsFit, layoutOf, cellsLayout, rowLayout, eightFrom, offLayout, fieldList, rowRefusal, RowRead}
+use Rattle.register.specs.Row.{pointsFit, layoutOf, cellsLayout, rowLayout, eightFrom, offLayout, fieldList}
+use Rattle.register.specs.Row.{rowRefusal, RowRead}
 use Rattle.register.proofs.Rows.{layout-points}
 use Rattle.okubinrafo.specs.Rows.{rowFault}
-use Rattle.room.proofs.Answers.{front-put, short-of, fine-but-short, refuse-two, write-two}
+use Rattle.room.proofs.Answers.{short-of, fine-but-short, refuse-two, write-two}
 
 -- a row has eight levels, zero past its points
 either-eight : (b : Bool) (x y : Layout) → length (x .levels) ≡ 8 → length (y .levels) ≡ 8
@@ -58,7 +59,8 @@ row-then points l room = either (eqb (l .refusal) 0) (λ e. rw e refl) (λ e. rw
 -- with room for the fields, the room that is looked at is that for the levels
 row-room : (points : ℕ) (line fields levels : List ℕ) → 6 ≤ length fields
     → thenRoom (rowFault (layoutOf points line))
-    (fitsIn (fieldList (layoutOf points line .fields)) fields && fitsIn (take points (layoutOf points line .levels)) levels)
+    (fitsIn (fieldList (layoutOf points line .fields)) fields && fitsIn (take points (layoutOf points line .levels))
+    levels)
     ≡ thenRoom (rowFault (layoutOf points line)) (leb points (length levels))
 unfolding rowFault
 row-room points line fields levels h =
@@ -122,4 +124,4 @@ module _ (points : ℕ) (line levels : List ℕ) {answer : Answer} {levels' : Li
       let put-in = rw none at (read .levels) in
       write-two (row-room points line fields levels h ∙ sym (row-then points layout (length levels)) ∙ none)
       (p ∙ ap (λ t. front t fields) got)
-      (put-in ∙ front-put levels (take points (layout .levels)))
+      put-in

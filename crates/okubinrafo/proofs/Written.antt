@@ -13,7 +13,7 @@ use Rattle.register.specs.declared.write.Written.{Written}
 use Rattle.register.specs.declared.write.Written.the-variants.{Size, Refused}
 use Rattle.register.specs.Write.{showRow, writeFault, writeRefusal, RowWritten}
 use Rattle.okubinrafo.specs.Rows.{fieldCount, fieldsFrom, numbersFault}
-use Rattle.room.proofs.Answers.{front-sets, front-put, short-of, fine-but-short, refuse-two, write-two}
+use Rattle.room.proofs.Answers.{front-sets, short-of, fine-but-short, refuse-two, write-two}
 
 and-true : (b : Bool) → (b && true) ≡ b
 and-true true = refl
@@ -87,7 +87,8 @@ module _ (points : ℕ) (f : Fields) (levels text : List ℕ) {answer : Written}
     both =
         let enough = leb (length (showRow f levels)) (length text) in
         rw (le-leb 1 (length size) h)
-        (ap (thenRoom (writeFault points f levels)) (and-true enough) ∙ sym (write-then points f levels (length text)))
+        (ap (thenRoom (writeFault points f levels)) (and-true enough)
+        ∙ sym (write-then points f levels (length text)))
 
     pub write-refused : {k : ℕ} → answer ≡ Refused k
         → WritesRow (writeFault points f levels) f levels text size k text' size
@@ -102,5 +103,5 @@ module _ (points : ℕ) (f : Fields) (levels text : List ℕ) {answer : Written}
         let none = sym (fine-of e) in
         let long : k ∷ [] ≡ length (showRow f levels) ∷ [] = rw (e, none) at (written .values) in
         let put-in = rw none at (written .bytes) in
-        write-two (both ∙ none) (put-in ∙ front-put text (showRow f levels))
+        write-two (both ∙ none) put-in
         (front-sets (k ∷ []) size (omega arith) ∙ ap (λ t. front t size) long)

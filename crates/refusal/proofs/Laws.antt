@@ -1,4 +1,5 @@
--- Laws on tests and refusals that every crate uses: what a test that passed says of its parts, and what a branch on a test says of the test.
+-- Laws on tests and refusals that every crate uses: what a test that passed says of its parts, and what a branch on
+-- a test says of the test.
 -- Assumes nothing.
 use mathlib.Core.Path.{_≡_, refl, sym, _∙_}
 use mathlib.Core.Bool.{Bool, true, false, not, _&&_, false≢true}
@@ -16,7 +17,8 @@ and-right true b e = e
 and-right false b e = absurd (false≢true e)
 
 -- no refusal here, and none further on
-pub refuse-none : (n : ℕ) (ok : Bool) (rest : ℕ) → 0 < n → refuse n ok rest ≡ 0 → (ok ≡ true) × (rest ≡ 0)
+pub refuse-none : (n : ℕ) (ok : Bool) (rest : ℕ) → 0 < n → refuse n ok rest ≡ 0
+    → (ok ≡ true) × (rest ≡ 0)
 refuse-none n true rest h e = (refl, e)
 refuse-none n false rest h e = absurd (omega arith)
 

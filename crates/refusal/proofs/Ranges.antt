@@ -20,7 +20,8 @@ drop-more xs i h = rw (add-one, drop-cons xs i 0 h)
 pub within-more : (top : ℕ) (xs : List ℕ) (i : ℕ) {t : Bool} → i < length xs → leb (getD xs i 0) top ≡ t
     → allWithin top (drop i xs) ≡ (t && allWithin top (drop (i + 1) xs))
 unfolding allWithin
-within-more top xs i h e = ap (allWithin top) (drop-more xs i h) ∙ ap (λ (b : Bool). b && allWithin top (drop (i + 1) xs)) e
+within-more top xs i h e = ap (allWithin top) (drop-more xs i h)
+    ∙ ap (λ (b : Bool). b && allWithin top (drop (i + 1) xs)) e
 
 -- all values are read
 pub within-end : (top : ℕ) (xs : List ℕ) (i : ℕ) → length xs ≤ i → allWithin top (drop i xs) ≡ true

@@ -59,7 +59,8 @@ time-free d n low =
     ∙ nil-free d low
 
 -- two digits that were read at a place are the text of their number
-two-text : (s : List ℕ) (at bound n : ℕ) → at + 2 ≤ length s → twoAt s at bound ≡ Got n → take 2 (drop at s) ≡ showDigits 2 n
+two-text : (s : List ℕ) (at bound n : ℕ) → at + 2 ≤ length s → twoAt s at bound ≡ Got n
+    → take 2 (drop at s) ≡ showDigits 2 n
 unfolding twoAt
 two-text s at bound n h e =
     let l : length (take 2 (drop at s)) ≡ 2 = length-take-le 2 (drop at s) (rw (length-drop at s) (omega arith)) in
@@ -67,7 +68,8 @@ two-text s at bound n h e =
 
 -- a time that was put together had all its parts
 clock-got : (a b c : Number) (n : ℕ) → clock a b c ≡ Got n
-    → (h : ℕ) × (m : ℕ) × (s : ℕ) × (a ≡ Got h) × (b ≡ Got m) × (c ≡ Got s) × (n ≡ h * 3600 + m * 60 + s)
+    → (h : ℕ) × (m : ℕ) × (s : ℕ) × (a ≡ Got h) × (b ≡ Got m) × (c ≡ Got s)
+    × (n ≡ h * 3600 + m * 60 + s)
 clock-got Off b c n e = let z : _≡_ {A = ℕ} 0 1 = cc in absurd (omega arith)
 clock-got (Got h) Off c n e = let z : _≡_ {A = ℕ} 0 1 = cc in absurd (omega arith)
 clock-got (Got h) (Got m) Off n e = let z : _≡_ {A = ℕ} 0 1 = cc in absurd (omega arith)
@@ -80,11 +82,13 @@ eight-apart s l =
     let three : length (drop 3 s) ≡ 5 = length-drop 3 s ∙ (let w : length s - 3 ≡ 5 = omega arith in w) in
     let six : length (drop 6 s) ≡ 2 = length-drop 6 s ∙ (let w : length s - 6 ≡ 2 = omega arith in w) in
     let last : drop 3 s ≡ take 2 (drop 3 s) ++ (getD s 5 0 ∷ take 2 (drop 6 s)) =
-    split-at (drop 3 s) 2 0 (omega arith) ∙ rw (getD-drop 3 s 2 0, drop-drop 3 3 s, take-all 2 (drop 6 s) (omega arith)) in
+    split-at (drop 3 s) 2 0 (omega arith)
+    ∙ rw (getD-drop 3 s 2 0, drop-drop 3 3 s, take-all 2 (drop 6 s) (omega arith)) in
     split-at s 2 0 (omega arith) ∙ ap (λ t. take 2 s ++ (getD s 2 0 ∷ t)) last
 
 time-text : (s : List ℕ) (h m x : ℕ) → length s ≡ 8 → getD s 2 0 ≡ 58 → getD s 5 0 ≡ 58
-    → take 2 (drop 0 s) ≡ showDigits 2 h → take 2 (drop 3 s) ≡ showDigits 2 m → take 2 (drop 6 s) ≡ showDigits 2 x
+    → take 2 (drop 0 s) ≡ showDigits 2 h → take 2 (drop 3 s) ≡ showDigits 2 m
+    → take 2 (drop 6 s) ≡ showDigits 2 x
     → s ≡ showDigits 2 h ++ (58 ∷ showDigits 2 m) ++ (58 ∷ showDigits 2 x)
 time-text s h m x l one two th tm tx = eight-apart s l ∙ rw (th, tm, tx, one, two)
 

@@ -1,4 +1,5 @@
--- Laws of a row's columns, over the column: its text reads back, has no comma and at most eight bytes, and a field that was
+-- Laws of a row's columns, over the column: its text reads back, has no comma and at most eight bytes, and a field
+-- that was
 -- read is the text of its value. Assumes nothing.
 use Prim.Native.Nat.{ℕ, zero, suc, _≤_, _<_}
 use mathlib.Core.Path.{_≡_, refl, sym, ap, _∙_}
@@ -73,7 +74,8 @@ shown-back (suc zero) v h = type-back v h
 shown-back (suc (suc zero)) v h = whole-back v h
 shown-back (suc (suc (suc zero))) v h = kind-back v h
 shown-back (suc (suc (suc (suc zero)))) v h = time-back v h
-shown-back (suc (suc (suc (suc (suc i))))) v h = level-filled (showLevel v) (λ e. omega (arith, level-least v)) ∙ level-back v h
+shown-back (suc (suc (suc (suc (suc i))))) v h = level-filled (showLevel v) (λ e. omega (arith, level-least v))
+    ∙ level-back v h
 
 pub shown-no-comma : (k v : ℕ) → v < topOf k → countOf 44 (shownCell k v) ≡ 0
 unfolding shownCell topOf
@@ -116,7 +118,8 @@ module _ (mark k v : ℕ) (h : v < topOf k) where
       (λ no. rw no (shown-back k v h))
 
 -- a field that was read is the text of its value, and the value has a text
-pub cell-exact : (k : ℕ) (t : List ℕ) (v : ℕ) → rowCell k t ≡ Got v → blankCell k t ≡ false → (t ≡ shownCell k v) × (v < topOf k)
+pub cell-exact : (k : ℕ) (t : List ℕ) (v : ℕ) → rowCell k t ≡ Got v → blankCell k t ≡ false
+    → (t ≡ shownCell k v) × (v < topOf k)
 unfolding rowCell shownCell topOf
 cell-exact zero t v e b = (whole-exact t v e, whole-small t v e)
 cell-exact (suc zero) t v e b = letter-exact _ t v e

@@ -52,31 +52,54 @@ on-layout n s e =
     let good = eqb (countOf 44 s + 1) (5 + n) && every (gotAt Register s) (5 + n) in
     let five : 5 + n - 5 ≡ n = omega arith in
     either good
-    (λ fine. let count = eqb-true (countOf 44 s + 1) (5 + n) (and-left (eqb (countOf 44 s + 1) (5 + n)) (every (gotAt Register s) (5 + n)) fine) in
+    (λ fine. let count = eqb-true (countOf 44 s + 1) (5 + n)
+    (and-left (eqb (countOf 44 s + 1) (5 + n)) (every (gotAt Register s) (5 + n)) fine) in
     let got = and-right (eqb (countOf 44 s + 1) (5 + n)) (every (gotAt Register s) (5 + n)) fine in
     either (eqb (many (blankAt s) (5 + n - 5)) 0)
-    (λ none. let zero = eqb-true (many (blankAt s) (5 + n - 5)) 0 none in
-    (1, record { count = count; got = got; blanks = λ i h. many-zero (blankAt s) n (rw five at zero) i h; most = omega arith; row = rw (fine, none) }))
+    (λ none. let zero = eqb-true (many (blankAt s) (5 + n - 5)) 0 none in (
+      1,
+      record {
+        count = count;
+        got = got;
+        blanks = λ i h. many-zero (blankAt s) n (rw five at zero) i h;
+        most =
+            omega arith;
+        row = rw (fine, none);
+      },
+    ))
     (λ some. either (eqb (many (blankAt s) (5 + n - 5)) n)
-    (λ all. let full = eqb-true (many (blankAt s) (5 + n - 5)) n all in
-    (0, record { count = count; got = got; blanks = λ i h. many-full (blankAt s) n (rw five at full) i h; most = omega arith; row = rw (fine, some, all) }))
+    (λ all. let full = eqb-true (many (blankAt s) (5 + n - 5)) n all in (
+      0,
+      record {
+        count = count;
+        got = got;
+        blanks = λ i h. many-full (blankAt s) n (rw five at full) i h;
+        most =
+            omega arith;
+        row = rw (fine, some, all);
+      },
+    ))
     (λ few. let z : _≡_ {A = ℕ} 16 0 = rw (fine, some, few) at e in absurd (omega arith))))
     (λ bad. let z : _≡_ {A = ℕ} 16 0 = rw bad at e in absurd (omega arith))
 
 -- each value in range, all in range
-within-each : (top : ℕ) (l : List ℕ) → ((i : ℕ) → i < length l → getD l i 0 ≤ top) → allWithin top l ≡ true
+within-each : (top : ℕ) (l : List ℕ) → ((i : ℕ) → i < length l → getD l i 0 ≤ top)
+    → allWithin top l ≡ true
 unfolding allWithin
 within-each top [] h = refl
-within-each top (v ∷ l) h = rw (le-leb v top (h 0 (omega arith))) (within-each top l (λ i b. h (suc i) (omega arith)))
+within-each top (v ∷ l) h =
+    rw (le-leb v top (h 0 (omega arith))) (within-each top l (λ i b. h (suc i) (omega arith)))
 
-module _ (n : ℕ) (s : List ℕ) (l : Layout) (mark : ℕ) (on : OnLayout n s l mark) (least : 1 ≤ n) (few : n ≤ 8) where
+module _ (n : ℕ) (s : List ℕ) (l : Layout) (mark : ℕ) (on : OnLayout n s l mark) (least : 1 ≤ n)
+    (few : n ≤ 8) where
   values : List ℕ
   values = listing (valueAt Register s) (5 + n) ++ replicate (13 - (5 + n)) 0
 
   value-at : (k : ℕ) → k < 5 + n → getD values k 0 ≡ valueAt Register s k
   unfolding values
   value-at k h =
-      List·getD-append (listing (valueAt Register s) (5 + n)) (replicate (13 - (5 + n)) 0) 0 k (rw (length-listing (valueAt Register s) (5 + n)) h)
+      List·getD-append (listing (valueAt Register s) (5 + n)) (replicate (13 - (5 + n)) 0) 0 k
+      (rw (length-listing (valueAt Register s) (5 + n)) h)
       ∙ listing-at (valueAt Register s) (5 + n) k 0 h
 
   -- the levels of the points
@@ -85,7 +108,8 @@ module _ (n : ℕ) (s : List ℕ) (l : Layout) (mark : ℕ) (on : OnLayout n s l
 
   taken-length : length taken ≡ n
   unfolding taken eightFrom
-  taken-length = length-take-le n (listing (λ i. getD values (5 + i) 0) 8) (rw (length-listing (λ i. getD values (5 + i) 0) 8) few)
+  taken-length = length-take-le n (listing (λ i. getD values (5 + i) 0) 8)
+      (rw (length-listing (λ i. getD values (5 + i) 0) 8) few)
 
   taken-at : (i : ℕ) → i < n → getD taken i 0 ≡ getD values (5 + i) 0
   unfolding taken eightFrom
@@ -99,7 +123,8 @@ module _ (n : ℕ) (s : List ℕ) (l : Layout) (mark : ℕ) (on : OnLayout n s l
       either (leb 5 k)
       (λ yes. let five = leb-true 5 k yes in
       let e : 5 + (k - 5) ≡ k = omega arith in
-      column-level (fieldsOf values mark) taken k five ∙ taken-at (k - 5) (omega arith) ∙ ap (λ j. getD values j 0) e ∙ value-at k h)
+      column-level (fieldsOf values mark) taken k five ∙ taken-at (k - 5) (omega arith)
+      ∙ ap (λ j. getD values j 0) e ∙ value-at k h)
       (λ no. head-value k (leb-false 5 k no) ∙ value-at k h)
     where
       head-value : (k : ℕ) → k < 5 → getD (columns (fieldsOf values mark) taken) k 0 ≡ getD values k 0
@@ -118,10 +143,13 @@ module _ (n : ℕ) (s : List ℕ) (l : Layout) (mark : ℕ) (on : OnLayout n s l
       either (leb 5 k)
       (λ yes. let five = leb-true 5 k yes in
       let e : 5 + (k - 5) ≡ k = omega arith in
-      let blank : eqb (length (fieldOf 44 k s)) 0 ≡ eqb mark 0 = ap (λ j. eqb (length (fieldOf 44 j s)) 0) (sym e) ∙ on .blanks (k - 5) (omega arith) in
+      let blank : eqb (length (fieldOf 44 k s)) 0 ≡ eqb mark 0 =
+      ap (λ j. eqb (length (fieldOf 44 j s)) 0) (sym e) ∙ on .blanks (k - 5) (omega arith) in
       either (eqb mark 0)
-      (λ none. none-long (fieldOf 44 k s) (eqb-true (length (fieldOf 44 k s)) 0 (blank ∙ none)) ∙ sym (text-blank mark k v five (eqb-true mark 0 none)))
-      (λ some. cell-exact k (fieldOf 44 k s) v got (rw yes (blank ∙ some)) .0 ∙ sym (text-marked mark k v (eqb-false mark 0 some))))
+      (λ none. none-long (fieldOf 44 k s) (eqb-true (length (fieldOf 44 k s)) 0 (blank ∙ none))
+      ∙ sym (text-blank mark k v five (eqb-true mark 0 none)))
+      (λ some. cell-exact k (fieldOf 44 k s) v got (rw yes (blank ∙ some)) .0
+      ∙ sym (text-marked mark k v (eqb-false mark 0 some))))
       (λ no. cell-exact k (fieldOf 44 k s) v got (rw no) .0 ∙ sym (text-head mark k v (leb-false 5 k no)))
     where
       none-long : (t : List ℕ) → length t ≡ 0 → t ≡ []
@@ -135,7 +163,8 @@ module _ (n : ℕ) (s : List ℕ) (l : Layout) (mark : ℕ) (on : OnLayout n s l
       let size : 5 + length taken ≡ suc (4 + n) = omega (arith, taken-length) in
       let count : countOf 44 s ≡ 4 + n = omega (arith, on .count) in
       rw size
-      (ap (joinedBy 44) (listing-same (textAt (fieldsOf values mark) taken) (λ k. fieldOf 44 k s) (suc (4 + n)) (λ k h.
+      (ap (joinedBy 44) (listing-same (textAt (fieldsOf values mark) taken) (λ k. fieldOf 44 k s) (suc (4 + n))
+      (λ k h.
       let b : k < 5 + n = omega arith in
       ap (cellText mark k) (column-value k b) ∙ sym (field-exact k b)))
       ∙ fields-joined 44 (4 + n) s count)
@@ -154,13 +183,20 @@ module _ (n : ℕ) (s : List ℕ) (l : Layout) (mark : ℕ) (on : OnLayout n s l
       let v = valueAt Register s (5 + i) in
       let got = got-value (cellAt Register s (5 + i)) (every-each (gotAt Register s) (5 + i) (5 + n) k (on .got)) in
       let blank = eqb-true (length (fieldOf 44 (5 + i) s)) 0 (on .blanks i b ∙ eq-eqb mark 0 z) in
-      omega (arith, taken-at i b, value-at (5 + i) k, cell-blank (5 + i) (fieldOf 44 (5 + i) s) v (omega arith) got blank))
+      omega (
+        arith,
+        taken-at i b,
+        value-at (5 + i) k,
+        cell-blank (5 + i) (fieldOf 44 (5 + i) s) v
+            (omega arith) got blank,
+      ))
 
   blank-taken : zeroWhereBlank mark taken ≡ true
   blank-taken = either (eqb mark 0) (λ none. rw none (zero-taken (eqb-true mark 0 none))) (λ some. rw some)
 
   -- and it can be written where it was not refused
-  fault-again : faultOf (fieldsOf values mark) (allWithin 12000 (eightFrom 5 values)) ≡ 0 → writeFault n (fieldsOf values mark) taken ≡ 0
+  fault-again : faultOf (fieldsOf values mark) (allWithin 12000 (eightFrom 5 values)) ≡ 0
+      → writeFault n (fieldsOf values mark) taken ≡ 0
   unfolding writeFault faultOf rowLevelsFit levelsFit
   fault-again e =
       let f = fieldsOf values mark in
@@ -215,12 +251,14 @@ read-writable n s room e =
 -- a call that read a row, and a call that writes what was read: the same bytes, with its CRLF
 pub read-back : {n : ℕ} {line held got old new : List ℕ} {read : Answer} {answer : Written}
     → RowRead n line held read got → answerNumber read ≡ 0
-    → RowWritten n (layoutOf n line .fields) (take n (layoutOf n line .levels)) old answer new → length (bareLine line) + 2 ≤ length old
+    → RowWritten n (layoutOf n line .fields) (take n (layoutOf n line .levels)) old answer new
+    → length (bareLine line) + 2 ≤ length old
     → (writtenNumber answer ≡ 0) × (new ≡ front (bareLine line ++ crlf) old)
 unfolding writeRefusal
 read-back {n} {line} {held} {got} {old} r e w room =
     let none = sym (r .number) ∙ e in
     let text = layout-exact n line (row-none n (layoutOf n line) (length held) none .0) in
-    let fits = le-leb (length (bareLine line ++ (13 ∷ 10 ∷ []))) (length old) (rw (length-append (bareLine line) (13 ∷ 10 ∷ [])) room) in
+    let fits = le-leb (length (bareLine line ++ (13 ∷ 10 ∷ []))) (length old)
+    (rw (length-append (bareLine line) (13 ∷ 10 ∷ [])) room) in
     let zero = read-writable n line (length held) none in
     (w .number ∙ rw (zero, text, fits), w .bytes ∙ rw (zero, text, fits))

@@ -33,9 +33,11 @@ module _ (c : ℕ) (ls : List ℕ) (i : ℕ) where
   unfolding placeOf
   place-hit h e = let z : i + 0 ≡ i = omega arith in rw (drop-cons ls i 0 h, eq-eqb c (getD ls i 0) e, z)
 
-  pub place-miss : i < length ls → (c ≡ getD ls i 0 → ⊥) → moved i (placeOf c (drop i ls)) ≡ moved (i + 1) (placeOf c (drop (i + 1) ls))
+  pub place-miss : i < length ls → (c ≡ getD ls i 0 → ⊥)
+      → moved i (placeOf c (drop i ls)) ≡ moved (i + 1) (placeOf c (drop (i + 1) ls))
   unfolding placeOf
-  place-miss h e = rw (drop-cons ls i 0 h, ne-eqb c (getD ls i 0) e) (moved-later i (placeOf c (drop (suc i) ls)) ∙ rw (add-one i))
+  place-miss h e = rw (drop-cons ls i 0 h, ne-eqb c (getD ls i 0) e) (moved-later i (placeOf c (drop (suc i) ls))
+      ∙ rw (add-one i))
 
   pub place-end : length ls ≤ i → moved i (placeOf c (drop i ls)) ≡ Off
   unfolding placeOf
@@ -64,7 +66,8 @@ one-byte [] l = absurd (omega arith)
 one-byte (c ∷ []) l = refl
 one-byte (c ∷ d ∷ t) l = absurd (omega arith)
 
-pub letter-exact : (ls t : List ℕ) (n : ℕ) → letterOf ls t ≡ Got n → (t ≡ showLetter ls n) × (n < length ls)
+pub letter-exact : (ls t : List ℕ) (n : ℕ) → letterOf ls t ≡ Got n
+    → (t ≡ showLetter ls n) × (n < length ls)
 unfolding letterOf
 letter-exact ls t n e =
     let p = passed (eqb (length t) 1) (placeOf (getD t 0 0) ls) n e in

@@ -38,9 +38,11 @@ front-line (suc k) (c ∷ t) h =
     rw (getD-take k t 0 0 some)
     (either (eqb c 13 && eqb (getD t 0 0) 10)
     (λ yes. rw yes)
-    (λ no. let l : suc (length (firstLine t)) + 2 ≤ suc k = rw no at h in rw no (ap (λ x. c ∷ x) (front-line k t (omega arith)))))
+    (λ no. let l : suc (length (firstLine t)) + 2 ≤ suc k = rw no at h in
+    rw no (ap (λ x. c ∷ x) (front-line k t (omega arith)))))
 
-front-long : (m : ℕ) (s : List ℕ) → m < length (firstLine s) + 2 → m ≤ length s → m ≤ length (firstLine (take m s))
+front-long : (m : ℕ) (s : List ℕ) → m < length (firstLine s) + 2 → m ≤ length s
+    → m ≤ length (firstLine (take m s))
 unfolding firstLine
 front-long zero s h l = omega arith
 front-long (suc k) [] h l = absurd (omega arith)
@@ -68,7 +70,8 @@ unfolding span width
 span-most zero = omega arith
 span-most (suc n) = omega (arith, span-most n, comma-most (suc n))
 
-pub limits-short : (n : ℕ) (s : List ℕ) → n ≤ 8 → cellsOf table.LimitsFile (1 + n) s .read ≡ true → length s ≤ 63
+pub limits-short : (n : ℕ) (s : List ℕ) → n ≤ 8 → cellsOf table.LimitsFile (1 + n) s .read ≡ true
+    → length s ≤ 63
 unfolding cellsOf
 limits-short n s few e =
     let a = eqb (countOf 44 s + 1) (1 + n) in
@@ -77,7 +80,9 @@ limits-short n s few e =
     (λ fine. let count : countOf 44 s ≡ n = omega (arith, eqb-true (countOf 44 s + 1) (1 + n) (and-left a b fine)) in
     let all = line-within width (λ k. fieldOf 44 k s) (suc n) (λ i h.
     let l : i < 1 + n = omega arith in
-    cell-within i (fieldOf 44 i s) (valueAt table.LimitsFile s i) (got-value (cellAt table.LimitsFile s i) (every-each (gotAt table.LimitsFile s) i (1 + n) l (and-right a b fine)))) in
+    cell-within i (fieldOf 44 i s) (valueAt table.LimitsFile s i)
+    (got-value (cellAt table.LimitsFile s i)
+    (every-each (gotAt table.LimitsFile s) i (1 + n) l (and-right a b fine)))) in
     omega (arith, ap length (fields-joined 44 n s count), all, span-most n))
     (λ bad. let z : false ≡ true = rw bad at e in let y : _≡_ {A = ℕ} 0 1 = cc in absurd (omega arith))
 
@@ -89,7 +94,8 @@ long-off n s few h =
 
 -- the second line of a front
 second-front : (n : ℕ) (t : List ℕ) (m : ℕ) → n ≤ 8 → 98 ≤ m → m ≤ length t
-    → secondLimits n (firstLine t) (1 + length (linesOf t)) ≡ secondLimits n (firstLine (take m t)) (1 + length (linesOf (take m t)))
+    → secondLimits n (firstLine t) (1 + length (linesOf t)) ≡ secondLimits n (firstLine (take m t))
+    (1 + length (linesOf (take m t)))
 unfolding secondLimits
 second-front n t m few wide fits =
     let l = length (firstLine t) in
@@ -98,10 +104,23 @@ second-front n t m few wide fits =
     (λ yes. let same = front-line m t (leb-true (l + 2) m yes) in
     either (cellsOf table.LimitsFile (1 + n) (firstLine t) .read)
     (λ read. let short = limits-short n (firstLine t) few read in
-    rw (same, read, lines-one t, lines-one (take m t), same, size, lt-leb (length t) (l + 2) (omega arith), lt-leb m (l + 2) (omega arith)))
+    rw (
+      same,
+      read,
+      lines-one t,
+      lines-one (take m t),
+      same,
+      size,
+      lt-leb (length t) (l + 2) (omega arith),
+      lt-leb m (l + 2) (omega arith),
+    ))
     (λ off. rw (same, off)))
     (λ no. let long = leb-false (l + 2) m no in
-    rw (long-off n (firstLine t) few (omega arith), long-off n (firstLine (take m t)) few (omega (arith, front-long m t long fits))))
+    rw (
+      long-off n (firstLine t) few (omega arith),
+      long-off n (firstLine (take m t)) few
+          (omega (arith, front-long m t long fits)),
+    ))
 
 -- a header has at most 28 bytes
 header-off : (s : List ℕ) → 28 < length s → headerOf limitsHeader 4 s ≡ Off
@@ -112,7 +131,8 @@ header-most : (s : List ℕ) (n : ℕ) → headerOf limitsHeader 4 s ≡ Got n �
 header-most s n e =
     either (leb (length s) 28)
     (λ yes. leb-true (length s) 28 yes)
-    (λ no. let x : Off ≡ Got n = sym (header-off s (leb-false (length s) 28 no)) ∙ e in let z : _≡_ {A = ℕ} 0 1 = cc in absurd (omega arith))
+    (λ no. let x : Off ≡ Got n = sym (header-off s (leb-false (length s) 28 no)) ∙ e in
+    let z : _≡_ {A = ℕ} 0 1 = cc in absurd (omega arith))
 
 -- limits.csv by its first line and what follows
 opened : (s : List ℕ) → 1 ≤ length s → let t = drop (length (firstLine s) + 2) s in
@@ -122,7 +142,9 @@ opened s h =
     let t = drop (length (firstLine s) + 2) s in
     rw (lines-first s, lines-next s 0 h ∙ lines-first t, lines-rest s h)
 
-headed-same : (r : Number) (a b : List ℕ) (j k : ℕ) → ((n : ℕ) → r ≡ Got n → secondLimits n a j ≡ secondLimits n b k) → headedLimits r a j ≡ headedLimits r b k
+headed-same : (r : Number) (a b : List ℕ) (j k : ℕ)
+    → ((n : ℕ) → r ≡ Got n → secondLimits n a j ≡ secondLimits n b k)
+    → headedLimits r a j ≡ headedLimits r b k
 headed-same Off a b j k h = refl
 headed-same (Got n) a b j k h = h n refl
 
@@ -138,10 +160,12 @@ limits-front s h =
     (λ yes. let near = leb-true (l + 2) 128 yes in
     let same = front-line 128 s near in
     let rest : drop (l + 2) p ≡ take (128 - (l + 2)) (drop (l + 2) s) =
-    ap (λ k. drop (l + 2) (take k s)) (let w : 128 ≡ l + 2 + (128 - (l + 2)) = omega arith in w) ∙ drop-take (l + 2) (128 - (l + 2)) s (omega arith) in
+    ap (λ k. drop (l + 2) (take k s)) (let w : 128 ≡ l + 2 + (128 - (l + 2)) = omega arith in w)
+    ∙ drop-take (l + 2) (128 - (l + 2)) s (omega arith) in
     opened s (omega arith)
     ∙ headed-same (headerOf limitsHeader 4 (firstLine s)) _ _ _ _ (λ n e.
-    second-front n (drop (l + 2) s) (128 - (l + 2)) (header-range limitsHeader 4 (firstLine s) n e .1) (omega (arith, header-most (firstLine s) n e)) (rw (length-drop (l + 2) s) (omega arith)))
+    second-front n (drop (l + 2) s) (128 - (l + 2)) (header-range limitsHeader 4 (firstLine s) n e .1)
+    (omega (arith, header-most (firstLine s) n e)) (rw (length-drop (l + 2) s) (omega arith)))
     ∙ sym (opened p (omega arith) ∙ rw (same, rest)))
     (λ no. let far = leb-false (l + 2) 128 no in
     opened s (omega arith)

@@ -55,13 +55,21 @@ cell-within k t v e =
     (λ yes. let z = eqb-true (length t) 0 (and-right (leb 5 k) (eqb (length t) 0) yes) in omega arith)
     (λ no. let p = cell-exact k t v e no in omega (arith, ap length (p .0), shown-within k v (p .1)))
 
-pub line-within : (w : ℕ → ℕ) (f : ℕ → List ℕ) (k : ℕ) → ((i : ℕ) → i < k → length (f i) ≤ w i) → length (joinedBy 44 (listing f k)) ≤ span w k
+pub line-within : (w : ℕ → ℕ) (f : ℕ → List ℕ) (k : ℕ)
+    → ((i : ℕ) → i < k → length (f i) ≤ w i) → length (joinedBy 44 (listing f k)) ≤ span w k
 unfolding span joinedBy
 line-within w f zero h = rw (listing-none f) (omega arith)
 line-within w f (suc k) h =
     let text = joinedBy 44 (listing f k) in
     let e = rw (add-one k) at (joined-more f k) in
-    omega (arith, ap length e, length-append text (commaAt k ++ f k), length-append (commaAt k) (f k), line-within w f k (λ i l. h i (omega arith)), h k (omega arith))
+    omega (
+      arith,
+      ap length e,
+      length-append text (commaAt k ++ f k),
+      length-append (commaAt k) (f k),
+      line-within w f k (λ i l. h i (omega arith)),
+      h k (omega arith),
+    )
 
 -- the head of a row and seven bytes for each level
 span-most : (n : ℕ) → span width (suc (suc (suc (suc (suc n))))) ≤ 28 + 7 * n
@@ -77,9 +85,17 @@ row-short n s e =
     let count : countOf 44 t ≡ 4 + n = omega (arith, o .count) in
     let all = line-within width (λ k. fieldOf 44 k t) (suc (4 + n)) (λ i h.
     let b : i < 5 + n = omega arith in
-    cell-within i (fieldOf 44 i t) (valueAt Register t i) (got-value (cellAt Register t i) (every-each (gotAt Register t) i (5 + n) b (o .got)))) in
+    cell-within i (fieldOf 44 i t) (valueAt Register t i)
+    (got-value (cellAt Register t i) (every-each (gotAt Register t) i (5 + n) b (o .got)))) in
     let five : suc (4 + n) ≡ suc (suc (suc (suc (suc n)))) = omega arith in
-    omega (arith, ap length (fields-joined 44 (4 + n) t count), all, ap (span width) five, span-most n, layout-points n s e .1)
+    omega (
+      arith,
+      ap length (fields-joined 44 (4 + n) t count),
+      all,
+      ap (span width) five,
+      span-most n,
+      layout-points n s e .1,
+    )
 
 -- so a longer one is off its layout
 off-else : (n : ℕ) (s : List ℕ) → (layoutOf n s .refusal ≡ 0 → ⊥) → layoutOf n s ≡ offLayout
@@ -90,7 +106,8 @@ off-else n s h =
     (λ fit. either (c .read)
     (λ got. either (eqb (c .blanks) 0)
     (λ none. absurd (h (rw (fit, got, none))))
-    (λ some. either (eqb (c .blanks) n) (λ all. absurd (h (rw (fit, got, some, all)))) (λ few. rw (fit, got, some, few))))
+    (λ some. either (eqb (c .blanks) n) (λ all. absurd (h (rw (fit, got, some, all))))
+    (λ few. rw (fit, got, some, few))))
     (λ bad. rw (fit, bad)))
     (λ none. rw none)
 

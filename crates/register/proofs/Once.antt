@@ -11,8 +11,10 @@ use Rattle.register.specs.declared.row.Answer.the-variants as answer
 use Rattle.register.specs.declared.write.Written.{Written}
 use Rattle.register.specs.declared.write.Written.the-variants as written
 
-six : {a b c d e m a′ b′ c′ d′ e′ m′ : ℕ} → a ≡ a′ → b ≡ b′ → c ≡ c′ → d ≡ d′ → e ≡ e′ → m ≡ m′
-    → _≡_ {A = Fields} (record { identity = a; ty = b; mass = c; kind = d; time = e; computed = m }) (record { identity = a′; ty = b′; mass = c′; kind = d′; time = e′; computed = m′ })
+six : {a b c d e m a′ b′ c′ d′ e′ m′ : ℕ} → a ≡ a′ → b ≡ b′ → c ≡ c′ → d ≡ d′
+    → e ≡ e′ → m ≡ m′
+    → _≡_ {A = Fields} (record { identity = a; ty = b; mass = c; kind = d; time = e; computed = m })
+    (record { identity = a′; ty = b′; mass = c′; kind = d′; time = e′; computed = m′ })
 six p q r s t u = rw (p, q, r, s, t, u)
 
 fields-same : (f g : Fields) → fieldList f ≡ fieldList g → f ≡ g
@@ -31,13 +33,15 @@ answer-same (answer.Row f) (answer.Refused k) n v = let z : _≡_ {A = ℕ} 0 1 
 answer-same (answer.Refused k) (answer.Row g) n v = let z : _≡_ {A = ℕ} 0 1 = cc in absurd (omega arith)
 answer-same (answer.Refused j) (answer.Refused k) n v = ap answer.Refused n
 
-pub written-same : (a b : Written) → writtenNumber a ≡ writtenNumber b → writtenValues a ≡ writtenValues b → a ≡ b
+pub written-same : (a b : Written) → writtenNumber a ≡ writtenNumber b → writtenValues a ≡ writtenValues b
+    → a ≡ b
 written-same (written.Size j) (written.Size k) n v = let e : j ≡ k = cc in ap written.Size e
 written-same (written.Size j) (written.Refused k) n v = let z : _≡_ {A = ℕ} 0 1 = cc in absurd (omega arith)
 written-same (written.Refused j) (written.Size k) n v = let z : _≡_ {A = ℕ} 0 1 = cc in absurd (omega arith)
 written-same (written.Refused j) (written.Refused k) n v = ap written.Refused n
 
-pub read-once : {n : ℕ} {line old new new′ : List ℕ} {a b : Answer} → RowRead n line old a new → RowRead n line old b new′ → (a ≡ b) × (new ≡ new′)
+pub read-once : {n : ℕ} {line old new new′ : List ℕ} {a b : Answer} → RowRead n line old a new
+    → RowRead n line old b new′ → (a ≡ b) × (new ≡ new′)
 read-once {a = a} {b = b} r s =
     (answer-same a b (r .number ∙ sym (s .number)) (r .values ∙ sym (s .values)), r .levels ∙ sym (s .levels))
 

@@ -20,7 +20,8 @@ mark-most true = omega arith
 mark-most false = omega arith
 
 -- one column more counts a blank level or does not
-pub blanks-next : (s : List ℕ) (k : ℕ) → many (blankAt s) (k - 5) + cond (blankCell k (fieldOf 44 k s)) 1 0 ≡ many (blankAt s) (k + 1 - 5)
+pub blanks-next : (s : List ℕ) (k : ℕ)
+    → many (blankAt s) (k - 5) + cond (blankCell k (fieldOf 44 k s)) 1 0 ≡ many (blankAt s) (k + 1 - 5)
 blanks-next s k =
     either (leb 5 k)
     (λ yes. let h = leb-true 5 k yes in
@@ -43,7 +44,8 @@ module _ (table : Table) (s : List ℕ) (count : ℕ) where
 
   -- a line of k fields, all on their layout
   pub cells-counted : (k : ℕ) → countOf 44 s + 1 ≡ k → every (gotAt table s) k ≡ true
-      → cellsOf table count s ≡ cond (eqb k count) (gotCells (many (blankAt s) (k - 5)) (listing (valueAt table s) k ++ replicate (13 - k) 0)) offCells
+      → cellsOf table count s ≡ cond (eqb k count)
+      (gotCells (many (blankAt s) (k - 5)) (listing (valueAt table s) k ++ replicate (13 - k) 0)) offCells
   unfolding cellsOf
   cells-counted k n e =
       either (eqb k count)

@@ -57,12 +57,14 @@ module _ (n : ℕ) (f : Fields) (levels : List ℕ) (fine : Fine n f levels) whe
   -- each field is the text of its column, and reads as its value
   field-text : (k : ℕ) → k < 5 + length levels → fieldOf 44 k (showLine f levels) ≡ textAt f levels k
   unfolding texts showLine
-  field-text k h = join-field 44 texts free k (omega (arith, texts-length)) ∙ listing-at (textAt f levels) (5 + length levels) k [] h
+  field-text k h = join-field 44 texts free k (omega (arith, texts-length))
+      ∙ listing-at (textAt f levels) (5 + length levels) k [] h
 
   zero-blank : (k : ℕ) → f .computed ≡ 0 → 5 ≤ k → getD (columns f levels) k 0 ≡ 0
   zero-blank k z h = column-level f levels k h ∙ (let w = within-at 0 levels (k - 5) (fine .zeros z) in omega arith)
 
-  cell-text : (k : ℕ) → k < 5 + length levels → cellAt Register (showLine f levels) k ≡ Got (getD (columns f levels) k 0)
+  cell-text : (k : ℕ) → k < 5 + length levels
+      → cellAt Register (showLine f levels) k ≡ Got (getD (columns f levels) k 0)
   cell-text k h =
       ap (rowCell k) (field-text k h)
       ∙ text-back (f .computed) k (getD (columns f levels) k 0) (fine-writable fine .below k h) (zero-blank k)
@@ -74,10 +76,12 @@ module _ (n : ℕ) (f : Fields) (levels : List ℕ) (fine : Fine n f levels) whe
   values-back : listing (valueAt Register (showLine f levels)) (5 + length levels) ≡ columns f levels
   values-back =
       let e : length (columns f levels) ≡ 5 + length levels = omega arith in
-      rw e at (listing-of (valueAt Register (showLine f levels)) (columns f levels) 0 (λ k h. ap valueOf (cell-text k (omega arith))))
+      rw e at (listing-of (valueAt Register (showLine f levels)) (columns f levels) 0
+      (λ k h. ap valueOf (cell-text k (omega arith))))
 
   -- the blank levels: none where the row is computed, and all where it is not
-  field-level : (i : ℕ) → i < length levels → fieldOf 44 (5 + i) (showLine f levels) ≡ cellText (f .computed) (5 + i) (getD (columns f levels) (5 + i) 0)
+  field-level : (i : ℕ) → i < length levels
+      → fieldOf 44 (5 + i) (showLine f levels) ≡ cellText (f .computed) (5 + i) (getD (columns f levels) (5 + i) 0)
   field-level i h = field-text (5 + i) (omega arith)
 
   blanks-none : (f .computed ≡ 0 → ⊥) → many (blankAt (showLine f levels)) (length levels) ≡ 0
@@ -88,11 +92,13 @@ module _ (n : ℕ) (f : Fields) (levels : List ℕ) (fine : Fine n f levels) whe
 
   blanks-all : f .computed ≡ 0 → many (blankAt (showLine f levels)) (length levels) ≡ length levels
   blanks-all none = many-all (blankAt (showLine f levels)) (length levels) (λ i h.
-      let text = field-level i h ∙ text-blank (f .computed) (5 + i) (getD (columns f levels) (5 + i) 0) (omega arith) none in
+      let text = field-level i h
+      ∙ text-blank (f .computed) (5 + i) (getD (columns f levels) (5 + i) 0) (omega arith) none in
       eq-eqb (length (fieldOf 44 (5 + i) (showLine f levels))) 0 (ap length text))
 
   cells-back : cellsOf Register (5 + n) (showLine f levels)
-      ≡ gotCells (many (blankAt (showLine f levels)) (length levels)) (columns f levels ++ replicate (8 - length levels) 0)
+      ≡ gotCells (many (blankAt (showLine f levels)) (length levels))
+      (columns f levels ++ replicate (8 - length levels) 0)
   unfolding cellsOf
   cells-back =
       let five : 5 + length levels - 5 ≡ length levels = omega arith in
@@ -107,13 +113,18 @@ module _ (n : ℕ) (f : Fields) (levels : List ℕ) (fine : Fine n f levels) whe
       )
 
   -- eight levels, zero past the points
-  eight-back : eightFrom 5 (columns f levels ++ replicate (8 - length levels) 0) ≡ levels ++ replicate (8 - length levels) 0
+  eight-back : eightFrom 5 (columns f levels ++ replicate (8 - length levels) 0) ≡ levels
+      ++ replicate (8 - length levels) 0
   unfolding eightFrom
   eight-back =
       let l = levels ++ replicate (8 - length levels) 0 in
       let few = fine .points-most in
-      let e : length l ≡ 8 = length-append levels (replicate (8 - length levels) 0) ∙ ap (λ k. length levels + k) (length-replicate {A = ℕ} (8 - length levels) 0) ∙ (let w : length levels + (8 - length levels) ≡ 8 = omega (arith, fine .size) in w) in
-      let at : (i : ℕ) → getD (columns f l) (5 + i) 0 ≡ getD l i 0 = λ i. column-level f l (5 + i) (omega arith) ∙ (let w : 5 + i - 5 ≡ i = omega arith in ap (λ k. getD l k 0) w) in
+      let e : length l ≡ 8 = length-append levels (replicate (8 - length levels) 0)
+      ∙ ap (λ k. length levels + k) (length-replicate {A = ℕ} (8 - length levels) 0)
+      ∙ (let w : length levels + (8 - length levels) ≡ 8 = omega (arith, fine .size) in w) in
+      let at : (i : ℕ) → getD (columns f l) (5 + i) 0 ≡ getD l i 0 =
+      λ i. column-level f l (5 + i) (omega arith)
+      ∙ (let w : 5 + i - 5 ≡ i = omega arith in ap (λ k. getD l k 0) w) in
       rw e at (listing-of (λ i. getD (columns f l) (5 + i) 0) l 0 (λ i h. at i))
 
   row-back : rowLayout (columns f levels ++ replicate (8 - length levels) 0) (f .computed) ≡ onLayout f levels
@@ -127,15 +138,18 @@ module _ (n : ℕ) (f : Fields) (levels : List ℕ) (fine : Fine n f levels) whe
       let size = fine .size in
       either (eqb (f .computed) 0)
       (λ yes. let z = eqb-true (f .computed) 0 yes in
-      rw (cells-back, blanks-all z, ne-eqb (length levels) 0 (λ e. omega arith), eq-eqb (length levels) n size) (ap (rowLayout (columns f levels ++ replicate (8 - length levels) 0)) (sym z) ∙ row-back))
+      rw (cells-back, blanks-all z, ne-eqb (length levels) 0 (λ e. omega arith), eq-eqb (length levels) n size)
+      (ap (rowLayout (columns f levels ++ replicate (8 - length levels) 0)) (sym z) ∙ row-back))
       (λ no. let z = eqb-false (f .computed) 0 no in
       let one : 1 ≡ f .computed = omega (arith, z, fine .mark-most) in
-      rw (cells-back, blanks-none z) (ap (rowLayout (columns f levels ++ replicate (8 - length levels) 0)) one ∙ row-back))
+      rw (cells-back, blanks-none z) (ap (rowLayout (columns f levels ++ replicate (8 - length levels) 0)) one
+      ∙ row-back))
 
   pub layout-back : layoutOf n (showRow f levels) ≡ onLayout f levels
   unfolding layoutOf
   layout-back =
-      rw (le-leb 1 n (fine .points-least), le-leb n 8 (fine .points-most), bare-back (showLine f levels)) cells-layout-back
+      rw (le-leb 1 n (fine .points-least), le-leb n 8 (fine .points-most), bare-back (showLine f levels))
+      cells-layout-back
 
 -- levels filled up with zeros are in range where they are
 within-zeros : (top k : ℕ) (l : List ℕ) → allWithin top l ≡ true → allWithin top (l ++ replicate k 0) ≡ true
@@ -146,7 +160,8 @@ within-zeros top k (v ∷ l) e =
     rw (and-left (leb v top) (allWithin top l) e) (within-zeros top k l (and-right (leb v top) (allWithin top l) e))
 
 -- a row that can be written is read without a refusal but for room
-pub refusal-back : (n : ℕ) (f : Fields) (levels : List ℕ) (room : ℕ) → Fine n f levels → n ≤ room → rowRefusal n (onLayout f levels) room ≡ 0
+pub refusal-back : (n : ℕ) (f : Fields) (levels : List ℕ) (room : ℕ) → Fine n f levels → n ≤ room
+    → rowRefusal n (onLayout f levels) room ≡ 0
 unfolding rowRefusal faultOf
 refusal-back n f levels room fine h =
     rw (fine .fields, fine .identity, within-zeros 12000 (8 - length levels) levels (fine .within), le-leb n room h)
@@ -161,12 +176,15 @@ written-back {n} {f} {levels} {old} {new} {held} {got} {answer} {read} w e r h =
     let none = sym (w .number) ∙ e in
     let fine = fault-fine n f levels (first-none (writeFault n f levels) _ none .0) in
     let text : take (length (showRow f levels)) new ≡ showRow f levels =
-    ap (take (length (showRow f levels))) (w .bytes ∙ rw (eq-eqb _ 0 none)) ∙ take-at (showRow f levels) (drop (length (showRow f levels)) old) (length (showRow f levels)) refl in
-    let l : layoutOf n (take (length (showRow f levels)) new) ≡ onLayout f levels = ap (layoutOf n) text ∙ layout-back n f levels fine in
+    ap (take (length (showRow f levels))) (w .bytes ∙ rw (eq-eqb _ 0 none))
+    ∙ take-at (showRow f levels) (drop (length (showRow f levels)) old) (length (showRow f levels)) refl in
+    let l : layoutOf n (take (length (showRow f levels)) new) ≡ onLayout f levels = ap (layoutOf n) text
+    ∙ layout-back n f levels fine in
     let zero : rowRefusal n (layoutOf n (take (length (showRow f levels)) new)) (length held) ≡ 0 =
     ap (λ x. rowRefusal n x (length held)) l ∙ refusal-back n f levels (length held) fine h in
     let on = eq-eqb (rowRefusal n (layoutOf n (take (length (showRow f levels)) new)) (length held)) 0 zero in (
       r .number ∙ zero,
       r .values ∙ rw on (ap (λ x. fieldList (x .fields)) l),
-      r .levels ∙ rw on (ap (λ x. front (take n (x .levels)) held) l ∙ ap (λ v. front v held) (take-at levels (replicate (8 - length levels) 0) n (fine .size))),
+      r .levels ∙ rw on (ap (λ x. front (take n (x .levels)) held) l
+          ∙ ap (λ v. front v held) (take-at levels (replicate (8 - length levels) 0) n (fine .size))),
     )

@@ -28,8 +28,11 @@ pub row-none : (n : ℕ) (l : Layout) (room : ℕ) → rowRefusal n l room ≡ 0
 unfolding rowRefusal
 row-none n l room e =
     let on = refuse-none 16 (eqb (l .refusal) 0) _ (omega arith) e in
-    let fine = first-none (faultOf (l .fields) (allWithin 12000 (l .levels))) (refuse 14 (leb n room) 0) (on .1) in
-    (eqb-true (l .refusal) 0 (on .0), fine .0, leb-true n room (refuse-none 14 (leb n room) 0 (omega arith) (fine .1) .0))
+    let fine = first-none (faultOf (l .fields) (allWithin 12000 (l .levels))) (refuse 14 (leb n room) 0) (on .1) in (
+      eqb-true (l .refusal) 0 (on .0),
+      fine .0,
+      leb-true n room (refuse-none 14 (leb n room) 0 (omega arith) (fine .1) .0),
+    )
 
 -- only 1 to 8 points have a layout
 pub layout-points : (n : ℕ) (s : List ℕ) → layoutOf n s .refusal ≡ 0 → (1 ≤ n) × (n ≤ 8)
@@ -40,7 +43,8 @@ layout-points n s e =
     (λ no. let z : _≡_ {A = ℕ} 16 0 = rw no at e in absurd (omega arith))
 
 -- a header has 1 to 8 points
-pub header-range : (full : List ℕ) (lead : ℕ) (s : List ℕ) (n : ℕ) → headerOf full lead s ≡ Got n → (1 ≤ n) × (n ≤ 8) × (lead < length s)
+pub header-range : (full : List ℕ) (lead : ℕ) (s : List ℕ) (n : ℕ) → headerOf full lead s ≡ Got n
+    → (1 ≤ n) × (n ≤ 8) × (lead < length s)
 unfolding headerOf
 header-range full lead s n e =
     let m = length s - lead in
@@ -51,7 +55,8 @@ header-range full lead s n e =
     let p = passed (f && sameText s (take (length s) full)) (Got (m / 3)) n e in
     let all = and-left f (sameText s (take (length s) full)) (p .0) in
     let three = and-left d (leb (m / 3) 8) all in
-    let more = ltb-true lead (length s) (and-left a (leb (length s) (length full)) (and-left b (eqb (m % 3) 0) three)) in
+    let more = ltb-true lead (length s)
+    (and-left a (leb (length s) (length full)) (and-left b (eqb (m % 3) 0) three)) in
     let whole = eqb-true (m % 3) 0 (and-right b (eqb (m % 3) 0) three) in
     let most = leb-true (m / 3) 8 (and-right d (leb (m / 3) 8) all) in
     let q : m / 3 ≡ n = cc (p .1) in

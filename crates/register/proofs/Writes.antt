@@ -27,14 +27,16 @@ use Rattle.register.specs.declared.row.Fields.{Fields}
 use Rattle.text.specs.Number.{showWhole}
 
 -- one field more at the end of a line
-joined-one : (f : ℕ → List ℕ) → joinedBy 44 (listing f (0 + 1)) ≡ joinedBy 44 (listing f 0) ++ (commaAt 0 ++ f 0)
+joined-one : (f : ℕ → List ℕ)
+    → joinedBy 44 (listing f (0 + 1)) ≡ joinedBy 44 (listing f 0) ++ (commaAt 0 ++ f 0)
 unfolding joinedBy listing
 joined-one f = refl
 
 comma-after : (k : ℕ) → commaAt (suc k) ≡ 44 ∷ []
 comma-after k = ap (λ b. cond b [] (44 ∷ [])) (ne-eqb (suc k) 0 (λ e. omega arith))
 
-pub joined-more : (f : ℕ → List ℕ) (k : ℕ) → joinedBy 44 (listing f (k + 1)) ≡ joinedBy 44 (listing f k) ++ (commaAt k ++ f k)
+pub joined-more : (f : ℕ → List ℕ) (k : ℕ)
+    → joinedBy 44 (listing f (k + 1)) ≡ joinedBy 44 (listing f k) ++ (commaAt k ++ f k)
 joined-more f zero = joined-one f
 joined-more f (suc k) =
     let ls = listing (λ i. f (suc i)) k in
@@ -44,7 +46,8 @@ joined-more f (suc k) =
     ∙ ap (λ t. joinedBy 44 (listing f (suc k)) ++ (t ++ f (suc k))) (sym (comma-after k))
 
 -- the columns past the fifth are the levels
-pub column-level : (f : Fields) (levels : List ℕ) (k : ℕ) → 5 ≤ k → getD (columns f levels) k 0 ≡ getD levels (k - 5) 0
+pub column-level : (f : Fields) (levels : List ℕ) (k : ℕ) → 5 ≤ k
+    → getD (columns f levels) k 0 ≡ getD levels (k - 5) 0
 column-level f levels zero h = absurd (omega arith)
 column-level f levels (suc zero) h = absurd (omega arith)
 column-level f levels (suc (suc zero)) h = absurd (omega arith)
@@ -54,7 +57,8 @@ column-level f levels (suc (suc (suc (suc (suc i))))) h =
     let e : suc (suc (suc (suc (suc i)))) - 5 ≡ i = omega arith in rw e
 
 -- identity and mass are whole numbers
-pub whole-column : (k v : ℕ) → k < 5 → (k ≡ 1 → ⊥) → (k ≡ 3 → ⊥) → (k ≡ 4 → ⊥) → (shownCell k v ≡ showWhole v) × (topOf k ≡ 10000000)
+pub whole-column : (k v : ℕ) → k < 5 → (k ≡ 1 → ⊥) → (k ≡ 3 → ⊥) → (k ≡ 4 → ⊥)
+    → (shownCell k v ≡ showWhole v) × (topOf k ≡ 10000000)
 unfolding shownCell topOf
 whole-column zero v h a b c = (refl, refl)
 whole-column (suc zero) v h a b c = absurd (a refl)
@@ -74,7 +78,8 @@ pub record Fine (n : ℕ) (f : Fields) (levels : List ℕ) : Type 0 where
   pub within : allWithin 12000 levels ≡ true
   pub zeros : f .computed ≡ 0 → allWithin 0 levels ≡ true
 
-blank-zeros : (mark : ℕ) (levels : List ℕ) → zeroWhereBlank mark levels ≡ true → mark ≡ 0 → allWithin 0 levels ≡ true
+blank-zeros : (mark : ℕ) (levels : List ℕ) → zeroWhereBlank mark levels ≡ true → mark ≡ 0
+    → allWithin 0 levels ≡ true
 blank-zeros mark levels e z = rw (eq-eqb mark 0 z) at e
 
 pub fault-fine : (n : ℕ) (f : Fields) (levels : List ℕ) → writeFault n f levels ≡ 0 → Fine n f levels
@@ -101,7 +106,9 @@ fault-fine n f levels e =
     }
 
 -- each of its values has a text
-below : (f : Fields) (levels : List ℕ) → f .identity ≤ maxIdentity → f .ty < 3 → f .mass ≤ 1000000 → f .kind < 2 → f .time < 86400 → allWithin 12000 levels ≡ true → (k : ℕ) → k < 5 + length levels → getD (columns f levels) k 0 < topOf k
+below : (f : Fields) (levels : List ℕ) → f .identity ≤ maxIdentity → f .ty < 3 → f .mass ≤ 1000000
+    → f .kind < 2 → f .time < 86400 → allWithin 12000 levels ≡ true → (k : ℕ) → k < 5 + length levels
+    → getD (columns f levels) k 0 < topOf k
 unfolding topOf
 below f levels i t m k s w zero h = omega arith
 below f levels i t m k s w (suc zero) h = t
@@ -120,8 +127,15 @@ fine-writable {n} {f} {levels} fine =
     let four = and-left (a && b && (c && d)) (massFits (aircraftNumbered (f .ty)) (f .mass)) (fine .fields) in
     let front = and-left (a && b) (c && d) four in
     let back = and-right (a && b) (c && d) four in
-    let identity = leb-true (f .identity) maxIdentity (and-right (leb 1 (f .identity)) (leb (f .identity) maxIdentity) (fine .identity)) in
-    record { few = omega (arith, fine .size, fine .points-most); below = below f levels identity (ltb-true (f .ty) 3 (and-left a b front)) (leb-true (f .mass) 1000000 (and-right c d back)) (ltb-true (f .kind) 2 (and-right a b front)) (ltb-true (f .time) 86400 (and-left c d back)) (fine .within) }
+    let identity = leb-true (f .identity) maxIdentity
+    (and-right (leb 1 (f .identity)) (leb (f .identity) maxIdentity) (fine .identity)) in
+    record {
+      few = omega (arith, fine .size, fine .points-most);
+      below =
+          below f levels identity (ltb-true (f .ty) 3 (and-left a b front))
+          (leb-true (f .mass) 1000000 (and-right c d back)) (ltb-true (f .kind) 2 (and-right a b front))
+          (ltb-true (f .time) 86400 (and-left c d back)) (fine .within);
+    }
 
 -- the comma before a column is at most one byte
 pub comma-most : (k : ℕ) → length (commaAt k) ≤ 1

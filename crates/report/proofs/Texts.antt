@@ -71,7 +71,8 @@ limits-refused limits {l} {s} {e} {size} q ne w =
       };
     }
 
-pub limits-accepted : (limits : List ℕ) {l : LimitsFile} {e : List ℕ} {size : ℕ} → l ≡ limitsOf limits → l .refusal ≡ 0
+pub limits-accepted : (limits : List ℕ) {l : LimitsFile} {e : List ℕ} {size : ℕ} → l ≡ limitsOf limits
+    → l .refusal ≡ 0
     → AnsweredIn l e size → WrittenIn limits e size
 limits-accepted limits {l} {e} {size} q z a =
     let b : AnsweredIn (limitsOf limits) e size = rw q at a in

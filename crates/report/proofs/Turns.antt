@@ -113,7 +113,8 @@ turn-piece {p} {s} {bytes} {bytes′} {t} {b′} waited came k e one room =
     onward : Onward p s (waited ++ came) (turnedTo t b′) (take (t .left) bytes′)
     onward = rw e at (k .taken .onward)
 
-pub turn-last : {p : ℕ} {s : Reading} {bytes waited bytes′ : List ℕ} {t : Turn} {b′ : Book} → Lasted p s bytes t b′
+pub turn-last : {p : ℕ} {s : Reading} {bytes waited bytes′ : List ℕ} {t : Turn} {b′ : Book}
+    → Lasted p s bytes t b′
     → bytes ≡ waited → Turned p s waited t b′ bytes′
 turn-last {p} {s} {bytes} {waited} {bytes′} {t} {b′} k e =
     let q = k .ends in
@@ -152,7 +153,8 @@ module _ {p left : ℕ} {s : Reading} {bytes bytes′ : List ℕ} {answer : ℤ}
       → Answered p s bytes left answer t b′ bytes′
   unfolding turn-piece
   answered-piece n k e one room =
-      let d = turn-piece (take left bytes) (cameOf answer bytes left) k (take-add left n bytes ∙ rw e refl) one room in
+      let d = turn-piece (take left bytes) (cameOf answer bytes left) k (take-add left n bytes
+      ∙ rw e refl) one room in
       record {
         kept = k .taken .kept;
         more = d .more;
@@ -164,7 +166,8 @@ module _ {p left : ℕ} {s : Reading} {bytes bytes′ : List ℕ} {answer : ℤ}
         states = d .states;
       }
 
-  pub answered-last : Lasted p s (take left bytes) t b′ → answer ≡ pos 0 → Answered p s bytes left answer t b′ bytes′
+  pub answered-last : Lasted p s (take left bytes) t b′ → answer ≡ pos 0
+      → Answered p s bytes left answer t b′ bytes′
   answered-last k zero =
       let q = k .ends in
       record {
@@ -178,7 +181,8 @@ module _ {p left : ℕ} {s : Reading} {bytes bytes′ : List ℕ} {answer : ℤ}
         states = omega arith;
       }
 
-  pub turn-answered : {waited : List ℕ} → Answered p s bytes left answer t b′ bytes′ → take left bytes ≡ waited
+  pub turn-answered : {waited : List ℕ} → Answered p s bytes left answer t b′ bytes′
+      → take left bytes ≡ waited
       → Turned p s waited t b′ bytes′
   turn-answered {waited} k e =
       record {
@@ -218,10 +222,12 @@ broken-off : {p left line : ℕ} {b₀ b : Book} {bytes : List ℕ} → (k : Com
     → registered p b₀ (k .all ++ endless) ≡ offAt (readingAt 0 line b)
 unfolding registered
 broken-off {p} {left} {line} {b₀} {b} {bytes} k =
-    ap closing (k .onward .same endless ∙ endless-off p (readingAt 0 line b) (take left bytes) refl (k .waits .unended))
+    ap closing (k .onward .same endless
+    ∙ endless-off p (readingAt 0 line b) (take left bytes) refl (k .waits .unended))
     ∙ refused-closes (offAt (readingAt 0 line b)) (λ e. absurd (omega arith))
 
-module _ {p left line : ℕ} {b₀ b b′ : Book} {bytes bytes′ : List ℕ} {t : Turn} (k : Come p b₀ bytes left line b)
+module _ {p left line : ℕ} {b₀ b b′ : Book} {bytes bytes′ : List ℕ} {t : Turn}
+    (k : Come p b₀ bytes left line b)
     (d : Turned p (readingAt 0 line b) (take left bytes) t b′ bytes′) where
   pub come-next : t .state ≡ stateReading → Come p b₀ bytes′ (t .left) (t .line) b′
   come-next e =

@@ -23,7 +23,8 @@ use Rattle.report_rules.specs.Flights.{howMany, computed}
 -- one movement, in its group alone
 one-group : (g : ℕ) (t : Bool) → g < groupCount → sumTo (λ k. cond (eqb g k && t) 1 0) groupCount ≡ cond t 1 0
 one-group g true h =
-    sum-ext (λ k. cond (eqb g k && true) 1 0) (λ k. cond (eqb g k) 1 0) groupCount (λ k l. rw (and-true (eqb g k)) refl)
+    sum-ext (λ k. cond (eqb g k && true) 1 0) (λ k. cond (eqb g k) 1 0) groupCount
+    (λ k l. rw (and-true (eqb g k)) refl)
     ∙ sum-one g groupCount ∙ rw (lt-ltb g groupCount h) refl
 one-group g false h =
     sum-ext (λ k. cond (eqb g k && false) 1 0) (λ k. 0) groupCount (λ k l. rw (and-false (eqb g k)) refl)
@@ -66,6 +67,7 @@ both [] = refl
 both (m ∷ ms) = go (computed m) (both ms)
   where
     go : (t : Bool) → howMany computed ms + howMany (λ k. not (computed k)) ms ≡ length ms
-        → cond t 1 0 + howMany computed ms + (cond (not t) 1 0 + howMany (λ k. not (computed k)) ms) ≡ suc (length ms)
+        → cond t 1 0 + howMany computed ms + (cond (not t) 1 0 + howMany (λ k. not (computed k)) ms)
+        ≡ suc (length ms)
     go true e = omega arith
     go false e = omega arith

@@ -32,7 +32,8 @@ or-none : (r rest : ℕ) → refusedOr r rest ≡ 0 → (r ≡ 0) × (rest ≡ 0
 or-none r rest z =
     either (eqb r 0) (λ yes. (eqb-true r 0 yes, rw yes at z)) (λ no. absurd (eqb-false r 0 no (rw no at z)))
 
-pub enter-none : (p n : ℕ) (ms : List Movement) (x t k s m : ℕ) → listRefusal p n ms (made p (enter x t k s m)) ≡ 0
+pub enter-none : (p n : ℕ) (ms : List Movement) (x t k s m : ℕ)
+    → listRefusal p n ms (made p (enter x t k s m)) ≡ 0
     → Entering m x ms
 unfolding listRefusal standingRefusal
 enter-none p n ms x t k s m z =
@@ -50,7 +51,8 @@ enter-none p n ms x t k s m z =
     not-true false e = refl
 
 -- 2: rule 1 holds and the movement is not over 150 kg
-refuse-is : (n k : ℕ) (ok : Bool) (rest : ℕ) → refuse n ok rest ≡ k → (n ≡ k → ⊥) → (ok ≡ true) × (rest ≡ k)
+refuse-is : (n k : ℕ) (ok : Bool) (rest : ℕ) → refuse n ok rest ≡ k → (n ≡ k → ⊥)
+    → (ok ≡ true) × (rest ≡ k)
 refuse-is n k true rest e ne = (refl, e)
 refuse-is n k false rest e ne = absurd (ne e)
 

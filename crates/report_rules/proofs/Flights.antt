@@ -27,7 +27,8 @@ use Rattle.report_rules.proofs.Rows.{row-read, row-flights}
 
 -- flights of rows, one after the other
 flights-then : (test : Movement → Bool) (p : ℕ) (row : List ℕ) (rows : List (List ℕ))
-    → howMany test (flightsIn p (row ∷ rows)) ≡ howMany test (flightsIn p (row ∷ [])) + howMany test (flightsIn p rows)
+    → howMany test (flightsIn p (row ∷ rows)) ≡ howMany test (flightsIn p (row ∷ [])) + howMany test
+    (flightsIn p rows)
 unfolding flightsIn howMany
 flights-then test p row rows =
     either (ltb 150 (layoutOf p row .fields .mass)) (λ yes. rw yes (omega arith)) (λ no. rw no (omega arith))
@@ -39,7 +40,8 @@ pub record Past (p n : ℕ) (s : Reading) (line : List ℕ) (ls : List (List ℕ
   pub number : lineRead p s line .line ≡ s .line + 1
   pub told= : Told p n (lineRead p s line .book) (listOf ms (accepted p n ms (rowCalls p (s .book) line)))
 
-row-past : (p n : ℕ) (s : Reading) (line : List ℕ) (ls : List (List ℕ)) (ms : List Movement) → Told p n (s .book) ms
+row-past : (p n : ℕ) (s : Reading) (line : List ℕ) (ls : List (List ℕ)) (ms : List Movement)
+    → Told p n (s .book) ms
     → 2 ≤ s .line
     → linesRead p (lineRead p s line) ls .refusal ≡ 0 → Past p n s line ls ms
 unfolding lineRead lineRefusal lineAfter
@@ -61,9 +63,11 @@ row-past p n s line ls ms t two z =
 pub record AllRead (p n : ℕ) (s : Reading) (ls : List (List ℕ)) (ms : List Movement) : Type 0 where
   pub read : (i : ℕ) → i < length ls → layoutOf p (getD ls i []) .refusal ≡ 0
   pub each : (test : Movement → Bool)
-      → howMany test (listOf ms (accepted p n ms (linesCalls p s ls))) ≡ howMany test ms + howMany test (flightsIn p ls)
+      → howMany test (listOf ms (accepted p n ms (linesCalls p s ls))) ≡ howMany test ms + howMany test
+      (flightsIn p ls)
 
-rows-read : (p n : ℕ) (s : Reading) (ls : List (List ℕ)) (ms : List Movement) → Told p n (s .book) ms → 2 ≤ s .line
+rows-read : (p n : ℕ) (s : Reading) (ls : List (List ℕ)) (ms : List Movement) → Told p n (s .book) ms
+    → 2 ≤ s .line
     → s .refusal ≡ 0
     → linesRead p s ls .refusal ≡ 0 → AllRead p n s ls ms
 unfolding linesRead linesCalls flightsIn howMany listOf accepted
@@ -82,7 +86,8 @@ rows-read p n s (l ∷ ls) ms t two z e =
           ∙ omega (arith, row-flights p n (s .book) ms l t (k .fine) test, flights-then test p l ls));
     }
   where
-    each-read : layoutOf p l .refusal ≡ 0 → ((i : ℕ) → i < length ls → layoutOf p (getD ls i []) .refusal ≡ 0)
+    each-read : layoutOf p l .refusal ≡ 0
+        → ((i : ℕ) → i < length ls → layoutOf p (getD ls i []) .refusal ≡ 0)
         → (i : ℕ) → i < suc (length ls) → layoutOf p (getD (l ∷ ls) i []) .refusal ≡ 0
     each-read a b zero h = a
     each-read a b (suc i) h = b i (omega arith)
@@ -123,7 +128,8 @@ begun p b head rows z =
     let s = lineRead p (opening b) head in
     let r = s .refusal in
     let none : r ≡ 0 = either (eqb r 0) (λ yes. eqb-true r 0 yes)
-    (λ no. let ne = eqb-false r 0 no in absurd (ne (ap (λ (q : Reading). q .refusal) (sym (stuck p s rows ne)) ∙ z))) in
+    (λ no. let ne = eqb-false r 0 no in
+    absurd (ne (ap (λ (q : Reading). q .refusal) (sym (stuck p s rows ne)) ∙ z))) in
     record { refusal = none; line = rw none refl; book = refl; rest = z }
 
 calls-behind : (p : ℕ) (b : Book) (head : List ℕ) (rows : List (List ℕ))
@@ -166,12 +172,14 @@ all-stand p register z = go (linesOf register) refl
     go (head ∷ rows) e =
         let k = by-rows head rows e in
         let q : rowsIn register ≡ rows = ap (drop 1) e in
-        let each : (test : Movement → Bool) → howMany test (standingIn p register) ≡ howMany test (flightsIn p (rowsIn register)) =
+        let each : (test : Movement → Bool)
+        → howMany test (standingIn p register) ≡ howMany test (flightsIn p (rowsIn register)) =
         λ test. ap (howMany test) (standing-rows p register head rows e) ∙ k .each test
         ∙ rw q (from-none test (flightsIn p rows)) in
         record {
           read = rw q (k .read);
           each = each;
-          count = sym (many-all (standingIn p register)) ∙ each (λ m. true) ∙ many-all (flightsIn p (rowsIn register));
+          count = sym (many-all (standingIn p register)) ∙ each (λ m. true)
+              ∙ many-all (flightsIn p (rowsIn register));
           book = register-rows p bookRows register;
         }

@@ -12,7 +12,8 @@ use Rattle.movement.specs.Limits.{maxPoints}
 use Rattle.movement.proofs.Ranges.{ranges-hold}
 use Rattle.book_rules.specs.Columns.{Book}
 use Rattle.book_rules.specs.Calls.{refusal}
-use Rattle.book_rules.specs.History.{Movement, Made, made, emptyBook, booked, movements, standing, sizesFit, standingRefusal, listRefusal}
+use Rattle.book_rules.specs.History.{Movement, Made, made, emptyBook, booked, movements, standing, sizesFit}
+use Rattle.book_rules.specs.History.{standingRefusal, listRefusal}
 use Rattle.book_rules.proofs.History.{told-all, history-refusal}
 use Rattle.register.specs.Row.{layoutOf}
 use Rattle.report_steps.specs.Intake.{entering}
@@ -25,12 +26,14 @@ use Rattle.report_rules.specs.FullBook.{Fresh, TwoThousand}
 use Rattle.report_rules.proofs.Flights.{all-stand}
 use Rattle.report_rules.proofs.Refusing.{row-refused}
 
-module _ (p : ℕ) (register : List ℕ) (some : 1 ≤ p) (few : p ≤ 8) (accepted : registered p (emptyBook p bookRows) register .refusal ≡ 0) where
+module _ (p : ℕ) (register : List ℕ) (some : 1 ≤ p) (few : p ≤ 8)
+    (accepted : registered p (emptyBook p bookRows) register .refusal ≡ 0) where
   abbrev cs : List Made
   cs = registerCalls p (emptyBook p bookRows) register
 
   -- *enter* is refused by the list of flights
-  listed : (row : List ℕ) → refusal p (bookIn p register) (entering (layoutOf p row)) ≡ listRefusal p bookRows (standingIn p register) (made p (entering (layoutOf p row)))
+  listed : (row : List ℕ) → refusal p (bookIn p register) (entering (layoutOf p row)) ≡ listRefusal p bookRows
+      (standingIn p register) (made p (entering (layoutOf p row)))
   listed row =
       ap (λ (b : Book). refusal p b (entering (layoutOf p row))) (register-booked p (emptyBook p bookRows) register)
       ∙ history-refusal p bookRows cs (made p (entering (layoutOf p row)))
@@ -61,9 +64,12 @@ module _ (p : ℕ) (register : List ℕ) (some : 1 ≤ p) (few : p ≤ 8) (accep
       record {
         most = omega (arith, stand, told .same);
         full = λ n row ne f two.
-            let six = listed row ∙ no-room row f (le-ltb (length (standingIn p register)) 2000 (omega (arith, stand))) in
-            row-refused p n (bookIn p register) row ne .entered (f .read) (λ z. absurd (omega arith)) (λ z. absurd (omega arith)) ∙ six;
+            let six = listed row ∙ no-room row f
+            (le-ltb (length (standingIn p register)) 2000 (omega (arith, stand))) in
+            row-refused p n (bookIn p register) row ne .entered (f .read) (λ z. absurd (omega arith))
+            (λ z. absurd (omega arith)) ∙ six;
         room = λ n row ne f less.
-            let none = listed row ∙ some-room row f (lt-ltb (length (standingIn p register)) 2000 (omega (arith, stand))) in
+            let none = listed row ∙ some-room row f
+            (lt-ltb (length (standingIn p register)) 2000 (omega (arith, stand))) in
             row-refused p n (bookIn p register) row ne .blank (f .read) none (f .bare);
       }

@@ -40,7 +40,8 @@ header-is full lead s p e =
     ((omega arith, omega arith), same-equal s (take n full) (and-right d f all) ∙ ap (λ k. take k full) size))
     (λ no. let g : Off ≡ Got p = rw no at e in let z : _≡_ {A = ℕ} 0 1 = cc in absurd (omega arith))
 
-pub is-header : (full : List ℕ) (lead : ℕ) (s : List ℕ) (p : ℕ) → length full ≡ lead + 24 → 1 ≤ p → p ≤ 8
+pub is-header : (full : List ℕ) (lead : ℕ) (s : List ℕ) (p : ℕ) → length full ≡ lead + 24 → 1 ≤ p
+    → p ≤ 8
     → s ≡ take (lead + 3 * p) full
     → headerOf full lead s ≡ Got p
 unfolding headerOf

@@ -64,11 +64,13 @@ limit-cell : (i : ℕ) (t : List ℕ) → limitsCell (1 + i) t ≡ levelOf t
 unfolding limitsCell
 limit-cell i t = let e : 1 + i ≡ suc i = omega arith in rw e refl
 
-cell-limit : (i : ℕ) (t : List ℕ) (v : ℕ) → limitsCell (1 + i) t ≡ Got v → (t ≡ showLevel v) × (v < 100000)
+cell-limit : (i : ℕ) (t : List ℕ) (v : ℕ) → limitsCell (1 + i) t ≡ Got v
+    → (t ≡ showLevel v) × (v < 100000)
 cell-limit i t v e = let f : levelOf t ≡ Got v = sym (limit-cell i t) ∙ e in (level-exact t v f, level-small t v f)
 
 -- a line that is read is spelled so
-module _ (n : ℕ) (line : List ℕ) (few : n ≤ 8) (fine : (eqb (countOf 44 line + 1) (1 + n) && every (gotAt table.LimitsFile line) (1 + n)) ≡ true) where
+module _ (n : ℕ) (line : List ℕ) (few : n ≤ 8)
+    (fine : (eqb (countOf 44 line + 1) (1 + n) && every (gotAt table.LimitsFile line) (1 + n)) ≡ true) where
   got : (k : ℕ) → k < 1 + n → cellAt table.LimitsFile line k ≡ Got (valueAt table.LimitsFile line k)
   got k h =
       got-value (cellAt table.LimitsFile line k)
@@ -148,7 +150,8 @@ module _ (n d : ℕ) (ls line : List ℕ) (few : n ≤ 8) (v : Valued n d ls lin
   unfolding eightFrom
   limits-are i h =
       listing-at (λ j. getD (values n line) (1 + j) 0) 0 8 i (omega arith)
-      ∙ value-at (valueAt table.LimitsFile line) (1 + n) (replicate (13 - (1 + n)) 0) (1 + i) (omega arith) ∙ limit-is i h
+      ∙ value-at (valueAt table.LimitsFile line) (1 + n) (replicate (13 - (1 + n)) 0) (1 + i) (omega arith)
+      ∙ limit-is i h
 
   -- nothing stands behind the last
   past : (i : ℕ) → n ≤ i → getD (eightFrom 1 (values n line)) i 0 ≡ 0
@@ -210,7 +213,13 @@ module _ (n d : ℕ) (ls line : List ℕ) (few : n ≤ 8) (v : Valued n d ls lin
   unfolding judgedLimits
   judged-fine h low =
       rw (fits-here, within-all maxLimit (eightFrom 1 (values n line)) each)
-      (record { refusal = refl; points = refl; days= = day-at n d ls line few v; limits= = limits-are n d ls line few v })
+      (record {
+        refusal = refl;
+        points = refl;
+        days= = day-at n d ls line few v;
+        limits= =
+            limits-are n d ls line few v;
+      })
     where
       fits-here : (leb 1 (getD (values n line) 0 0) && leb (getD (values n line) 0 0) maxDays) ≡ true
       fits-here = rw (day-at n d ls line few v) (fits h)
@@ -232,7 +241,8 @@ unread : (n lines : ℕ) (line : List ℕ) → n ≤ 8 → ((d : ℕ) (ls : List
 unfolding secondLimits
 unread n lines line few never =
     either (cellsOf table.LimitsFile (1 + n) line .read)
-    (λ yes. absurd (never (valueAt table.LimitsFile line 0) (eightFrom 1 (values n line)) (read-spelled n line few yes)))
+    (λ yes. absurd (never (valueAt table.LimitsFile line 0) (eightFrom 1 (values n line))
+    (read-spelled n line few yes)))
     (λ no. rw no refl)
 
 refused-at : {l : LimitsFile} {number line : ℕ} → l ≡ refusedLimits number line → RefusedAt l number line

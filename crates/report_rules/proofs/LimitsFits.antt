@@ -23,7 +23,8 @@ use Rattle.register.specs.LimitsFile.{refusedLimits, judgedLimits, secondLimits
 use Rattle.register.proofs.Rows.{header-range}
 use Rattle.report_text.specs.InnerRoom.{LimitsFit}
 
-judged-fit : (n : ℕ) (v : List ℕ) → 1 ≤ n → n ≤ 8 → judgedLimits n v .refusal ≡ 0 → LimitsFit (judgedLimits n v)
+judged-fit : (n : ℕ) (v : List ℕ) → 1 ≤ n → n ≤ 8 → judgedLimits n v .refusal ≡ 0
+    → LimitsFit (judgedLimits n v)
 unfolding judgedLimits
 judged-fit n v some few z =
     let days = leb 1 (getD v 0 0) && leb (getD v 0 0) maxDays in

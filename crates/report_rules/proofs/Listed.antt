@@ -76,6 +76,7 @@ pub many-one : (test : Movement → Bool) (m : Movement) (ms : List Movement)
 unfolding howMany
 many-one test m ms = omega arith
 
-pub many-none : (test : Movement → Bool) (ms : List Movement) → howMany test ms ≡ howMany test ms + howMany test []
+pub many-none : (test : Movement → Bool) (ms : List Movement)
+    → howMany test ms ≡ howMany test ms + howMany test []
 unfolding howMany
 many-none test ms = omega arith

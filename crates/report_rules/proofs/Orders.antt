@@ -27,7 +27,8 @@ use Rattle.report_rules.proofs.LimitsExact.{within-all}
 
 -- a test that passes exactly if this holds
 passes-for : {Holds : Type 0} (ok : Bool) → (ok ≡ true ↔ Holds) → Decides ok (Holds → ⊥)
-passes-for true e = decides true (λ t n. n (e .0 refl)) (λ t. let z : _≡_ {A = ℕ} 0 1 = cc in absurd (omega arith))
+passes-for true e = decides true (λ t n. n (e .0 refl)) (λ t. let z : _≡_ {A = ℕ} 0 1 = cc in
+    absurd (omega arith))
 passes-for false e =
     decides false (λ t n. let z : _≡_ {A = ℕ} 0 1 = cc in absurd (omega arith))
     (λ t h. let f = e .1 h in let z : _≡_ {A = ℕ} 0 1 = cc in absurd (omega arith))
@@ -64,7 +65,8 @@ within-for top xs = passes-for (allWithin top xs) (λ e i. within-at top xs i e,
 zero-for : (r : ℕ) → Decides (eqb r 0) (r ≡ 0 → ⊥)
 zero-for r = passes-for (eqb r 0) (λ e. eqb-true r 0 e, λ e. eq-eqb r 0 e)
 
-pub read-order : (p : ℕ) (line : List ℕ) (room : ℕ) → InReadOrder p line room (rowRefusal p (layoutOf p line) room)
+pub read-order : (p : ℕ) (line : List ℕ) (room : ℕ)
+    → InReadOrder p line room (rowRefusal p (layoutOf p line) room)
 unfolding rowRefusal
 read-order p line room =
     let l = layoutOf p line in
@@ -85,7 +87,8 @@ written-for p f levels = passes-for (levelsFit p levels && zeroWhereBlank (f .co
   where
     zeros : zeroWhereBlank (f .computed) levels ≡ true → f .computed ≡ 0 → (i : ℕ) → getD levels i 0 ≡ 0
     zeros t e i =
-        let w : allWithin 0 levels ≡ true = rw (eq-eqb (f .computed) 0 e) at t in omega (arith, within-at 0 levels i w)
+        let w : allWithin 0 levels ≡ true = rw (eq-eqb (f .computed) 0 e) at t in
+        omega (arith, within-at 0 levels i w)
 
     blank : (f .computed ≡ 0 → (i : ℕ) → getD levels i 0 ≡ 0) → zeroWhereBlank (f .computed) levels ≡ true
     blank z =
@@ -134,4 +137,5 @@ write-order p f levels room =
     given-by (fieldsFit (f .ty) (f .kind) (f .time) (f .mass)) (e ∙ fault-is f fit last) (fields-for f) λ _ e₁.
     given-by (identityFits (f .identity)) e₁ (identity-for f) λ _ e₃.
     given-by fit e₃ (written-for p f levels) λ _ e₇.
-    given-by (leb (length (showRow f levels)) room) e₇ (room-for (length (showRow f levels)) room) λ _ e₁₄. e₁₄
+    given-by (leb (length (showRow f levels)) room) e₇ (room-for (length (showRow f levels)) room) λ _
+    e₁₄. e₁₄

@@ -105,7 +105,8 @@ unfolding countOf
 comma-past d r ne = rw (ne-eqb 44 d ne) refl
 
 -- joined fields have no other byte than theirs and the comma
-pub joined-free : (d : ℕ) (fs : List (List ℕ)) → (44 ≡ d → ⊥) → Free d fs → countOf d (joinedBy 44 fs) ≡ 0
+pub joined-free : (d : ℕ) (fs : List (List ℕ)) → (44 ≡ d → ⊥) → Free d fs
+    → countOf d (joinedBy 44 fs) ≡ 0
 unfolding joinedBy
 joined-free d [] ne free = none-in d
 joined-free d (f ∷ []) ne free = free 0 (omega arith)
@@ -135,5 +136,6 @@ listing-at f d (suc n) i h =
     List·getD-append (listing f n) (f n ∷ []) d i (rw (length-listing f n) less) ∙ listing-at f d n i less)
 
 -- also where something stands behind it
-pub value-at : (f : ℕ → ℕ) (n : ℕ) (rest : List ℕ) (i : ℕ) → i < n → getD (listing f n ++ rest) i 0 ≡ f i
+pub value-at : (f : ℕ → ℕ) (n : ℕ) (rest : List ℕ) (i : ℕ) → i < n
+    → getD (listing f n ++ rest) i 0 ≡ f i
 value-at f n rest i h = List·getD-append (listing f n) rest 0 i (rw (length-listing f n) h) ∙ listing-at f 0 n i h

@@ -41,7 +41,8 @@ use Rattle.report_rules.proofs.Printed.{lines-ended, spelled-free, join
 
 -- The one line of a refusal
 
-refused-free : (d : ℕ) → d < 46 → (number n : ℕ) → Free d (bytes "refused" ∷ showNumber number ∷ showNumber n ∷ [])
+refused-free : (d : ℕ) → d < 46 → (number n : ℕ)
+    → Free d (bytes "refused" ∷ showNumber number ∷ showNumber n ∷ [])
 refused-free d low number n zero h = spelled-free d low
 refused-free d low number n (suc zero) h = shown-free d low 20 number
 refused-free d low number n (suc (suc zero)) h = shown-free d low 20 n
@@ -74,7 +75,8 @@ refuses text number n e =
     lines = ap linesOf e ∙ refused-lines number n
 
     field : (k : ℕ) → k < 3
-        → fieldOf 44 k (getD (linesOf text) 0 []) ≡ getD (bytes "refused" ∷ showNumber number ∷ showNumber n ∷ []) k []
+        → fieldOf 44 k (getD (linesOf text) 0 [])
+        ≡ getD (bytes "refused" ∷ showNumber number ∷ showNumber n ∷ []) k []
     field k h =
         ap (λ (ls : List (List ℕ)). fieldOf 44 k (getD ls 0 [])) lines
         ∙ join-field 44 (bytes "refused" ∷ showNumber number ∷ showNumber n ∷ [])
@@ -115,11 +117,13 @@ record FirstAt (p : ℕ) (s : Reading) (ls : List (List ℕ)) : Type 0 where
   number : linesRead p s ls .refusal
       ≡ lineRefusal p (s .line + before) (linesRead p s (take before ls) .book) (getD ls before [])
 
-line-stops : (p : ℕ) (s : Reading) (l : List ℕ) → (lineRead p s l .refusal ≡ 0 → ⊥) → lineRead p s l .line ≡ s .line
+line-stops : (p : ℕ) (s : Reading) (l : List ℕ) → (lineRead p s l .refusal ≡ 0 → ⊥)
+    → lineRead p s l .line ≡ s .line
 unfolding lineRead
 line-stops p s l ne = rw (ne-eqb (lineRefusal p (s .line) (s .book) l) 0 ne) refl
 
-line-goes : (p : ℕ) (s : Reading) (l : List ℕ) → lineRead p s l .refusal ≡ 0 → lineRead p s l .line ≡ s .line + 1
+line-goes : (p : ℕ) (s : Reading) (l : List ℕ) → lineRead p s l .refusal ≡ 0
+    → lineRead p s l .line ≡ s .line + 1
 unfolding lineRead
 line-goes p s l z = rw z refl
 
@@ -127,7 +131,8 @@ read-number : (p : ℕ) (s : Reading) (l : List ℕ) → lineRead p s l .refusal
 unfolding lineRead
 read-number p s l = refl
 
-first-at : (p : ℕ) (s : Reading) (ls : List (List ℕ)) → s .refusal ≡ 0 → (linesRead p s ls .refusal ≡ 0 → ⊥)
+first-at : (p : ℕ) (s : Reading) (ls : List (List ℕ)) → s .refusal ≡ 0
+    → (linesRead p s ls .refusal ≡ 0 → ⊥)
     → FirstAt p s ls
 unfolding linesRead
 first-at p s [] z ne = absurd (ne z)
@@ -155,7 +160,8 @@ first-at p s (l ∷ ls) z ne =
       number = rw (go, stays) (stopped p s l);
     })
   where
-    stopped : (p : ℕ) (s : Reading) (l : List ℕ) → lineRead p s l .refusal ≡ lineRefusal p (s .line + 0) (s .book) l
+    stopped : (p : ℕ) (s : Reading) (l : List ℕ)
+        → lineRead p s l .refusal ≡ lineRefusal p (s .line + 0) (s .book) l
     stopped p s l = let q : s .line + 0 ≡ s .line = omega arith in rw q (read-number p s l)
 
 -- The whole register

@@ -16,7 +16,8 @@ use Rattle.text.specs.Number.{isGot, showLevel}
 use Rattle.text.proofs.Digits.{either}
 use Rattle.text.proofs.Indices.{every-each, every-all, many-no, many-all}
 use Rattle.text.proofs.Shown.{level-least}
-use Rattle.register.specs.Cell.{levelOrBlank, rowCell, cellAt, gotAt, valueAt, blankAt, blankCell, gotCells, cellsOf, shownCell, topOf}
+use Rattle.register.specs.Cell.{levelOrBlank, rowCell, cellAt, gotAt, valueAt, blankAt, blankCell, gotCells, cellsOf}
+use Rattle.register.specs.Cell.{shownCell, topOf}
 use Rattle.register.specs.Row.{pointsFit, offLayout, rowLayout, cellsLayout, layoutOf}
 use Rattle.register.specs.declared.cell.Cells.{Cells}
 use Rattle.register.specs.declared.cell.Table.the-variants.{Register}
@@ -46,7 +47,8 @@ module _ (p : ℕ) (row : List ℕ) (f : Fields) (levels : List ℕ) (w : Spells
       (λ yes. blank-cell (5 + i) (omega arith) (w .blank (eqb-true (f .computed) 0 yes) i h))
       (λ no. let m = one (eqb-false (f .computed) 0 no) in
       let v = getD levels i 0 in
-      cell-at (5 + i) v (rw (top-level (5 + i) (omega arith)) (w .given< m i h)) (w .given m i h ∙ sym (shown-level (5 + i) (omega arith) v)))
+      cell-at (5 + i) v (rw (top-level (5 + i) (omega arith)) (w .given< m i h)) (w .given m i h
+      ∙ sym (shown-level (5 + i) (omega arith) v)))
 
   cell : (k : ℕ) → k < 5 + p → gotAt Register (bareLine row) k ≡ true
   unfolding shownCell topOf
@@ -60,10 +62,14 @@ module _ (p : ℕ) (row : List ℕ) (f : Fields) (levels : List ℕ) (w : Spells
       rw e (level-cell i (omega arith))
 
   read : cellsOf Register (5 + p) (bareLine row)
-      ≡ gotCells (many (blankAt (bareLine row)) (5 + p - 5)) (listing (valueAt Register (bareLine row)) (5 + p) ++ replicate (13 - (5 + p)) 0)
+      ≡ gotCells (many (blankAt (bareLine row)) (5 + p - 5))
+      (listing (valueAt Register (bareLine row)) (5 + p) ++ replicate (13 - (5 + p)) 0)
   unfolding cellsOf
   read =
-      rw (eq-eqb (countOf 44 (bareLine row) + 1) (5 + p) (omega (arith, w .commas)), every-all (gotAt Register (bareLine row)) (5 + p) cell) refl
+      rw (
+        eq-eqb (countOf 44 (bareLine row) + 1) (5 + p) (omega (arith, w .commas)),
+        every-all (gotAt Register (bareLine row)) (5 + p) cell,
+      ) refl
 
   blanks-none : f .computed ≡ 1 → many (blankAt (bareLine row)) (5 + p - 5) ≡ 0
   blanks-none m =
@@ -85,7 +91,14 @@ module _ (p : ℕ) (row : List ℕ) (f : Fields) (levels : List ℕ) (w : Spells
       let least = le-leb 1 p (w .points .0) in
       let most = le-leb p 8 (w .points .1) in
       either (eqb (f .computed) 0)
-      (λ yes. rw (least, most, read, blanks-all (eqb-true (f .computed) 0 yes), ne-eqb p 0 (λ z. absurd (omega (arith, w .points .0))), eq-eqb p p refl) refl)
+      (λ yes. rw (
+        least,
+        most,
+        read,
+        blanks-all (eqb-true (f .computed) 0 yes),
+        ne-eqb p 0 (λ z. absurd (omega (arith, w .points .0))),
+        eq-eqb p p refl,
+      ) refl)
       (λ no. rw (least, most, read, blanks-none (one (eqb-false (f .computed) 0 no))) refl)
 
 -- a layout is read or 16
@@ -94,8 +107,10 @@ unfolding cellsLayout rowLayout
 cells-number n c = go (c .read) (eqb (c .blanks) 0) (eqb (c .blanks) n)
   where
     go : (x y z : Bool)
-        → (cond x (cond y (rowLayout (c .values) 1) (cond z (rowLayout (c .values) 0) offLayout)) offLayout .refusal ≡ 0)
-        ⊎ (cond x (cond y (rowLayout (c .values) 1) (cond z (rowLayout (c .values) 0) offLayout)) offLayout .refusal ≡ 16)
+        → (cond x (cond y (rowLayout (c .values) 1) (cond z (rowLayout (c .values) 0) offLayout)) offLayout
+        .refusal ≡ 0)
+        ⊎ (cond x (cond y (rowLayout (c .values) 1) (cond z (rowLayout (c .values) 0) offLayout)) offLayout
+        .refusal ≡ 16)
     go true true z = inl refl
     go true false true = inl refl
     go true false false = inr refl
@@ -109,7 +124,8 @@ layout-number p row =
     (λ no. rw no (inr refl))
 
 -- and one that is read spells what is read of it
-read-spells : (p : ℕ) (row : List ℕ) → layoutOf p row .refusal ≡ 0 → Spells p row (layoutOf p row .fields) (layoutOf p row .levels)
+read-spells : (p : ℕ) (row : List ℕ) → layoutOf p row .refusal ≡ 0
+    → Spells p row (layoutOf p row .fields) (layoutOf p row .levels)
 read-spells p row e =
     let s = row-spelled p row e in
     let on = marked p row e .1 in
@@ -137,5 +153,7 @@ row-exactly p row =
     record {
       on = read-spells p row;
       only = spelled-read p row;
-      off = λ never. ⊎-elim (λ z. absurd (never (layoutOf p row .fields) (layoutOf p row .levels) (read-spells p row z))) (λ e. e) (layout-number p row);
+      off = λ never. ⊎-elim (λ z. absurd
+          (never (layoutOf p row .fields) (layoutOf p row .levels) (read-spells p row z))) (λ e. e)
+          (layout-number p row);
     }

@@ -33,7 +33,8 @@ pub data Did (p : ℕ) (b : Book) (line : List ℕ) : Type 0 where
   given : refusal p b (entering (layoutOf p line)) ≡ 0 → (layoutOf p line .fields .computed ≡ 0 → ⊥)
       → refusal p (after p b (entering (layoutOf p line))) (supplying p (layoutOf p line)) ≡ 0 → Did p b line
 
-pub row-read : (p : ℕ) (b : Book) (line : List ℕ) → takenNumber (rowTaken p b line) ≡ 0 → layoutOf p line .refusal ≡ 0
+pub row-read : (p : ℕ) (b : Book) (line : List ℕ) → takenNumber (rowTaken p b line) ≡ 0
+    → layoutOf p line .refusal ≡ 0
 unfolding rowTaken
 row-read p b line z =
     either (eqb (layoutOf p line .refusal) 0)
@@ -104,7 +105,8 @@ calls-given p b line read in-book some =
 
 -- a row's movement, blank and with levels
 flight-blank : (p : ℕ) (l : Layout) → l .fields .computed ≡ 0
-    → flightOf p l ≡ movement (l .fields .identity) (groupOf (l .fields .ty) (l .fields .kind) (l .fields .time)) none
+    → flightOf p l ≡ movement (l .fields .identity)
+    (groupOf (l .fields .ty) (l .fields .kind) (l .fields .time)) none
 flight-blank p l e = rw (eq-eqb (l .fields .computed) 0 e) refl
 
 flight-given : (p : ℕ) (l : Layout) → (l .fields .computed ≡ 0 → ⊥)
@@ -147,7 +149,8 @@ row-flights p n b ms line t z test = go (row-did p b line z)
 
     known : refusal p b (entering l) ≡ 0 → Entering (l .fields .mass) x ms
     known in-book =
-        enter-none p n ms x (l .fields .ty) (l .fields .kind) (l .fields .time) (l .fields .mass) (sym listed ∙ in-book)
+        enter-none p n ms x (l .fields .ty) (l .fields .kind) (l .fields .time) (l .fields .mass) (sym listed
+        ∙ in-book)
 
     go : Did p b line
         → howMany test (listOf ms (accepted p n ms (rowCalls p b line)))
@@ -160,13 +163,15 @@ row-flights p n b ms line t z test = go (row-did p b line z)
         (sym (flight-no p line (enter-two p b x (l .fields .ty) (l .fields .kind) (l .fields .time)
         (l .fields .mass) two .light)))
     go (blank in-book empty) =
-        ap (λ (cs : List Made). howMany test (listOf ms (accepted p n ms cs))) (calls-blank p b line read in-book empty)
+        ap (λ (cs : List Made). howMany test (listOf ms (accepted p n ms cs)))
+        (calls-blank p b line read in-book empty)
         ∙ ap (howMany test) (one-accepted p n ms (made p (entering l)) [] (sym listed ∙ in-book)
         ∙ none-left p n entered)
         ∙ many-added test (movement x group Held.none) ms
         ∙ many-one test (movement x group Held.none) ms
         ∙ ap (λ (fs : List Movement). howMany test ms + howMany test fs)
-        (ap (λ (m : Movement). m ∷ []) (sym (flight-blank p l empty)) ∙ sym (flight-yes p line (known in-book .heavy)))
+        (ap (λ (m : Movement). m ∷ []) (sym (flight-blank p l empty))
+        ∙ sym (flight-yes p line (known in-book .heavy)))
     go (given in-book some fine) =
         let accepts : listRefusal p n entered (made p (supplying p l)) ≡ 0 =
         sym (refusal-told p n (after p b (entering l)) entered (made p (supplying p l)) (told-entered in-book))
@@ -174,11 +179,13 @@ row-flights p n b ms line t z test = go (row-did p b line z)
         ap (λ (cs : List Made). howMany test (listOf ms (accepted p n ms cs))) (calls-given p b line read in-book some)
         ∙ ap (howMany test) (one-accepted p n ms (made p (entering l)) (made p (supplying p l) ∷ [])
         (sym listed ∙ in-book)
-        ∙ one-accepted p n entered (made p (supplying p l)) [] accepts ∙ none-left p n (step entered (supplying p l)))
+        ∙ one-accepted p n entered (made p (supplying p l)) [] accepts
+        ∙ none-left p n (step entered (supplying p l)))
         ∙ many-held test x group (holds (take p (l .levels))) ms (known in-book .new)
         ∙ many-one test (movement x group (holds (take p (l .levels)))) ms
         ∙ ap (λ (fs : List Movement). howMany test ms + howMany test fs)
-        (ap (λ (m : Movement). m ∷ []) (sym (flight-given p l some)) ∙ sym (flight-yes p line (known in-book .heavy)))
+        (ap (λ (m : Movement). m ∷ []) (sym (flight-given p l some))
+        ∙ sym (flight-yes p line (known in-book .heavy)))
 
 -- A row is passed over exactly where it is too light
 
@@ -188,7 +195,8 @@ never-entered e = let z : _≡_ {A = ℕ} 0 1 = cc in absurd (omega arith)
 never-refused : {A : Type 0} {n : ℕ} → Refused n ≡ PassedOver → A
 never-refused e = let z : _≡_ {A = ℕ} 0 1 = cc in absurd (omega arith)
 
-passed-two : (p : ℕ) (b : Book) (line : List ℕ) → layoutOf p line .refusal ≡ 0 → rowTaken p b line ≡ PassedOver
+passed-two : (p : ℕ) (b : Book) (line : List ℕ) → layoutOf p line .refusal ≡ 0
+    → rowTaken p b line ≡ PassedOver
     → refusal p b (entering (layoutOf p line)) ≡ 2
 unfolding rowTaken layoutTaken enteredTaken
 passed-two p b line read e =
@@ -213,7 +221,8 @@ row-passed p b line e =
     let l = enter-two p b (f .identity) (f .ty) (f .kind) (f .time) (f .mass) (passed-two p b line read e) in
     record { read = read; rule-1 = l .rule-1; light = l .light }
 
-pub light-passed : (p : ℕ) (b : Book) (line : List ℕ) → sound p b ≡ true → Light p line → rowTaken p b line ≡ PassedOver
+pub light-passed : (p : ℕ) (b : Book) (line : List ℕ) → sound p b ≡ true → Light p line
+    → rowTaken p b line ≡ PassedOver
 unfolding rowTaken layoutTaken
 light-passed p b line ok k =
     let f = layoutOf p line .fields in

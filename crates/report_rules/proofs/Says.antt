@@ -53,7 +53,8 @@ points-free l b (suc i) h =
     ap (countOf 13) (listing-at (pointLine l b) [] (l .points) i less)
     ∙ line-unbroken i (getD (l .limits) i 0) (bookLoad (l .points) i b (l .days))
 
-pub points-lines : (l : LimitsFile) (b : Book) → linesOf (pointsText l b) ≡ headerLine ∷ listing (pointLine l b) (l .points)
+pub points-lines : (l : LimitsFile) (b : Book)
+    → linesOf (pointsText l b) ≡ headerLine ∷ listing (pointLine l b) (l .points)
 unfolding pointsText
 points-lines l b = lines-ended (headerLine ∷ listing (pointLine l b) (l .points)) (points-free l b)
 
@@ -71,7 +72,8 @@ text-over : (x : Level) (limit : ℕ) → levelGiven x ≡ 1 → limit < levelVa
 text-over BelowZero limit e m = absurd (omega arith)
 text-over (At n) limit e m = rw (lt-ltb limit n m) refl
 
-text-within : (x : Level) (limit : ℕ) → levelValue x ≤ limit → verdictText (verdictOf x limit) ≡ bytes "within"
+text-within : (x : Level) (limit : ℕ) → levelValue x ≤ limit
+    → verdictText (verdictOf x limit) ≡ bytes "within"
 text-within BelowZero limit m = refl
 text-within (At n) limit m = rw (le-ltb limit n m) refl
 
@@ -79,7 +81,9 @@ text-none : (x : Level) (limit : ℕ) → levelGiven x ≡ 0 → verdictText (ve
 text-none BelowZero limit e = refl
 text-none (At n) limit e = absurd (omega arith)
 
-module _ (limits register : List ℕ) (fine : limitsOf limits .refusal ≡ 0) (accepted : registered (limitsOf limits .points) (emptyBook (limitsOf limits .points) bookRows) register .refusal ≡ 0)
+module _ (limits register : List ℕ) (fine : limitsOf limits .refusal ≡ 0)
+    (accepted : registered (limitsOf limits .points) (emptyBook (limitsOf limits .points) bookRows) register
+    .refusal ≡ 0)
     (reported : bookRefusal (limitsOf limits) (bookIn (limitsOf limits .points) register) ≡ 0) where
   abbrev l : LimitsFile
   l = limitsOf limits
@@ -107,7 +111,8 @@ module _ (limits register : List ℕ) (fine : limitsOf limits .refusal ≡ 0) (a
   made : b ≡ booked (emptyBook p bookRows) cs
   made = register-booked p (emptyBook p bookRows) register
 
-  answered : (point : ℕ) → point < p → bookLoad p point (booked (emptyBook p bookRows) cs) (l .days) .refused ≡ 0
+  answered : (point : ℕ) → point < p → bookLoad p point (booked (emptyBook p bookRows) cs) (l .days) .refused
+      ≡ 0
   unfolding bookRefusal
   answered point h =
       let first : bookLoad p 0 (booked (emptyBook p bookRows) cs) (l .days) .refused ≡ 0 = rw made at reported in
@@ -115,9 +120,11 @@ module _ (limits register : List ℕ) (fine : limitsOf limits .refusal ≡ 0) (a
       counted-once p point bookRows cs (l .days) .refusals .answered .1
       (record { points = k .0 .points; rows = k .0 .rows; there = h }, k .1)
 
-  counts : (point : ℕ) → point < p → CountsEach (bookLoad p point b (l .days)) point (standingIn p register) (l .days)
+  counts : (point : ℕ) → point < p
+      → CountsEach (bookLoad p point b (l .days)) point (standingIn p register) (l .days)
   counts point h =
-      subst (λ (k : Book). CountsEach (bookLoad p point k (l .days)) point (standingIn p register) (l .days)) (sym made)
+      subst (λ (k : Book). CountsEach (bookLoad p point k (l .days)) point (standingIn p register) (l .days))
+      (sym made)
       (counted-once p point bookRows cs (l .days) .counts (answered point h))
 
   field : (point k : ℕ) → point < p → k < 6

@@ -110,10 +110,12 @@ module _ (p : ℕ) (row : List ℕ) (e : layoutOf p row .refusal ≡ 0) where
         rw (field (λ l. l .fields .mass) 2 (omega arith) refl) (text 2 in2 (head 2 (omega arith)) .1),
       )
 
-  pub level-below : layoutOf p row .fields .computed ≡ 1 → (i : ℕ) → i < p → getD (layoutOf p row .levels) i 0 < 100000
+  pub level-below : layoutOf p row .fields .computed ≡ 1 → (i : ℕ) → i < p
+      → getD (layoutOf p row .levels) i 0 < 100000
   level-below one i h =
       let m : mark ≡ 1 = sym mark-is ∙ one in
-      let b : blankCell (5 + i) (fieldOf 44 (5 + i) (bareLine row)) ≡ false = rw (le-leb 5 (5 + i) (omega arith)) (on .blanks i h ∙ rw m refl) in
+      let b : blankCell (5 + i) (fieldOf 44 (5 + i) (bareLine row)) ≡ false =
+      rw (le-leb 5 (5 + i) (omega arith)) (on .blanks i h ∙ rw m refl) in
       rw (level i h, ← top-level (5 + i) (omega arith)) (text (5 + i) (omega arith) b .1)
 
   pub row-spelled : RowSpelled p row

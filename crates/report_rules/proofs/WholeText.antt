@@ -36,11 +36,13 @@ use Rattle.register.specs.declared.limits_csv.LimitsFile.{LimitsFile}
 use Rattle.register.specs.LimitsFile.{judgedLimits, secondLimits, headedLimits, limitsOf}
 use Rattle.report_steps.specs.Booking.{registerCalls}
 use Rattle.report_steps.proofs.Bookings.{register-booked}
-use Rattle.report_text.specs.Text.{lineEnd, ended, line, headerLine, pointFields, pointLine, pointsText, refusedText, bookRefusal, bookText}
+use Rattle.report_text.specs.Text.{lineEnd, ended, line, headerLine, pointFields, pointLine, pointsText, refusedText}
+use Rattle.report_text.specs.Text.{bookRefusal, bookText}
 use Rattle.report_rules.specs.Report.{bookRows, reportOf}
 use Rattle.report_rules.specs.Flights.{howMany, computed, bookIn, standingIn}
 use Rattle.report_rules.specs.WholeText.{crlf, refusalBytes, readIn, flights, Whole, WholeText}
-use Rattle.report_rules.proofs.Answers.{reading-refused, reading-reported, register-text, report-refused, report-accepted}
+use Rattle.report_rules.proofs.Answers.{reading-refused, reading-reported, register-text, report-refused}
+use Rattle.report_rules.proofs.Answers.{report-accepted}
 use Rattle.report_rules.proofs.LimitsFits.{limits-fit}
 use Rattle.report_rules.proofs.Printed.{fields-free, listing-at}
 use Rattle.report_rules.proofs.Flights.{all-stand}
@@ -50,7 +52,8 @@ use Rattle.report_rules.proofs.Says.{book-points, points-lines, report-
 
 refusal-bytes : (number n : ℕ) → refusedText number n ≡ refusalBytes number n
 unfolding refusedText ended joinedBy
-refusal-bytes number n = ap (λ (t : List ℕ). bytes "refused," ++ t) (append-assoc (showNumber number) (44 ∷ showNumber n) crlf)
+refusal-bytes number n = ap (λ (t : List ℕ). bytes "refused," ++ t)
+    (append-assoc (showNumber number) (44 ∷ showNumber n) crlf)
 
 ten-bytes : refusalBytes 10 0 ≡ bytes "refused,10,0" ++ crlf
 unfolding shown
@@ -80,11 +83,15 @@ judged-days n v z =
     let most = leb (getD v 0 0) maxDays in
     either (least && most)
     (λ fit. either (allWithin maxLimit (eightFrom 1 v))
-    (λ low. rw (fit, low) (leb-true 1 (getD v 0 0) (and-left least most fit), leb-true (getD v 0 0) 366 (and-right least most fit)))
+    (λ low. rw (fit, low) (
+      leb-true 1 (getD v 0 0) (and-left least most fit),
+      leb-true (getD v 0 0) 366 (and-right least most fit),
+    ))
     (λ high. absurd (omega (arith, rw (fit, high) at z))))
     (λ off. absurd (omega (arith, rw off at z)))
 
-headed-days : (r : Number) (second : List ℕ) (lines : ℕ) → headedLimits r second lines .refusal ≡ 0 → DaysInRange (headedLimits r second lines .days)
+headed-days : (r : Number) (second : List ℕ) (lines : ℕ) → headedLimits r second lines .refusal ≡ 0
+    → DaysInRange (headedLimits r second lines .days)
 unfolding secondLimits
 headed-days Off second lines z = absurd (omega arith)
 headed-days (Got n) second lines z =
@@ -96,7 +103,8 @@ headed-days (Got n) second lines z =
 
 limits-days : (s : List ℕ) → limitsOf s .refusal ≡ 0 → DaysInRange (limitsOf s .days)
 unfolding limitsOf
-limits-days s z = headed-days (headerOf limitsHeader 4 (getD (linesOf s) 0 [])) (getD (linesOf s) 1 []) (length (linesOf s)) z
+limits-days s z = headed-days (headerOf limitsHeader 4 (getD (linesOf s) 0 [])) (getD (linesOf s) 1 [])
+    (length (linesOf s)) z
 
 -- movements without levels
 
@@ -118,10 +126,15 @@ bare-none h e = rw e refl
 held-many : (ms : List Movement) → NoneHeld ms → howMany computed ms ≡ 0
 unfolding howMany
 held-many [] h = refl
-held-many (m ∷ ms) h = omega (arith, bare-none (m .held) (h 0 (omega arith)), held-many ms (λ i l. h (suc i) (omega arith)))
+held-many (m ∷ ms) h = omega (
+  arith,
+  bare-none (m .held) (h 0 (omega arith)),
+  held-many ms (λ i l. h (suc i) (omega arith)),
+)
 
 -- limits.csv and register are accepted
-module _ (limits register : List ℕ) (fine : limitsOf limits .refusal ≡ 0) (accepted : readIn limits register .refusal ≡ 0) where
+module _ (limits register : List ℕ) (fine : limitsOf limits .refusal ≡ 0)
+    (accepted : readIn limits register .refusal ≡ 0) where
   abbrev l : LimitsFile
   l = limitsOf limits
 
@@ -137,10 +150,12 @@ module _ (limits register : List ℕ) (fine : limitsOf limits .refusal ≡ 0) (a
   made : b ≡ booked (emptyBook p bookRows) cs
   made = register-booked p (emptyBook p bookRows) register
 
-  numbers : LoadNumbers (InRange p bookRows 0) (DaysInRange (l .days)) (NoneComputed (standingIn p register)) (bookRefusal l b)
+  numbers : LoadNumbers (InRange p bookRows 0) (DaysInRange (l .days)) (NoneComputed (standingIn p register))
+      (bookRefusal l b)
   unfolding bookRefusal
   numbers =
-      subst (λ (k : Book). LoadNumbers (InRange p bookRows 0) (DaysInRange (l .days)) (NoneComputed (standingIn p register)) (bookLoad p 0 k (l .days) .refused))
+      subst (λ (k : Book). LoadNumbers (InRange p bookRows 0) (DaysInRange (l .days))
+      (NoneComputed (standingIn p register)) (bookLoad p 0 k (l .days) .refused))
       (sym made) (counted-once p 0 bookRows cs (l .days) .refusals)
 
   in-range : InRange p bookRows 0
@@ -148,7 +163,8 @@ module _ (limits register : List ℕ) (fine : limitsOf limits .refusal ≡ 0) (a
       let fit = limits-fit limits fine in
       record { points = (fit .some, fit .few); rows = (omega arith, omega arith); there = omega (arith, fit .some) }
 
-  ten-given : 1 ≤ length (flights limits register) → howMany computed (flights limits register) ≡ 0 → bookRefusal l b ≡ 10
+  ten-given : 1 ≤ length (flights limits register) → howMany computed (flights limits register) ≡ 0
+      → bookRefusal l b ≡ 10
   ten-given some z =
       let stand = all-stand p register accepted in
       numbers .ten .1 (
@@ -162,7 +178,8 @@ module _ (limits register : List ℕ) (fine : limitsOf limits .refusal ≡ 0) (a
         ),
       )
 
-  none-given : (length (flights limits register) ≡ 0) ⊎ (1 ≤ howMany computed (flights limits register)) → bookRefusal l b ≡ 0
+  none-given : (length (flights limits register) ≡ 0) ⊎ (1 ≤ howMany computed (flights limits register))
+      → bookRefusal l b ≡ 0
   none-given either-way =
       let stand = all-stand p register accepted in
       numbers .answered .1 (
@@ -201,7 +218,11 @@ module _ (limits register : List ℕ) (fine : limitsOf limits .refusal ≡ 0) (a
   six-fields point =
       let load = bookLoad p point b (l .days) in
       let limit = getD (l .limits) point 0 in
-      omega (arith, join-count-all 44 (pointFields point limit load) (fields-free 44 (omega arith) point limit load) (omega arith))
+      omega (
+        arith,
+        join-count-all 44 (pointFields point limit load) (fields-free 44 (omega arith) point limit load)
+            (omega arith),
+      )
 
   pub points-whole : bookRefusal l b ≡ 0 → Whole p (reportOf limits register)
   points-whole z =

@@ -22,19 +22,22 @@ use Rattle.report_steps.specs.Intake.{layoutTaken, layoutAfter, rowTaken
 use Rattle.report_steps.specs.InnerTaken.{RowTaken, LevelsTaken}
 
 -- *supply* of a row's levels, refused or accepted
-pub levels-refused : {p x r : ℕ} {b b′ : Book} {given : List ℕ} → Called p b (Call.supply x (take p given)) r b′
+pub levels-refused : {p x r : ℕ} {b b′ : Book} {given : List ℕ}
+    → Called p b (Call.supply x (take p given)) r b′
     → (r ≡ 0 → ⊥)
     → LevelsTaken p b x given (Refused r) b′
 levels-refused {p} {x} {r} {b} {b′} {given} k ne =
     record { answer = rw (← k .answer, ne-eqb r 0 ne) refl; book = k .book }
 
-pub levels-entered : {p x r : ℕ} {b b′ : Book} {given : List ℕ} → Called p b (Call.supply x (take p given)) r b′ → r ≡ 0
+pub levels-entered : {p x r : ℕ} {b b′ : Book} {given : List ℕ}
+    → Called p b (Call.supply x (take p given)) r b′ → r ≡ 0
     → LevelsTaken p b x given Entered b′
 levels-entered {p} {x} {r} {b} {b′} {given} k z =
     record { answer = rw (← k .answer, eq-eqb r 0 z) refl; book = k .book }
 
 -- a row off its layout
-pub row-off : (line : List ℕ) {p : ℕ} {b : Book} {l : Layout} → l ≡ layoutOf p line → (l .refusal ≡ 0 → ⊥)
+pub row-off : (line : List ℕ) {p : ℕ} {b : Book} {l : Layout} → l ≡ layoutOf p line
+    → (l .refusal ≡ 0 → ⊥)
     → RowTaken p b line (Refused 16) b
 unfolding rowTaken rowAfter
 row-off line {p} {b} {l} e ne =
@@ -85,7 +88,8 @@ module _ (line : List ℕ) {p r : ℕ} {b b₁ : Book} {l : Layout} (e : l ≡ l
       }
 
 -- a row keeps a sound book sound
-pub row-sound : {p : ℕ} {b b′ : Book} {r : Taken} (line : List ℕ) → sound p b ≡ true → RowTaken p b line r b′
+pub row-sound : {p : ℕ} {b b′ : Book} {r : Taken} (line : List ℕ) → sound p b ≡ true
+    → RowTaken p b line r b′
     → sound p b′ ≡ true
 unfolding rowAfter layoutAfter enteredAfter
 row-sound {p} {b} {b′} {r} line s k =

@@ -29,7 +29,8 @@ first-least (c ∷ []) t h = omega arith
 first-least (c ∷ (d ∷ xs)) t h = go (eqb c 13 && eqb d 10) h (first-least (d ∷ xs) t)
   where
     go : (b : Bool) → suc (suc (length xs)) < length (cond b [] (c ∷ firstLine (d ∷ xs))) + 2
-        → (suc (length xs) < length (firstLine (d ∷ xs)) + 2 → suc (length xs) ≤ length (firstLine ((d ∷ xs) ++ t)) + 1)
+        → (suc (length xs) < length (firstLine (d ∷ xs)) + 2
+        → suc (length xs) ≤ length (firstLine ((d ∷ xs) ++ t)) + 1)
         → suc (suc (length xs)) ≤ length (cond b [] (c ∷ firstLine ((d ∷ xs) ++ t))) + 1
     go true h r = absurd (omega arith)
     go false h r = omega (arith, r (omega arith))
@@ -41,9 +42,11 @@ no-end [] i h = absurd (omega arith)
 no-end (c ∷ s) i h = go (eqb c 13 && eqb (getD s 0 0) 10) refl i h (no-end s)
   where
     head : 1 ≤ length (firstLine s) → getD (firstLine s) 0 0 ≡ getD s 0 0
-    head l = ap (λ (x : List ℕ). getD x 0 0) (sym (line-take s)) ∙ getD-take (length (firstLine s)) s 0 0 (omega arith)
+    head l = ap (λ (x : List ℕ). getD x 0 0) (sym (line-take s))
+        ∙ getD-take (length (firstLine s)) s 0 0 (omega arith)
 
-    go : (b : Bool) → (eqb c 13 && eqb (getD s 0 0) 10) ≡ b → (i : ℕ) → suc i < length (cond b [] (c ∷ firstLine s))
+    go : (b : Bool) → (eqb c 13 && eqb (getD s 0 0) 10) ≡ b → (i : ℕ)
+        → suc i < length (cond b [] (c ∷ firstLine s))
         → ((j : ℕ) → suc j < length (firstLine s) → endAt (firstLine s) j ≡ false)
         → endAt (cond b [] (c ∷ firstLine s)) i ≡ false
     go true e i h r = absurd (omega arith)
@@ -71,12 +74,14 @@ long-refused p n b line h =
     (λ yes. rw (yes, header-long line (omega (arith, bare-most line))) refl)
     (λ no. rw (no, long-row p line h) refl)
 
-pub long-after : (p n : ℕ) (b : Book) (line : List ℕ) → longestRow < length (bareLine line) → lineAfter p n b line ≡ b
+pub long-after : (p n : ℕ) (b : Book) (line : List ℕ) → longestRow < length (bareLine line)
+    → lineAfter p n b line ≡ b
 unfolding lineAfter rowAfter
 long-after p n b line h = either (eqb n 1) (λ yes. rw yes refl) (λ no. rw (no, long-row p line h) refl)
 
 -- more bytes than any line on its layout has, and no CRLF in them: whatever follows, the line is refused
-pub onward-long : (p : ℕ) (s : Reading) (xs : List ℕ) → s .refusal ≡ 0 → Unended xs → longestLine < length xs
+pub onward-long : (p : ℕ) (s : Reading) (xs : List ℕ) → s .refusal ≡ 0 → Unended xs
+    → longestLine < length xs
     → (t : List ℕ) → readOn p s (xs ++ t) ≡ offAt s
 unfolding linesRead lineRead
 onward-long p s xs z h l t =

@@ -50,7 +50,10 @@ front-next xs ys from n i fits l len front back =
 onward-refused : {p : ℕ} {s s′ : Reading} {xs ys : List ℕ} (rest : List ℕ) → Onward p s xs s′ ys
     → (s′ .refusal ≡ 0 → ⊥) → Onward p s xs s′ rest
 onward-refused {p} {s} {s′} {xs} {ys} rest f ne =
-    record { same = λ t. f .same t ∙ stuck p s′ (linesOf (ys ++ t)) ne ∙ sym (stuck p s′ (linesOf (rest ++ t)) ne) }
+    record {
+      same = λ t. f .same t ∙ stuck p s′ (linesOf (ys ++ t)) ne
+          ∙ sym (stuck p s′ (linesOf (rest ++ t)) ne);
+    }
 
 pub piece-refused : {p at : ℕ} {s s′ : Reading} {xs : List ℕ} (rest : List ℕ) → LinesTaken p s xs at s′
     → (s′ .refusal ≡ 0 → ⊥) → PieceTaken p s xs s′ rest
@@ -94,7 +97,8 @@ pub came-failed : (z : ℤ) (room : ℕ) → ltZ z (pos 0) ≡ true → Failed �
 came-failed (pos k) room e = absurd (omega (arith, ltb-true k 0 e))
 came-failed (negsuc k) room e = refl
 
-pub came-end : (z : ℤ) (room n : ℕ) → ltZ z (pos 0) ≡ false → n ≡ clamped z room → n ≡ 0 → End ≡ arrivedOf z room
+pub came-end : (z : ℤ) (room n : ℕ) → ltZ z (pos 0) ≡ false → n ≡ clamped z room → n ≡ 0
+    → End ≡ arrivedOf z room
 came-end (pos k) room n e q none = rw (← q, none) refl
 came-end (negsuc k) room n e q none = let never : _≡_ {A = ℕ} 0 1 = cc in absurd (omega arith)
 
@@ -109,7 +113,8 @@ pub arrived-end : (z : ℤ) (room : ℕ) → 1 ≤ room → arrivedOf z room ≡
 arrived-end (pos k) room h e =
     either (eqb (min k room) 0)
     (λ yes. let q : k ≡ 0 = omega (arith, eqb-true (min k room) 0 yes) in ap pos q)
-    (λ no. let f : Bytes (min k room) ≡ End = rw no at e in let never : _≡_ {A = ℕ} 0 1 = cc in absurd (omega arith))
+    (λ no. let f : Bytes (min k room) ≡ End = rw no at e in let never : _≡_ {A = ℕ} 0 1 = cc in
+    absurd (omega arith))
 arrived-end (negsuc k) room h e = let never : _≡_ {A = ℕ} 0 1 = cc in absurd (omega arith)
 
 pub arrived-bytes : (k room n : ℕ) → k ≤ room → arrivedOf (pos k) room ≡ Bytes n → n ≡ k

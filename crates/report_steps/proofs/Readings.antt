@@ -39,7 +39,8 @@ stuck p s [] ne = refl
 stuck p s (l ∷ ls) ne = rw (ne-eqb (s .refusal) 0 ne) refl
 
 -- a line that is ended
-pub onward-line : (p : ℕ) (s : Reading) (xs : List ℕ) → s .refusal ≡ 0 → length (firstLine xs) + 2 ≤ length xs
+pub onward-line : (p : ℕ) (s : Reading) (xs : List ℕ) → s .refusal ≡ 0
+    → length (firstLine xs) + 2 ≤ length xs
     → Onward p s xs (lineRead p s (firstLine xs)) (drop (length (firstLine xs) + 2) xs)
 unfolding linesRead
 onward-line p s xs z h = record { same = λ t. rw (stream-line xs t h, eq-eqb (s .refusal) 0 z) refl }
@@ -88,7 +89,8 @@ whole-read p b all s s′ rest f e =
 
 -- No line is left out: where nothing is refused, as many lines are read as the text has
 
-line-next : (p : ℕ) (s : Reading) (l : List ℕ) (ls : List (List ℕ)) → linesRead p (lineRead p s l) ls .refusal ≡ 0
+line-next : (p : ℕ) (s : Reading) (l : List ℕ) (ls : List (List ℕ))
+    → linesRead p (lineRead p s l) ls .refusal ≡ 0
     → lineRead p s l .line ≡ s .line + 1
 unfolding lineRead
 line-next p s l ls z =

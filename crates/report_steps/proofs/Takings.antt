@@ -24,7 +24,8 @@ use Rattle.report_steps.proofs.Intakes.{row-sound}
 use Rattle.report_steps.proofs.Readings.{onward-none, onward-then, onward-line, stuck, read-last, read-none}
 
 -- one line keeps a sound book sound
-pub line-sound : (p n : ℕ) (b : Book) (line : List ℕ) → sound p b ≡ true → sound p (lineAfter p n b line) ≡ true
+pub line-sound : (p n : ℕ) (b : Book) (line : List ℕ) → sound p b ≡ true
+    → sound p (lineAfter p n b line) ≡ true
 unfolding lineAfter
 line-sound p n b line s =
     either (eqb n 1) (λ yes. rw yes s) (λ no. rw no (row-sound line s (record { answer = refl; book = refl })))
@@ -158,7 +159,8 @@ module _ {p n r : ℕ} {xs : List ℕ} {b b′ : Book} (l : LineTaken p n b xs r
 pub header-fits : {p n : ℕ} {x y : Number} → x ≡ y → x ≡ Got n → n ≡ p → 0 ≡ pointsRefusal p y
 header-fits {p} {n} {x} {y} e g q = rw (← e, g, eq-eqb n p q) refl
 
-pub header-other : {p n : ℕ} {x y : Number} → x ≡ y → x ≡ Got n → (n ≡ p → ⊥) → 16 ≡ pointsRefusal p y
+pub header-other : {p n : ℕ} {x y : Number} → x ≡ y → x ≡ Got n → (n ≡ p → ⊥)
+    → 16 ≡ pointsRefusal p y
 header-other {p} {n} {x} {y} e g q = rw (← e, g, ne-eqb n p q) refl
 
 pub header-off : (p : ℕ) {x y : Number} → x ≡ y → x ≡ Off → 16 ≡ pointsRefusal p y
@@ -170,7 +172,8 @@ pub header-taken : (p n r : ℕ) (b : Book) (line : List ℕ) → n ≡ 1 → r 
 unfolding lineRefusal lineAfter
 header-taken p n r b line one e = record { answer = rw (eq-eqb n 1 one) e; book = rw (eq-eqb n 1 one) refl }
 
-pub row-taken : {p n r : ℕ} {b b′ : Book} {line : List ℕ} {t : Taken} → (n ≡ 1 → ⊥) → RowTaken p b line t b′
+pub row-taken : {p n r : ℕ} {b b′ : Book} {line : List ℕ} {t : Taken} → (n ≡ 1 → ⊥)
+    → RowTaken p b line t b′
     → r ≡ takenNumber t → LineTaken p n b line r b′
 unfolding lineRefusal lineAfter
 row-taken {p} {n} {r} {b} {b′} {line} {t} ne k e =

@@ -11,7 +11,8 @@ use native.Mathlib.Numerals.{add-one}
 use Rattle.report_text.specs.Text.{comma, lineEnd, ended, line, refusedText}
 
 pub refused-is : (number n : ℕ)
-    → bytes "refused" ++ ((comma ∷ showNumber number) ++ ((comma ∷ showNumber n) ++ lineEnd)) ≡ refusedText number n
+    → bytes "refused" ++ ((comma ∷ showNumber number) ++ ((comma ∷ showNumber n) ++ lineEnd))
+    ≡ refusedText number n
 unfolding refusedText ended joinedBy
 refused-is number n = simp append-assoc
 
@@ -32,7 +33,8 @@ pub ended-none : (f : ℕ → List ℕ) → ended (listing f 0) ≡ []
 unfolding ended listing
 ended-none f = refl
 
-pub ended-more : (f : ℕ → List ℕ) (n : ℕ) → ended (listing f n) ++ (f n ++ lineEnd) ≡ ended (listing f (n + 1))
+pub ended-more : (f : ℕ → List ℕ) (n : ℕ)
+    → ended (listing f n) ++ (f n ++ lineEnd) ≡ ended (listing f (n + 1))
 unfolding listing
 ended-more f n = rw (add-one n) (sym (ended-snoc (listing f n) (f n)))
 

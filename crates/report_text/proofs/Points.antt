@@ -51,7 +51,8 @@ points-more {points} {days} {n} {i} {j} {at} {limits} {s} {mid} {e} {b} {load} w
     }
 
 -- the header and all points
-pub points-all : (l : LimitsFile) (b : Book) {s mid e : List ℕ} {i j n : ℕ} → Wrote s 0 (headerLine ++ lineEnd) mid i
+pub points-all : (l : LimitsFile) (b : Book) {s mid e : List ℕ} {i j n : ℕ}
+    → Wrote s 0 (headerLine ++ lineEnd) mid i
     → Passed (l .points) (l .days) (l .limits) b n mid i e j → n ≡ l .points → j ≤ length s
     → Wrote s 0 (pointsText l b) e j
 unfolding pointsText pointLine
@@ -62,7 +63,8 @@ points-all l b {s} {mid} {e} {i} {j} {n} w v q room =
     at (wrote-then (omega (arith, length-append (headerLine ++ lineEnd) (ended ls), w .place, u .place)) w u)
 
 -- the whole report, by the refusal of its book
-pub report-refused : (l : LimitsFile) (b : Book) {s e : List ℕ} {r n : ℕ} → n ≡ bookRefusal l b → (n ≡ 0 → ⊥)
+pub report-refused : (l : LimitsFile) (b : Book) {s e : List ℕ} {r n : ℕ} → n ≡ bookRefusal l b
+    → (n ≡ 0 → ⊥)
     → Wrote s 0 (refusedText n 0) e r
     → Wrote s 0 (bookText l b) e r
 unfolding bookText

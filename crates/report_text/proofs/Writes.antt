@@ -15,7 +15,8 @@ use Rattle.report_text.specs.InnerRoom.{longestNumber, WroteWithin}
 pub number-most : (n : ℕ) → n < 2 ^ 64 → length (showNumber n) ≤ longestNumber
 number-most n h = shown-width longestNumber 19 n (omega arith)
 
-pub within : {m : ℕ} {s t e : List ℕ} {at i : ℕ} → length t ≤ m → Wrote s at t e i → WroteWithin m s at t e i
+pub within : {m : ℕ} {s t e : List ℕ} {at i : ℕ} → length t ≤ m → Wrote s at t e i
+    → WroteWithin m s at t e i
 within {m} {s} {t} {e} {at} {i} h w = record { wrote = w; within = omega (arith, w .place) }
 
 -- two writes are one
@@ -29,5 +30,6 @@ within-then {m} {n} {s} {a} {b} {mid} {e} {at} {i} {j} room u v =
     }
 
 -- the same text, grouped otherwise
-pub within-is : {m : ℕ} {s t u e : List ℕ} {at i : ℕ} → WroteWithin m s at t e i → t ≡ u → WroteWithin m s at u e i
+pub within-is : {m : ℕ} {s t u e : List ℕ} {at i : ℕ} → WroteWithin m s at t e i → t ≡ u
+    → WroteWithin m s at u e i
 within-is w q = rw q at w

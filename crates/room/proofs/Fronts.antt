@@ -29,7 +29,8 @@ module _ {A : Type 0} (answer room : List A) where
       → put (front answer room) k more ≡ front (answer ++ more) room
   unfolding put
   front-grows k more e =
-      let m : length (answer ++ more) ≡ k + length more = length-append answer more ∙ ap (λ (n : ℕ). n + length more) e in
+      let m : length (answer ++ more) ≡ k + length more = length-append answer more
+      ∙ ap (λ (n : ℕ). n + length more) e in
       let p : take k (front answer room) ≡ answer = take-at answer (drop (length answer) room) k e in
       let q : drop (k + length more) (front answer room) ≡ drop (k + length more) room =
       ap (λ (n : ℕ). drop (n + length more) (front answer room)) (sym e)

@@ -5,8 +5,10 @@ use mathlib.Core.List.{List, [], _∷_, _++_, append-assoc, append-nil}
 use native.Mathlib.Nat.{add-assoc, add-zero, le-of-suc-le-suc, not-suc-le-zero}
 use native.Mathlib.Numerals.{add-one}
 use native.Mathlib.Omega.{arith}
-use lib.ListN.{length, getD, take, drop, set, length-append, length-take, length-drop, take-append-drop, drop-of-length-le}
-use lib.Seq.{set-split, take-at, append-snoc, drop-append-add, length-take-le, drop-drop, take-suc, take-all, take-length}
+use lib.ListN.{length, getD, take, drop, set, length-append, length-take, length-drop, take-append-drop}
+use lib.ListN.{drop-of-length-le}
+use lib.Seq.{set-split, take-at, append-snoc, drop-append-add, length-take-le, drop-drop, take-suc, take-all}
+use lib.Seq.{take-length}
 use Rattle.room.specs.Room.{front, put, Wrote}
 
 -- a store is text of one byte
@@ -14,7 +16,8 @@ pub put-one : (s : List ℕ) (at b : ℕ) → at < length s → set s at b ≡ p
 unfolding put
 put-one s at b h = rw (set-split s at b h, ← add-one at) (sym (append-snoc (take at s) b (drop (at + 1) s)))
 
-pub length-put : (s : List ℕ) (at : ℕ) (t : List ℕ) → at + length t ≤ length s → length (put s at t) ≡ length s
+pub length-put : (s : List ℕ) (at : ℕ) (t : List ℕ) → at + length t ≤ length s
+    → length (put s at t) ≡ length s
 unfolding put
 length-put s at t h = simp (length-append, length-take, length-drop) (omega arith)
 
@@ -25,7 +28,8 @@ unfolding put
 put-put s at a b h =
     let p = take at s ++ a in
     let r = drop (at + length a) s in
-    let l : length p ≡ at + length a = length-append (take at s) a ∙ ap (λ n. n + length a) (length-take-le at s (omega arith)) in
+    let l : length p ≡ at + length a = length-append (take at s) a
+    ∙ ap (λ n. n + length a) (length-take-le at s (omega arith)) in
     let q : drop (at + length a + length b) (p ++ r) ≡ drop (at + length (a ++ b)) s =
     ap (λ n. drop (n + length b) (p ++ r)) (sym l)
     ∙ drop-append-add p r (length b)
@@ -44,14 +48,19 @@ wrote-then {s} {at} {a} {b} {m} {e} {i} {j} h u v =
     }
 
 -- a write keeps the buffer's length
-pub length-wrote : {s : List ℕ} {at : ℕ} {t e : List ℕ} {i : ℕ} → at + length t ≤ length s → Wrote s at t e i
+pub length-wrote : {s : List ℕ} {at : ℕ} {t e : List ℕ} {i : ℕ} → at + length t ≤ length s
+    → Wrote s at t e i
     → length e ≡ length s
 length-wrote {s} {at} {t} h w = ap length (w .bytes) ∙ length-put s at t h
 
 -- nothing written
 pub wrote-none : (s : List ℕ) (at : ℕ) → Wrote s at [] s at
 unfolding put
-wrote-none s at = record { place = omega arith; bytes = rw (add-zero at, append-nil (take at s)) (sym (take-append-drop at s)) }
+wrote-none s at = record {
+  place = omega arith;
+  bytes =
+      rw (add-zero at, append-nil (take at s)) (sym (take-append-drop at s));
+}
 
 -- what was written at the front stands there, and fits
 pub wrote-front : {s t e : List ℕ} {r : ℕ} → Wrote s 0 t e r → take r e ≡ t

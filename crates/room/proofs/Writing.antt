@@ -32,7 +32,8 @@ module _ {old : List ℕ} {from : ℕ} {text new : List ℕ} {at : ℕ} where
       (omega arith, kept)
 
   -- a piece more
-  pub writing-more : (piece rest : List ℕ) {last : List ℕ} {next : ℕ} → Writing old from text new at (piece ++ rest)
+  pub writing-more : (piece rest : List ℕ) {last : List ℕ} {next : ℕ}
+      → Writing old from text new at (piece ++ rest)
       → from + length text ≤ length old → Wrote new at piece last next → Writing old from text last next rest
   writing-more piece rest w room p =
       let l = ap length (sym (w .whole)) ∙ length-append (w .done) (piece ++ rest) in
@@ -47,4 +48,8 @@ module _ {old : List ℕ} {from : ℕ} {text new : List ℕ} {at : ℕ} where
   pub writing-end : Writing old from text new at [] → Wrote old from text new at
   writing-end w =
       let e : w .done ≡ text = sym (append-nil (w .done)) ∙ w .whole in
-      record { place = w .wrote .place ∙ ap (λ t. from + length t) e; bytes = w .wrote .bytes ∙ ap (put old from) e }
+      record {
+        place = w .wrote .place ∙ ap (λ t. from + length t) e;
+        bytes = w .wrote .bytes
+            ∙ ap (put old from) e;
+      }

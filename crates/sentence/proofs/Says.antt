@@ -76,7 +76,8 @@ pub each-short : (number : ℕ) → length (sentenceOf number) ≤ maxSentence
 unfolding short-test
 each-short number =
     either (ltb number 18)
-    (λ h. leb-true (length (sentenceOf number)) maxSentence (every-each short-test number 18 (ltb-true number 18 h) all-short))
+    (λ h. leb-true (length (sentenceOf number)) maxSentence
+    (every-each short-test number 18 (ltb-true number 18 h) all-short))
     (λ h. let none = past-all number (omega (arith, ltb-false number 18 h)) in rw none (omega arith))
 
 each-plain : (number i : ℕ) → i < length (sentenceOf number)

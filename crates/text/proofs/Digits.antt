@@ -26,7 +26,8 @@ digit-high c h = simp (le-leb 48 c (omega arith), lt-leb c 57 h)
 
 -- one byte further in a run of digits, and a byte that ends it
 module _ (s : List ℕ) (v i : ℕ) (h : i < length s) where
-  pub digits-step : isDigit (getD s i 0) ≡ true → digitsOf v (drop i s) ≡ digitsOf (v * 10 + (getD s i 0 - 48)) (drop (i + 1) s)
+  pub digits-step : isDigit (getD s i 0) ≡ true
+      → digitsOf v (drop i s) ≡ digitsOf (v * 10 + (getD s i 0 - 48)) (drop (i + 1) s)
   unfolding digitsOf
   digits-step e = rw (add-one, drop-cons s i 0 h, e)
 
@@ -78,13 +79,15 @@ pub whole-small : (s : List ℕ) (n : ℕ) → wholeOf s ≡ Got n → n < 10000
 unfolding wholeOf
 whole-small s n e =
     let p = passed _ (digitsOf 0 s) n e in
-    digits-small s n (leb-true _ _ (and-right (leb 1 (length s)) _ (and-left _ (not (ltb 1 (length s) && eqb (getD s 0 0) 48)) (p .0)))) (p .1)
+    digits-small s n (leb-true _ _
+    (and-right (leb 1 (length s)) _ (and-left _ (not (ltb 1 (length s) && eqb (getD s 0 0) 48)) (p .0)))) (p .1)
 
 -- a whole number of at most three digits is below a thousand
 pub whole-below : (s : List ℕ) (n : ℕ) → length s ≤ 3 → wholeOf s ≡ Got n → n < 1000
 unfolding wholeOf
 whole-below s n h e =
-    let p = passed (leb 1 (length s) && leb (length s) 7 && not (ltb 1 (length s) && eqb (getD s 0 0) 48)) (digitsOf 0 s) n e in
+    let p = passed (leb 1 (length s) && leb (length s) 7 && not (ltb 1 (length s) && eqb (getD s 0 0) 48))
+    (digitsOf 0 s) n e in
     let q : 10 ^ (0 + length s) ≤ 10 ^ 3 = pow-le-pow-right (omega arith) {j = 3} (omega arith) in
     let below = digits-below s 0 0 n (omega arith) (p .1) in
     omega arith

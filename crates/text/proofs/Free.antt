@@ -23,7 +23,8 @@ module _ (d : ℕ) (low : d < 46) where
   shown-free (suc k) n =
       either (ltb n 10)
       (λ yes. rw yes (byte-free (48 + n) [] (omega arith)))
-      (λ no. rw no (count-append d (shown k (n / 10)) ((48 + n % 10) ∷ []) ∙ rw (shown-free k (n / 10), byte-free (48 + n % 10) [] (omega arith))))
+      (λ no. rw no (count-append d (shown k (n / 10)) ((48 + n % 10) ∷ [])
+      ∙ rw (shown-free k (n / 10), byte-free (48 + n % 10) [] (omega arith))))
 
   pub digits-free : (k n : ℕ) (r : List ℕ) → countOf d (showDigits k n ++ r) ≡ countOf d r
   digits-free zero n r = refl
@@ -39,7 +40,8 @@ module _ (d : ℕ) (low : d < 46) where
   pub decimal-free : (k n : ℕ) → countOf d (showDecimal k n) ≡ 0
   decimal-free k n =
       let t = showDigits k (n % 10 ^ k) in
-      let rest : countOf d t ≡ 0 = ap (countOf d) (sym (append-nil t)) ∙ digits-free k (n % 10 ^ k) [] ∙ nil-free in
+      let rest : countOf d t ≡ 0 = ap (countOf d) (sym (append-nil t)) ∙ digits-free k (n % 10 ^ k) []
+      ∙ nil-free in
       count-append d (showWhole (n / 10 ^ k)) (46 ∷ t)
       ∙ rw (shown-free 7 (n / 10 ^ k), byte-free 46 t (omega arith), rest)
 

@@ -42,10 +42,12 @@ pub line-length : (s : List ℕ) → length (firstLine s) ≤ length s
 unfolding firstLine
 line-length [] = omega arith
 line-length (c ∷ s) =
-    either (eqb c 13 && eqb (getD s 0 0) 10) (λ yes. rw yes (omega arith)) (λ no. rw no (omega (arith, line-length s)))
+    either (eqb c 13 && eqb (getD s 0 0) 10) (λ yes. rw yes (omega arith))
+    (λ no. rw no (omega (arith, line-length s)))
 
 -- a text that has bytes is its first line, and then the lines past its CRLF
-pub lines-step : (s : List ℕ) → 1 ≤ length s → linesOf s ≡ firstLine s ∷ linesOf (drop (length (firstLine s) + 2) s)
+pub lines-step : (s : List ℕ) → 1 ≤ length s
+    → linesOf s ≡ firstLine s ∷ linesOf (drop (length (firstLine s) + 2) s)
 unfolding firstLine linesOf
 lines-step [] h = absurd (omega arith)
 lines-step (c ∷ []) h = rw (and-false (eqb c 13))
@@ -65,7 +67,14 @@ unfolding bareLine
 bare-back t =
     let l : length (t ++ (13 ∷ 10 ∷ [])) ≡ length t + 2 = length-append t (13 ∷ 10 ∷ []) in
     let a : length t + 2 - 2 ≡ length t = omega arith in
-    rw (l, a, le-leb 2 (length t + 2) (omega arith), getD-append-seam t 13 (10 ∷ []) 0, getD-append-add t (13 ∷ 10 ∷ []) 1 0, take-append-seam t (13 ∷ 10 ∷ []))
+    rw (
+      l,
+      a,
+      le-leb 2 (length t + 2) (omega arith),
+      getD-append-seam t 13 (10 ∷ []) 0,
+      getD-append-add t (13 ∷ 10 ∷ []) 1 0,
+      take-append-seam t (13 ∷ 10 ∷ []),
+    )
 
 pub bare-take : (s : List ℕ) → take (length (bareLine s)) s ≡ bareLine s
 unfolding bareLine
@@ -87,10 +96,12 @@ unfolding linesOf firstLine
 lines-first [] = refl
 lines-first (c ∷ s) = ap (λ ls. getD ls 0 []) (lines-step (c ∷ s) (omega arith))
 
-pub lines-rest : (s : List ℕ) → 1 ≤ length s → length (linesOf s) ≡ 1 + length (linesOf (drop (length (firstLine s) + 2) s))
+pub lines-rest : (s : List ℕ) → 1 ≤ length s
+    → length (linesOf s) ≡ 1 + length (linesOf (drop (length (firstLine s) + 2) s))
 lines-rest s h = ap length (lines-step s h) ∙ omega arith
 
-pub lines-next : (s : List ℕ) (i : ℕ) → 1 ≤ length s → getD (linesOf s) (suc i) [] ≡ getD (linesOf (drop (length (firstLine s) + 2) s)) i []
+pub lines-next : (s : List ℕ) (i : ℕ) → 1 ≤ length s
+    → getD (linesOf s) (suc i) [] ≡ getD (linesOf (drop (length (firstLine s) + 2) s)) i []
 lines-next s i h = ap (λ ls. getD ls (suc i) []) (lines-step s h)
 
 -- whether a text has at most one line
@@ -107,6 +118,7 @@ lines-one (c ∷ t) =
     let left = length-drop n s in
     either (leb (length s) n)
     (λ yes. let h = leb-true (length s) n yes in
-    le-leb (1 + length (linesOf s)) 2 (omega (arith, all, ap (λ r. length (linesOf r)) (drop-of-length-le s h), ap length lines-none)) ∙ sym yes)
+    le-leb (1 + length (linesOf s)) 2
+    (omega (arith, all, ap (λ r. length (linesOf r)) (drop-of-length-le s h), ap length lines-none)) ∙ sym yes)
     (λ no. let h = leb-false (length s) n no in
     lt-leb (1 + length (linesOf s)) 2 (omega (arith, all, lines-some (drop n s) (omega arith))) ∙ sym no)

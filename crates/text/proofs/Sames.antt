@@ -22,7 +22,8 @@ same-length (x ∷ a) (y ∷ b) n = rw (same-length a b (λ e. n (ap suc e))) (a
 
 -- one byte further along both
 module _ (a b : List ℕ) (i : ℕ) (ha : i < length a) (hb : i < length b) where
-  pub same-hit : getD a i 0 ≡ getD b i 0 → sameText (drop i a) (drop i b) ≡ sameText (drop (i + 1) a) (drop (i + 1) b)
+  pub same-hit : getD a i 0 ≡ getD b i 0
+      → sameText (drop i a) (drop i b) ≡ sameText (drop (i + 1) a) (drop (i + 1) b)
   unfolding sameText
   same-hit e = rw (add-one i, drop-cons a i 0 ha, drop-cons b i 0 hb, eq-eqb (getD a i 0) (getD b i 0) e)
 
@@ -30,7 +31,8 @@ module _ (a b : List ℕ) (i : ℕ) (ha : i < length a) (hb : i < length b) wher
   unfolding sameText
   same-miss e = rw (drop-cons a i 0 ha, drop-cons b i 0 hb, ne-eqb (getD a i 0) (getD b i 0) e)
 
-pub same-end : (a b : List ℕ) (i : ℕ) → length a ≤ i → length b ≤ i → sameText (drop i a) (drop i b) ≡ true
+pub same-end : (a b : List ℕ) (i : ℕ) → length a ≤ i → length b ≤ i
+    → sameText (drop i a) (drop i b) ≡ true
 unfolding sameText
 same-end a b i ha hb = rw (drop-of-length-le a ha, drop-of-length-le b hb)
 

@@ -59,7 +59,8 @@ shown-tenth k n h l =
 
 pub shown-longer : (k n : ℕ) → 10 ≤ n → n < 10 ^ suc (suc k)
     → length (shown (suc (suc k)) n) ≡ length (shown (suc (suc k)) (n / 10)) + 1
-shown-longer k n h l = ap length (shown-tenth k n h l) ∙ length-append (shown (suc (suc k)) (n / 10)) ((48 + n % 10) ∷ [])
+shown-longer k n h l = ap length (shown-tenth k n h l)
+    ∙ length-append (shown (suc (suc k)) (n / 10)) ((48 + n % 10) ∷ [])
 
 pub whole-one : (n : ℕ) → n < 10 → showWhole n ≡ (48 + n % 10) ∷ []
 whole-one n h = shown-last 6 n h
@@ -72,7 +73,8 @@ pub whole-number : (n : ℕ) → n < 10000000 → showNumber n ≡ showWhole n
 whole-number n h = shown-enough 19 6 n (omega arith) (omega arith)
 
 -- one digit more at the end of a run
-digits-snoc : (s : List ℕ) (v m d : ℕ) → d ≤ 9 → digitsOf v s ≡ Got m → digitsOf v (s ++ ((48 + d) ∷ [])) ≡ Got (m * 10 + d)
+digits-snoc : (s : List ℕ) (v m d : ℕ) → d ≤ 9 → digitsOf v s ≡ Got m
+    → digitsOf v (s ++ ((48 + d) ∷ [])) ≡ Got (m * 10 + d)
 unfolding digitsOf
 digits-snoc [] v m d h e =
     let q : v ≡ m = cc in
@@ -93,7 +95,8 @@ shown-digits (suc k) n h =
     let w : 0 * 10 + (48 + n - 48) ≡ n = omega arith in
     rw (yes, digit-yes (48 + n) (omega arith) (omega arith), w))
     (λ no. let w : n / 10 * 10 + n % 10 ≡ n = omega arith in
-    rw no (digits-snoc (shown k (n / 10)) 0 (n / 10) (n % 10) (omega arith) (shown-digits k (n / 10) (tenth k n h)) ∙ ap Got w))
+    rw no (digits-snoc (shown k (n / 10)) 0 (n / 10) (n % 10) (omega arith) (shown-digits k (n / 10) (tenth k n h))
+    ∙ ap Got w))
 
 -- a number under 10 to the w has at most w digits
 pub shown-width : (k w n : ℕ) → n < 10 ^ suc w → length (shown k n) ≤ suc w
@@ -121,7 +124,11 @@ shown-head (suc (suc k)) n p h e =
     either (ltb n 10)
     (λ yes. let q : 48 + n ≡ 48 = rw (shown-one (suc k) n (ltb-true n 10 yes)) at e in omega arith)
     (λ no. let m = ltb-false n 10 no in
-    let q = rw (shown-more (suc k) n m, List·getD-append (shown (suc k) (n / 10)) ((48 + n % 10) ∷ []) 0 0 (shown-least k (n / 10))) at e in
+    let q = rw (
+      shown-more (suc k) n m,
+      List·getD-append (shown (suc k) (n / 10)) ((48 + n % 10) ∷ []) 0 0
+          (shown-least k (n / 10)),
+    ) at e in
     shown-head (suc k) (n / 10) (omega arith) (tenth (suc k) n h) q)
 
 zero-spare : (n : ℕ) → n ≡ 0 → ltb 1 (length (showWhole n)) ≡ false
@@ -136,7 +143,8 @@ whole-back n h =
     let spare : (ltb 1 (length s) && eqb (getD s 0 0) 48) ≡ false =
     either (ltb n 1)
     (λ yes. let z : n ≡ 0 = omega (arith, ltb-true n 1 yes) in rw (zero-spare n z))
-    (λ no. let p = ltb-false n 1 no in rw (ne-eqb (getD s 0 0) 48 (shown-head 7 n (omega arith) h)) (and-false (ltb 1 (length s)))) in
+    (λ no. let p = ltb-false n 1 no in
+    rw (ne-eqb (getD s 0 0) 48 (shown-head 7 n (omega arith) h)) (and-false (ltb 1 (length s)))) in
     rw (le-leb 1 (length s) (shown-least 6 n), le-leb (length s) 7 (shown-width 7 6 n h), spare) (shown-digits 7 n h)
 
 -- ---- numbers with decimals
@@ -232,7 +240,11 @@ module _ (d n : ℕ) (h : n < 1000 * 10 ^ d) where
       let u = n / 10 ^ d in
       let p = n % 10 ^ d in
       pointed-back d (showWhole u) (showDigits d p) (shown-least 6 u) (shown-width 7 2 u units-few) (digits-long d p)
-      ∙ rw (whole-back u (omega (arith, units-few)), digits-back d p (mod-lt n (parts-some d)), div-add-mod' n (10 ^ d))
+      ∙ rw (
+        whole-back u (omega (arith, units-few)),
+        digits-back d p (mod-lt n (parts-some d)),
+        div-add-mod' n (10 ^ d),
+      )
 
   pub decimal-most : length (showDecimal d n) ≤ d + 4
   decimal-most = omega (

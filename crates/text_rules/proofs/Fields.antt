@@ -23,7 +23,8 @@ first-field : (d : ℕ) (f r : List ℕ) → Without d f → fieldOf d 0 (f ++ (
 unfolding fieldOf
 first-field d f r h = up-free d f r (none-in d f h)
 
-later-field : (d : ℕ) (f r : List ℕ) → Without d f → (k : ℕ) → fieldOf d (suc k) (f ++ (d ∷ r)) ≡ fieldOf d k r
+later-field : (d : ℕ) (f r : List ℕ) → Without d f → (k : ℕ)
+    → fieldOf d (suc k) (f ++ (d ∷ r)) ≡ fieldOf d k r
 unfolding fieldOf
 later-field d f r h k = ap (fieldOf d k) (after-free d f r (none-in d f h))
 

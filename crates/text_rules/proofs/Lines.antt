@@ -22,10 +22,14 @@ behind c l h i e = h (suc i) e
 plain : (c : ℕ) (l : List ℕ) → Unbroken (c ∷ l) → (eqb c 13 && eqb (getD l 0 0) 10) ≡ false
 plain c l h =
     either (eqb c 13 && eqb (getD l 0 0) 10)
-    (λ yes. absurd (h 0 (eqb-true c 13 (and-left (eqb c 13) (eqb (getD l 0 0) 10) yes), eqb-true (getD l 0 0) 10 (and-right (eqb c 13) (eqb (getD l 0 0) 10) yes))))
+    (λ yes. absurd (h 0 (
+      eqb-true c 13 (and-left (eqb c 13) (eqb (getD l 0 0) 10) yes),
+      eqb-true (getD l 0 0) 10 (and-right (eqb c 13) (eqb (getD l 0 0) 10) yes),
+    )))
     (λ no. no)
 
-before-end : (c : ℕ) (l r : List ℕ) → Unbroken (c ∷ l) → (eqb c 13 && eqb (getD (l ++ (13 ∷ 10 ∷ r)) 0 0) 10) ≡ false
+before-end : (c : ℕ) (l r : List ℕ) → Unbroken (c ∷ l)
+    → (eqb c 13 && eqb (getD (l ++ (13 ∷ 10 ∷ r)) 0 0) 10) ≡ false
 before-end c [] r h = and-false (eqb c 13)
 before-end c (d ∷ l) r h = plain c (d ∷ l) h
 

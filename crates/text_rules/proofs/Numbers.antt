@@ -33,7 +33,8 @@ more-digits : (n : ℕ) (s : List ℕ) → 10 ≤ n → InDigits (n / 10) s → 
 more-digits n s ten d =
     record {
       some = omega (arith, long);
-      digit = λ i l. either (ltb i (length s)) (λ yes. front i (ltb-true i (length s) yes)) (λ no. let e : i ≡ length s = omega (arith, long, ltb-false i (length s) no) in rw e last);
+      digit = λ i l. either (ltb i (length s)) (λ yes. front i (ltb-true i (length s) yes))
+          (λ no. let e : i ≡ length s = omega (arith, long, ltb-false i (length s) no) in rw e last);
       all = rw long (omega (arith, pow-suc 10 (length s), d .all));
       needed = λ l. rw long needed;
     }
@@ -43,14 +44,17 @@ more-digits n s ten d =
 
     -- a digit of the tenth is the digit one place further of the number
     shift : (e : ℕ) → n / 10 / 10 ^ e ≡ n / 10 ^ suc e
-    shift e = div-div-eq-div-mul n 10 (10 ^ e) ∙ ap (λ (k : ℕ). n / k) (mul-comm 10 (10 ^ e) ∙ sym (pow-suc 10 e))
+    shift e = div-div-eq-div-mul n 10 (10 ^ e)
+        ∙ ap (λ (k : ℕ). n / k) (mul-comm 10 (10 ^ e) ∙ sym (pow-suc 10 e))
 
-    front : (i : ℕ) → i < length s → getD (s ++ ((48 + n % 10) ∷ [])) i 0 ≡ 48 + n / 10 ^ (length (s ++ ((48 + n % 10) ∷ [])) - suc i) % 10
+    front : (i : ℕ) → i < length s
+        → getD (s ++ ((48 + n % 10) ∷ [])) i 0 ≡ 48 + n / 10 ^ (length (s ++ ((48 + n % 10) ∷ [])) - suc i) % 10
     front i l =
         let e : suc (length s) - suc i ≡ suc (length s - suc i) = omega arith in
         rw (long, e, ← shift (length s - suc i)) (List·getD-append s ((48 + n % 10) ∷ []) 0 i l ∙ d .digit i l)
 
-    last : getD (s ++ ((48 + n % 10) ∷ [])) (length s) 0 ≡ 48 + n / 10 ^ (length (s ++ ((48 + n % 10) ∷ [])) - suc (length s)) % 10
+    last : getD (s ++ ((48 + n % 10) ∷ [])) (length s) 0
+        ≡ 48 + n / 10 ^ (length (s ++ ((48 + n % 10) ∷ [])) - suc (length s)) % 10
     last =
         let e : suc (length s) - suc (length s) ≡ 0 = omega arith in
         rw (long, e, pow-zero 10) (getD-append-seam s (48 + n % 10) [] 0 ∙ omega arith)
@@ -65,14 +69,17 @@ more-digits n s ten d =
         rw e (omega (arith, pow-suc 10 0, pow-zero 10)))
 
 in-digits : (k n : ℕ) → n < 10 ^ suc k → InDigits n (shown (suc k) n)
-in-digits zero n h = rw (shown-one 0 n (omega (arith, pow-suc 10 0, pow-zero 10))) (one-digit n (omega (arith, pow-suc 10 0, pow-zero 10)))
+in-digits zero n h = rw (shown-one 0 n (omega (arith, pow-suc 10 0, pow-zero 10)))
+    (one-digit n (omega (arith, pow-suc 10 0, pow-zero 10)))
 in-digits (suc k) n h =
     either (ltb n 10)
     (λ yes. let less = ltb-true n 10 yes in rw (shown-one (suc k) n less) (one-digit n less))
     (λ no. let ten = ltb-false n 10 no in
-    rw (shown-more (suc k) n ten) (more-digits n (shown (suc k) (n / 10)) ten (in-digits k (n / 10) (omega (arith, pow-suc 10 (suc k))))))
+    rw (shown-more (suc k) n ten)
+    (more-digits n (shown (suc k) (n / 10)) ten (in-digits k (n / 10) (omega (arith, pow-suc 10 (suc k))))))
 
-level-digits : (n : ℕ) → showLevel n ≡ showWhole (n / 100) ++ (46 ∷ ((48 + n / 10 % 10) ∷ ((48 + n % 10) ∷ [])))
+level-digits : (n : ℕ) → showLevel n ≡ showWhole (n / 100)
+    ++ (46 ∷ ((48 + n / 10 % 10) ∷ ((48 + n % 10) ∷ [])))
 level-digits n =
     let tenth : n % 100 / 10 ≡ n / 10 % 10 = omega arith in
     let last : n % 100 % 10 ≡ n % 10 = omega arith in
@@ -85,6 +92,14 @@ numbers-are =
       whole = λ n h. in-digits 6 n h;
       two = λ n h. refl;
       level = level-digits;
-      whole-read = λ s n. (λ e. (whole-small s n e, whole-exact s n e), λ h. ap wholeOf (h .1) ∙ whole-back n (h .0));
-      level-read = λ s n. (λ e. (level-small s n e, level-exact s n e), λ h. ap levelOf (h .1) ∙ level-back n (h .0));
+      whole-read = λ s n. (
+        λ e. (whole-small s n e, whole-exact s n e),
+        λ h. ap wholeOf (h .1)
+            ∙ whole-back n (h .0),
+      );
+      level-read = λ s n. (
+        λ e. (level-small s n e, level-exact s n e),
+        λ h. ap levelOf (h .1)
+            ∙ level-back n (h .0),
+      );
     }

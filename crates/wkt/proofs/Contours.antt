@@ -26,15 +26,19 @@ use Rattle.wkt.specs.InnerParts.{linesFrom, total, Printable}
 
 -- ---- lists of contours
 
-pub lines-from : (cs : List Contour) → linesFrom (edgesOf cs) (countsOf cs) (closedOf cs) ≡ map (λ (c : Contour). pointsOf (c .edges) (bit (c .closes))) cs
+pub lines-from : (cs : List Contour)
+    → linesFrom (edgesOf cs) (countsOf cs) (closedOf cs)
+    ≡ map (λ (c : Contour). pointsOf (c .edges) (bit (c .closes))) cs
 unfolding linesFrom edgesOf countsOf closedOf
 lines-from [] = refl
-lines-from (c ∷ cs) = rw (take-append-seam (c .edges) (edgesOf cs), drop-append-seam (c .edges) (edgesOf cs)) (ap (λ (ls : List (List ℕ)). pointsOf (c .edges) (bit (c .closes)) ∷ ls) (lines-from cs))
+lines-from (c ∷ cs) = rw (take-append-seam (c .edges) (edgesOf cs), drop-append-seam (c .edges) (edgesOf cs))
+    (ap (λ (ls : List (List ℕ)). pointsOf (c .edges) (bit (c .closes)) ∷ ls) (lines-from cs))
 
 counts-total : (cs : List Contour) → total (countsOf cs) ≡ length (edgesOf cs)
 unfolding total edgesOf countsOf
 counts-total [] = refl
-counts-total (c ∷ cs) = ap (λ (n : ℕ). length (c .edges) + n) (counts-total cs) ∙ sym (length-append (c .edges) (edgesOf cs))
+counts-total (c ∷ cs) = ap (λ (n : ℕ). length (c .edges) + n) (counts-total cs)
+    ∙ sym (length-append (c .edges) (edgesOf cs))
 
 bit-small : (b : Bool) → bit b ≤ 1
 bit-small true = omega arith
@@ -50,7 +54,8 @@ sound-some : (g : Picture) (closes : Bool) (es : List ℕ) → Sound g closes es
 sound-some g closes [] s = absurd s
 sound-some g closes (n ∷ es) s = omega arith
 
-counts-some : (g : Picture) (cs : List Contour) → AllSound g cs → (k : ℕ) → k < length (countsOf cs) → 0 < getD (countsOf cs) k 0
+counts-some : (g : Picture) (cs : List Contour) → AllSound g cs → (k : ℕ) → k < length (countsOf cs)
+    → 0 < getD (countsOf cs) k 0
 unfolding countsOf
 counts-some g [] s k h = absurd (omega arith)
 counts-some g (c ∷ cs) s zero h = sound-some g (c .closes) (c .edges) (s .0)
@@ -75,15 +80,23 @@ module _ (levels : List ℕ) (f : Frame) (v : ℕ) (k : Checked levels f) where
   abbrev listed : List ℕ
   listed = edgesOf (contoursOf g)
 
-  crossing : (i : ℕ) → i < length listed → (getD listed i 0 < edges (f .columns) (f .rows)) × (crossedAt levels (f .columns) (f .rows) v (getD listed i 0) ≡ true)
+  crossing : (i : ℕ) → i < length listed
+      → (getD listed i 0 < edges (f .columns) (f .rows))
+      × (crossedAt levels (f .columns) (f .rows) v (getD listed i 0) ≡ true)
   crossing i h =
       let n = getD listed i 0 in
-      let o : 0 < bit (ltb n (edgesIn g) && crossedAt levels (f .columns) (f .rows) v n) = rw (sym (every-crossing g (k .sized .sides .wide) .once n)) (occurs-at listed i h) in
-      let p = both (ltb n (edgesIn g)) (crossedAt levels (f .columns) (f .rows) v n) (is-true (ltb n (edgesIn g) && crossedAt levels (f .columns) (f .rows) v n) o) in
+      let o : 0 < bit (ltb n (edgesIn g) && crossedAt levels (f .columns) (f .rows) v n) =
+      rw (sym (every-crossing g (k .sized .sides .wide) .once n)) (occurs-at listed i h) in
+      let p = both (ltb n (edgesIn g)) (crossedAt levels (f .columns) (f .rows) v n)
+      (is-true (ltb n (edgesIn g) && crossedAt levels (f .columns) (f .rows) v n) o) in
       (ltb-true _ _ (p .0), p .1)
 
   pub few-listed : length listed ≤ edges (f .columns) (f .rows)
-  few-listed = omega (arith, all-listed g (edgesIn g) listed (every-crossing g (k .sized .sides .wide) .once), crossings-le g (edgesIn g))
+  few-listed = omega (
+    arith,
+    all-listed g (edgesIn g) listed (every-crossing g (k .sized .sides .wide) .once),
+    crossings-le g (edgesIn g),
+  )
 
   pub printable : Printable levels f v listed (countsOf (contoursOf g)) (closedOf (contoursOf g))
   printable =
@@ -112,5 +125,6 @@ module _ {cs : List Contour} {e c d e' c' d' : List ℕ} {at made : ℕ} (l : Li
   pub closed-front : take made d' ≡ closedOf cs
   closed-front = front-of (closedOf cs) d d' made (l .the-closed) (l .contours ∙ sym (length-closed cs))
 
-  pub text-front : (levels : List ℕ) (f : Frame) (v : ℕ) → textOf levels f v (linesFrom (take at e') (take made c') (take made d')) ≡ contoursText levels f v cs
+  pub text-front : (levels : List ℕ) (f : Frame) (v : ℕ)
+      → textOf levels f v (linesFrom (take at e') (take made c') (take made d')) ≡ contoursText levels f v cs
   text-front levels f v = rw (edges-front, counts-front, closed-front) (ap (textOf levels f v) (lines-from cs))

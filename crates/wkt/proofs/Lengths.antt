@@ -21,7 +21,8 @@ shown-short : (k n : ℕ) → length (shown k n) ≤ k
 unfolding shown
 shown-short zero n = omega arith
 shown-short (suc k) n =
-    by-cond (λ (l : List ℕ). length l ≤ suc k) (ltb n 10) ((48 + n) ∷ []) (shown k (n / 10) ++ ((48 + n % 10) ∷ []))
+    by-cond (λ (l : List ℕ). length l ≤ suc k) (ltb n 10) ((48 + n) ∷ [])
+    (shown k (n / 10) ++ ((48 + n % 10) ∷ []))
     (λ _. one-short)
     (λ _. omega (arith, length-append (shown k (n / 10)) ((48 + n % 10) ∷ []), shown-short k (n / 10)))
   where
@@ -32,7 +33,12 @@ metres-short : (n : ℕ) → length (showMetres n) ≤ 11
 metres-short n = omega (arith, decimal-long 3 n, shown-short 7 (n / 1000))
 
 spot-short : (s : Spot) → length (showSpot s) ≤ 23
-spot-short s = omega (arith, length-append (showMetres (s .x)) (32 ∷ showMetres (s .y)), metres-short (s .x), metres-short (s .y))
+spot-short s = omega (
+  arith,
+  length-append (showMetres (s .x)) (32 ∷ showMetres (s .y)),
+  metres-short (s .x),
+  metres-short (s .y),
+)
 
 pub place-short : (levels : List ℕ) (f : Frame) (v n : ℕ) → length (placeText levels f v n) ≤ 23
 unfolding placeText
@@ -41,20 +47,26 @@ place-short levels f v n = spot-short (spotOf levels f v (edgeAt (f .columns) (f
 pub before-short : (line point : ℕ) → length (beforeText line point) ≤ 18
 before-short line point =
     by-cond (λ (l : List ℕ). length l ≤ 18) (eqb point 0) _ comma
-    (λ _. by-cond (λ (l : List ℕ). length l ≤ 18) (eqb line 0) (multilinestring ++ (40 ∷ 40 ∷ [])) (44 ∷ 32 ∷ 40 ∷ []) (λ _. omega arith) (λ _. omega arith))
+    (λ _. by-cond (λ (l : List ℕ). length l ≤ 18) (eqb line 0) (multilinestring ++ (40 ∷ 40 ∷ []))
+    (44 ∷ 32 ∷ 40 ∷ []) (λ _. omega arith) (λ _. omega arith))
     (λ _. omega arith)
 
 end-short : (line : ℕ) → length (endText line) ≤ 64
-end-short line = by-cond (λ (l : List ℕ). length l ≤ 64) (eqb line 0) (multilinestring ++ empty) (41 ∷ []) (λ _. omega arith) (λ _. omega arith)
+end-short line = by-cond (λ (l : List ℕ). length l ≤ 64) (eqb line 0) (multilinestring ++ empty) (41 ∷ [])
+    (λ _. omega arith) (λ _. omega arith)
 
-pub piece-short : (levels : List ℕ) (f : Frame) (v : ℕ) (listed counts closed : List ℕ) (c : Cursor) → length (pieceOf levels f v listed counts closed c) ≤ 64
+pub piece-short : (levels : List ℕ) (f : Frame) (v : ℕ) (listed counts closed : List ℕ) (c : Cursor)
+    → length (pieceOf levels f v listed counts closed c) ≤ 64
 unfolding pieceOf
 piece-short levels f v listed counts closed c =
-    by-cond (λ (l : List ℕ). length l ≤ 64) (eqb (c .line) (length counts)) (endText (c .line)) _ (λ _. end-short (c .line))
-    (λ _. by-cond (λ (l : List ℕ). length l ≤ 64) (eqb (c .point) (pointsAt counts closed c)) (41 ∷ []) _ (λ _. omega arith)
+    by-cond (λ (l : List ℕ). length l ≤ 64) (eqb (c .line) (length counts)) (endText (c .line)) _
+    (λ _. end-short (c .line))
+    (λ _. by-cond (λ (l : List ℕ). length l ≤ 64) (eqb (c .point) (pointsAt counts closed c)) (41 ∷ []) _
+    (λ _. omega arith)
     (λ _. omega (
       arith,
-      length-append (beforeText (c .line) (c .point)) (placeText levels f v (getD (lineAt listed counts closed c) (c .point) 0)),
+      length-append (beforeText (c .line) (c .point))
+          (placeText levels f v (getD (lineAt listed counts closed c) (c .point) 0)),
       before-short (c .line) (c .point),
       place-short levels f v (getD (lineAt listed counts closed c) (c .point) 0),
     )))

@@ -65,11 +65,19 @@ module _ (levels : List ℕ) (f : Frame) (v : ℕ) (listed counts closed : List 
         edges-le (f .columns) (f .rows) (k .checked .sized .sides .narrow)
             (k .checked .sized .sides .low),
       ) in
-      omega (arith, ap length (left-first levels f v listed counts closed c first), short, e, k .summed, count-total counts (k .some))
+      omega (
+        arith,
+        ap length (left-first levels f v listed counts closed c first),
+        short,
+        e,
+        k .summed,
+        count-total counts (k .some),
+      )
 
   -- ---- one part
 
-  module _ (c : Cursor) (first : (c .line ≡ 0) × ((c .start ≡ 0) × (c .point ≡ 0))) (room room' : List ℕ) (part : Part)
+  module _ (c : Cursor) (first : (c .line ≡ 0) × ((c .start ≡ 0) × (c .point ≡ 0))) (room room' : List ℕ)
+      (part : Part)
       (p : Printed levels f v listed counts closed c room part room') (long : length room' ≡ length room)
       (fits : length text ≤ length room) where
     -- what is printed and what is left are the text

@@ -4,7 +4,8 @@ use mathlib.Core.Bool.{Bool, true, false, _&&_, cond}
 use mathlib.Core.Logic.{_⊎_, ⊎-elim}
 use mathlib.Core.List.{List, [], _∷_, _++_, map, append-assoc, append-nil}
 use Prim.Native.Nat.{ℕ, _+_, _-_, _*_, _/_, _%_, _≤_, _<_}
-use native.Mathlib.Nat.{mod-lt, div-add-mod', mul-le-mul, le-of-lt, mul-comm, mul-assoc, mul-left-comm, add-comm, add-zero}
+use native.Mathlib.Nat.{mod-lt, div-add-mod', mul-le-mul, le-of-lt, mul-comm, mul-assoc, mul-left-comm, add-comm}
+use native.Mathlib.Nat.{add-zero}
 use native.Mathlib.Omega.{arith}
 use borrow.Author.Tests.{leb-true, le-leb}
 use lib.Dec.{leb}
@@ -45,14 +46,22 @@ rounds spacing num den z =
     (offsetOf spacing num den) in
     record { down-to = omega (arith, i .0); up-to = omega (arith, i .1) }
 
-between : (v a b : ℕ) → ((v ≤ a) × (b < v)) ⊎ ((a < v) × (v ≤ b)) → (0 < distance b a) × (distance v a ≤ distance b a)
+between : (v a b : ℕ) → ((v ≤ a) × (b < v)) ⊎ ((a < v) × (v ≤ b))
+    → (0 < distance b a) × (distance v a ≤ distance b a)
 between v a b h = ⊎-elim (λ w. (omega arith, omega arith)) (λ w. (omega arith, omega arith)) h
 
 offset-is : (v a b spacing : ℕ) → ((v ≤ a) × (b < v)) ⊎ ((a < v) × (v ≤ b))
     → Offset v a b spacing (slideOf v a b spacing)
 offset-is v a b spacing h =
     let d = between v a b h in
-    record { num = distance v a; den = distance b a; above-zero = d .0; parts = parts v a b; rounds = rounds spacing (distance v a) (distance b a) (d .0) }
+    record {
+      num = distance v a;
+      den = distance b a;
+      above-zero = d .0;
+      parts = parts v a b;
+      rounds =
+          rounds spacing (distance v a) (distance b a) (d .0);
+    }
 
 metres : (mm : ℕ) → mm < 10000000000 → Metres mm (showMetres mm)
 metres mm h =
@@ -76,7 +85,14 @@ metres mm h =
     }
 
 pair : (s : Spot) → s .x < 10000000000 → s .y < 10000000000 → Pair (s .x) (s .y) (showSpot s)
-pair s h k = record { x-text = showMetres (s .x); y-text = showMetres (s .y); x-metres = metres (s .x) h; y-metres = metres (s .y) k; bytes = refl }
+pair s h k = record {
+  x-text = showMetres (s .x);
+  y-text = showMetres (s .y);
+  x-metres = metres (s .x) h;
+  y-metres =
+      metres (s .y) k;
+  bytes = refl;
+}
 
 -- ---- a printed place
 
@@ -124,7 +140,8 @@ module _ (levels : List ℕ) (f : Frame) (v : ℕ) (k : Checked levels f) where
   pub places-printed : PlacesPrinted levels f v
   places-printed = record { on-row = on-row; on-column = on-column }
     where
-      on-row : (row col : ℕ) → row < f .rows → col + 1 < f .columns → OneIn levels (f .columns) v row col row (col + 1)
+      on-row : (row col : ℕ) → row < f .rows → col + 1 < f .columns
+          → OneIn levels (f .columns) v row col row (col + 1)
           → RowPlace levels f v row col (placeText levels f v (row * (f .columns - 1) + col))
       on-row row col h l o =
           let n = row * (f .columns - 1) + col in
@@ -144,12 +161,14 @@ module _ (levels : List ℕ) (f : Frame) (v : ℕ) (k : Checked levels f) where
           record {
             offset = slideOf v a b (f .spacing);
             place = offset-is v a b (f .spacing) o;
-            pair = subst (λ (y : ℕ). Pair (1000 * (f .west + col * f .spacing) + slideOf v a b (f .spacing)) y (placeText levels f v n)) (add-zero (1000 * (f .south + row * f .spacing))) p;
+            pair = subst (λ (y : ℕ). Pair (1000 * (f .west + col * f .spacing) + slideOf v a b (f .spacing)) y
+                (placeText levels f v n)) (add-zero (1000 * (f .south + row * f .spacing))) p;
           }
 
       on-column : (row col : ℕ) → row + 1 < f .rows → col < f .columns
           → OneIn levels (f .columns) v row col (row + 1) col
-          → ColumnPlace levels f v row col (placeText levels f v (f .rows * (f .columns - 1) + row * f .columns + col))
+          → ColumnPlace levels f v row col
+          (placeText levels f v (f .rows * (f .columns - 1) + row * f .columns + col))
       on-column row col h l o =
           let n = f .rows * (f .columns - 1) + row * f .columns + col in
           let a = levelAt levels (f .columns) row col in
@@ -179,7 +198,8 @@ module _ (levels : List ℕ) (f : Frame) (v : ℕ) where
       ≡ before ++ parted levels f v (map (placeText levels f v) (n ∷ ns)) ++ closing
   unfolding pointsText
   points-text before n [] = refl
-  points-text before n (m ∷ ns) = ap (λ (t : List ℕ). before ++ placeText levels f v n ++ t) (points-text comma m ns)
+  points-text before n (m ∷ ns) =
+      ap (λ (t : List ℕ). before ++ placeText levels f v n ++ t) (points-text comma m ns)
       ∙ simp append-assoc
 
   closed-points : (closes : Bool) (es : List ℕ) → 0 < length es → pointsOf es (bit closes)
@@ -192,7 +212,8 @@ module _ (levels : List ℕ) (f : Frame) (v : ℕ) where
       → pointsText levels f v bracket (pointsOf (c .edges) (bit (c .closes))) ≡ lineText levels f v c
   line-text c h = ap (pointsText levels f v bracket) (closed-points (c .closes) (c .edges) h) ∙ go (c .edges) h
     where
-      go : (es : List ℕ) → 0 < length es → pointsText levels f v bracket (es ++ cond (c .closes) (getD es 0 0 ∷ []) [])
+      go : (es : List ℕ) → 0 < length es
+          → pointsText levels f v bracket (es ++ cond (c .closes) (getD es 0 0 ∷ []) [])
           ≡ bracket ++ parted levels f v (map (placeText levels f v)
           (es ++ cond (c .closes) (getD es 0 0 ∷ []) [])) ++ closing
       go [] h = absurd (omega arith)

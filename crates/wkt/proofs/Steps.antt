@@ -1,4 +1,5 @@
--- A step of printing: the text left is the piece and then the text left at the next cursor, which printing comes by and which is nearer to the end. Assumes nothing.
+-- A step of printing: the text left is the piece and then the text left at the next cursor, which printing comes by
+-- and which is nearer to the end. Assumes nothing.
 use mathlib.Core.Path.{_≡_, refl, sym, ap, _∙_, subst}
 use mathlib.Core.Bool.{Bool, true, false, cond}
 use mathlib.Core.List.{List, [], _∷_, _++_, append-assoc, append-nil}
@@ -8,12 +9,14 @@ use native.Mathlib.Numerals.{add-one}
 use native.Mathlib.Omega.{arith}
 use borrow.Author.Tests.{lt-ltb, le-ltb, ltb-true, ltb-false, ne-eqb, eq-eqb, eqb-true, eqb-false}
 use lib.Dec.{ltb, eqb}
-use lib.ListN.{length, getD, take, drop, length-append, length-drop, drop-of-length-le, List·getD-eq-default, List·getD-append}
+use lib.ListN.{length, getD, take, drop, length-append, length-drop, drop-of-length-le, List·getD-eq-default}
+use lib.ListN.{List·getD-append}
 use lib.Seq.{drop-cons, drop-drop, getD-drop, getD-take, getD-append-add, length-take-le, take-append-le}
 use Rattle.network.specs.declared.Frame.{Frame}
 use Rattle.network.proofs.Numbers.{by-cond}
 use Rattle.wkt.specs.declared.Cursor.{Cursor}
-use Rattle.wkt.specs.Text.{placeText, bracket, comma, pointsText, linesText, multilinestring, empty, textOf, pointsOf}
+use Rattle.wkt.specs.Text.{placeText, bracket, comma, pointsText, linesText, multilinestring, empty, textOf}
+use Rattle.wkt.specs.Text.{pointsOf}
 use Rattle.wkt.specs.InnerParts.{linesFrom, total, Printable, lineAt, linesAfter, pointsAt}
 use Rattle.wkt.specs.InnerParts.{Reached, fromLine, leftOf, endText, beforeText, pieceOf, nextOf}
 
@@ -42,11 +45,14 @@ module _ (levels : List ℕ) (f : Frame) (v : ℕ) (listed counts closed : List 
 
   -- the first point of a line, and one more point
   open-lines : (before : List ℕ) (n : ℕ) (ns : List ℕ) (ls : List (List ℕ))
-      → linesText levels f v before ((n ∷ ns) ∷ ls) ≡ before ++ ((40 ∷ placeText levels f v n) ++ (pointsText levels f v comma ns ++ linesText levels f v comma ls))
+      → linesText levels f v before ((n ∷ ns) ∷ ls) ≡ before
+      ++ ((40 ∷ placeText levels f v n) ++ (pointsText levels f v comma ns ++ linesText levels f v comma ls))
   unfolding linesText pointsText
   open-lines before n ns ls = simp append-assoc
 
-  more-points : (n : ℕ) (ns t : List ℕ) → pointsText levels f v comma (n ∷ ns) ++ t ≡ comma ++ placeText levels f v n ++ (pointsText levels f v comma ns ++ t)
+  more-points : (n : ℕ) (ns t : List ℕ)
+      → pointsText levels f v comma (n ∷ ns) ++ t ≡ comma ++ placeText levels f v n
+      ++ (pointsText levels f v comma ns ++ t)
   unfolding pointsText
   more-points n ns t = append-assoc (comma ++ placeText levels f v n) (pointsText levels f v comma ns) t
 
@@ -62,12 +68,19 @@ module _ (levels : List ℕ) (f : Frame) (v : ℕ) (listed counts closed : List 
   unfolding leftOf
   left-end c h = rw (lt-ltb _ _ h)
 
-  pub left-first : (c : Cursor) → (c .line ≡ 0) × ((c .start ≡ 0) × (c .point ≡ 0)) → leftOf levels f v listed counts closed c ≡ textOf levels f v (linesFrom listed counts closed)
+  pub left-first : (c : Cursor) → (c .line ≡ 0) × ((c .start ≡ 0) × (c .point ≡ 0))
+      → leftOf levels f v listed counts closed c ≡ textOf levels f v (linesFrom listed counts closed)
   unfolding leftOf
   left-first c h = rw (h .0, h .1 .0, h .1 .1, le-ltb (length counts) 0 (omega arith))
 
-  pub reached-first : total counts ≡ length listed → (c : Cursor) → (c .line ≡ 0) × ((c .start ≡ 0) × (c .point ≡ 0)) → Reached listed counts closed c
-  reached-first s c h = record { line = omega (arith, h .0); start = rw (h .0, h .1 .0) (omega arith); point = omega (arith, h .1 .1) }
+  pub reached-first : total counts ≡ length listed → (c : Cursor)
+      → (c .line ≡ 0) × ((c .start ≡ 0) × (c .point ≡ 0)) → Reached listed counts closed c
+  reached-first s c h = record {
+    line = omega (arith, h .0);
+    start = rw (h .0, h .1 .0) (omega arith);
+    point =
+        omega (arith, h .1 .1);
+  }
 
   module _ (k : Printable levels f v listed counts closed) (c : Cursor) (r : Reached listed counts closed c) where
     -- ---- past the last line
@@ -78,17 +91,34 @@ module _ (levels : List ℕ) (f : Frame) (v : ℕ) (listed counts closed : List 
       none-counted = ap total (drop-of-length-le counts {i = c .line} (omega arith))
 
       at-start : c .point ≡ 0
-      at-start = omega (arith, r .point, List·getD-eq-default counts 0 {n = c .line} (omega arith), List·getD-eq-default closed 0 {n = c .line} (omega (arith, k .marked)))
+      at-start = omega (
+        arith,
+        r .point,
+        List·getD-eq-default counts 0 {n = c .line} (omega arith),
+        List·getD-eq-default closed 0 {n = c .line} (omega (arith, k .marked)),
+      )
 
       pub goes-end : Goes c (record { line = c .line + 1; start = c .start; point = 0 }) (endText (c .line))
       unfolding leftOf linesFrom textOf linesText total
       goes-end = record { text = here; reached = there; nearer = omega (arith, at-start, e) }
         where
           here : left c ≡ endText (c .line) ++ left (record { line = c .line + 1; start = c .start; point = 0 })
-          here = rw (le-ltb (length counts) (c .line) (omega arith), at-start, drop-of-length-le counts {i = c .line} (omega arith), lt-ltb (length counts) (c .line + 1) (omega arith), append-nil (endText (c .line)))
+          here = rw (
+            le-ltb (length counts) (c .line) (omega arith),
+            at-start,
+            drop-of-length-le counts {i = c .line} (omega arith),
+            lt-ltb (length counts) (c .line + 1)
+                (omega arith),
+            append-nil (endText (c .line)),
+          )
 
           there : Reached listed counts closed (record { line = c .line + 1; start = c .start; point = 0 })
-          there = record { line = omega arith; start = rw (drop-of-length-le counts {i = c .line + 1} (omega arith)) (omega (arith, r .start, none-counted)); point = omega arith }
+          there = record {
+            line = omega arith;
+            start =
+                rw (drop-of-length-le counts {i = c .line + 1} (omega arith)) (omega (arith, r .start, none-counted));
+            point = omega arith;
+          }
 
     -- ---- in a line
 
@@ -112,16 +142,36 @@ module _ (levels : List ℕ) (f : Frame) (v : ℕ) (listed counts closed : List 
       line-long : length line ≡ m + z
       line-long =
           length-append (take m (drop (c .start) listed)) (take z (take m (drop (c .start) listed)))
-          ∙ omega (arith, edges-long, length-take-le z (take m (drop (c .start) listed)) (omega (arith, edges-long, k .marks (c .line), k .some (c .line) h)))
+          ∙ omega (
+            arith,
+            edges-long,
+            length-take-le z (take m (drop (c .start) listed))
+                (omega (arith, edges-long, k .marks (c .line), k .some (c .line) h)),
+          )
 
-      lines-here : linesFrom (drop (c .start) listed) (drop (c .line) counts) (drop (c .line) closed) ≡ line ∷ linesAfter listed counts closed c
+      lines-here : linesFrom (drop (c .start) listed) (drop (c .line) counts) (drop (c .line) closed)
+          ≡ line ∷ linesAfter listed counts closed c
       unfolding linesFrom
-      lines-here = rw (drop-cons counts (c .line) 0 h, getD-drop (c .line) closed 0 0, add-zero (c .line), drop-drop m (c .start) listed, drop-drop 1 (c .line) closed, add-one (c .line))
+      lines-here = rw (
+        drop-cons counts (c .line) 0 h,
+        getD-drop (c .line) closed 0 0,
+        add-zero (c .line),
+        drop-drop m (c .start) listed,
+        drop-drop 1 (c .line) closed,
+        add-one (c .line),
+      )
 
       -- at its end
-      pub goes-line : c .point ≡ pointsAt counts closed c → Goes c (record { line = c .line + 1; start = c .start + m; point = 0 }) (41 ∷ [])
+      pub goes-line : c .point ≡ pointsAt counts closed c
+          → Goes c (record { line = c .line + 1; start = c .start + m; point = 0 }) (41 ∷ [])
       unfolding leftOf pointsText
-      goes-line e = record { text = here; reached = record { line = omega arith; start = room; point = omega arith }; nearer = omega (arith, room, k .marks (c .line)) }
+      goes-line e = record {
+        text = here;
+        reached =
+            record { line = omega arith; start = room; point = omega arith };
+        nearer =
+            omega (arith, room, k .marks (c .line));
+      }
         where
           here : left c ≡ (41 ∷ []) ++ left (record { line = c .line + 1; start = c .start + m; point = 0 })
           here =
@@ -139,7 +189,8 @@ module _ (levels : List ℕ) (f : Frame) (v : ℕ) (listed counts closed : List 
         n = getD line (c .point) 0
 
         abbrev rest : List ℕ
-        rest = pointsText levels f v comma (drop (c .point + 1) line) ++ linesText levels f v comma (linesAfter listed counts closed c)
+        rest = pointsText levels f v comma (drop (c .point + 1) line) ++ linesText levels f v comma
+            (linesAfter listed counts closed c)
 
         here-point : drop (c .point) line ≡ n ∷ drop (c .point + 1) line
         here-point = drop-cons line (c .point) 0 (omega (arith, line-long)) ∙ rw (add-one (c .point))
@@ -148,25 +199,46 @@ module _ (levels : List ℕ) (f : Frame) (v : ℕ) (listed counts closed : List 
         line-open e = ap (λ (i : ℕ). drop i line) (sym e) ∙ here-point
 
         split : (b a : Bool) → eqb (c .point) 0 ≡ b
-            → cond b (cond a (textOf levels f v (line ∷ linesAfter listed counts closed c)) (linesText levels f v comma (line ∷ linesAfter listed counts closed c))) (pointsText levels f v comma (drop (c .point) line) ++ linesText levels f v comma (linesAfter listed counts closed c))
-            ≡ cond b (cond a (multilinestring ++ (40 ∷ 40 ∷ [])) (44 ∷ 32 ∷ 40 ∷ [])) comma ++ placeText levels f v n ++ rest
+            → cond b (cond a (textOf levels f v (line ∷ linesAfter listed counts closed c))
+            (linesText levels f v comma (line ∷ linesAfter listed counts closed c)))
+            (pointsText levels f v comma (drop (c .point) line) ++ linesText levels f v comma
+            (linesAfter listed counts closed c))
+            ≡ cond b (cond a (multilinestring ++ (40 ∷ 40 ∷ [])) (44 ∷ 32 ∷ 40 ∷ [])) comma
+            ++ placeText levels f v n ++ rest
         unfolding textOf
         split true true q =
-            ap (λ (l : List ℕ). multilinestring ++ linesText levels f v bracket (l ∷ linesAfter listed counts closed c)) (line-open (eqb-true _ _ q))
-            ∙ ap (λ (t : List ℕ). multilinestring ++ t) (open-lines bracket n (drop (c .point + 1) line) (linesAfter listed counts closed c))
+            ap (λ (l : List ℕ). multilinestring ++ linesText levels f v bracket
+            (l ∷ linesAfter listed counts closed c)) (line-open (eqb-true _ _ q))
+            ∙ ap (λ (t : List ℕ). multilinestring ++ t)
+            (open-lines bracket n (drop (c .point + 1) line) (linesAfter listed counts closed c))
         split true false q =
-            ap (λ (l : List ℕ). linesText levels f v comma (l ∷ linesAfter listed counts closed c)) (line-open (eqb-true _ _ q))
+            ap (λ (l : List ℕ). linesText levels f v comma (l ∷ linesAfter listed counts closed c))
+            (line-open (eqb-true _ _ q))
             ∙ open-lines comma n (drop (c .point + 1) line) (linesAfter listed counts closed c)
         split false a q =
-            ap (λ (l : List ℕ). pointsText levels f v comma l ++ linesText levels f v comma (linesAfter listed counts closed c)) here-point
-            ∙ more-points n (drop (c .point + 1) line) (linesText levels f v comma (linesAfter listed counts closed c))
+            ap (λ (l : List ℕ). pointsText levels f v comma l ++ linesText levels f v comma
+            (linesAfter listed counts closed c)) here-point
+            ∙ more-points n (drop (c .point + 1) line)
+            (linesText levels f v comma (linesAfter listed counts closed c))
 
-        pub goes-point : Goes c (record { line = c .line; start = c .start; point = c .point + 1 }) (beforeText (c .line) (c .point) ++ placeText levels f v n)
+        pub goes-point : Goes c (record { line = c .line; start = c .start; point = c .point + 1 })
+            (beforeText (c .line) (c .point) ++ placeText levels f v n)
         unfolding leftOf
-        goes-point = record { text = here; reached = record { line = r .line; start = r .start; point = omega arith }; nearer = omega (arith, room, k .marks (c .line)) }
+        goes-point = record {
+          text = here;
+          reached =
+              record { line = r .line; start = r .start; point = omega arith };
+          nearer =
+              omega (arith, room, k .marks (c .line));
+        }
           where
-            here : left c ≡ beforeText (c .line) (c .point) ++ placeText levels f v n ++ left (record { line = c .line; start = c .start; point = c .point + 1 })
-            here = rw (le-ltb (length counts) (c .line) (omega arith), ne-eqb (c .point + 1) 0 (λ q. omega arith), lines-here) (split (eqb (c .point) 0) (eqb (c .line) 0) refl)
+            here : left c ≡ beforeText (c .line) (c .point) ++ placeText levels f v n
+                ++ left (record { line = c .line; start = c .start; point = c .point + 1 })
+            here = rw (
+              le-ltb (length counts) (c .line) (omega arith),
+              ne-eqb (c .point + 1) 0 (λ q. omega arith),
+              lines-here,
+            ) (split (eqb (c .point) 0) (eqb (c .line) 0) refl)
 
         -- the point's edge among the listed ones
         abbrev place : ℕ
@@ -185,12 +257,19 @@ module _ (levels : List ℕ) (f : Frame) (v : ℕ) (listed counts closed : List 
         point-edge =
             let es = take m (drop (c .start) listed) in
             by-cond (λ (i : ℕ). n ≡ getD listed (c .start + i) 0) (ltb (c .point) m) (c .point) (c .point - m)
-            (λ t. List·getD-append es (take z es) 0 (c .point) (omega (arith, ltb-true (c .point) m t, edges-long)) ∙ edge-of (c .point) (ltb-true (c .point) m t))
-            (λ t. let e : c .point ≡ length es + (c .point - m) = omega (arith, ltb-false (c .point) m t, edges-long) in
+            (λ t. List·getD-append es (take z es) 0 (c .point)
+            (omega (arith, ltb-true (c .point) m t, edges-long)) ∙ edge-of (c .point) (ltb-true (c .point) m t))
+            (λ t. let e : c .point ≡ length es + (c .point - m) =
+            omega (arith, ltb-false (c .point) m t, edges-long) in
             ap (λ (i : ℕ). getD (es ++ take z es) i 0) e
             ∙ getD-append-add es (take z es) (c .point - m) 0
             ∙ getD-take z es (c .point - m) 0 (omega (arith, ltb-false (c .point) m t))
-            ∙ edge-of (c .point - m) (omega (arith, ltb-false (c .point) m t, k .marks (c .line), k .some (c .line) h)))
+            ∙ edge-of (c .point - m) (omega (
+              arith,
+              ltb-false (c .point) m t,
+              k .marks (c .line),
+              k .some (c .line) h,
+            )))
 
     -- ---- any step
 
@@ -200,8 +279,13 @@ module _ (levels : List ℕ) (f : Frame) (v : ℕ) (listed counts closed : List 
       where
         go : (a b : Bool) → eqb (c .line) (length counts) ≡ a → eqb (c .point) (pointsAt counts closed c) ≡ b
             → Goes c
-            (cond a (record { line = c .line + 1; start = c .start; point = 0 }) (cond b (record { line = c .line + 1; start = c .start + getD counts (c .line) 0; point = 0 }) (record { line = c .line; start = c .start; point = c .point + 1 })))
-            (cond a (endText (c .line)) (cond b (41 ∷ []) (beforeText (c .line) (c .point) ++ placeText levels f v (getD (lineAt listed counts closed c) (c .point) 0))))
+            (cond a (record { line = c .line + 1; start = c .start; point = 0 })
+            (cond b (record { line = c .line + 1; start = c .start + getD counts (c .line) 0; point = 0 })
+            (record { line = c .line; start = c .start; point = c .point + 1 })))
+            (cond a (endText (c .line))
+            (cond b (41 ∷ []) (beforeText (c .line) (c .point)
+            ++ placeText levels f v (getD (lineAt listed counts closed c) (c .point) 0))))
         go true b p q = goes-end (eqb-true _ _ p)
         go false true p q = goes-line (omega (arith, eqb-false (c .line) (length counts) p)) (eqb-true _ _ q)
-        go false false p q = goes-point (omega (arith, eqb-false (c .line) (length counts) p)) (omega (arith, r .point, eqb-false (c .point) (pointsAt counts closed c) q))
+        go false false p q = goes-point (omega (arith, eqb-false (c .line) (length counts) p))
+            (omega (arith, r .point, eqb-false (c .point) (pointsAt counts closed c) q))

@@ -13,7 +13,8 @@ use Rattle.movement.specs.Group.{groupPeriod}
 use Rattle.movement.specs.Rules.{fieldsFit, counts, movementRefusal, identityFits}
 use Rattle.book_rules.specs.Calls.{refusedOr, refusal}
 use Rattle.book_rules.specs.Calls.Call.{enter}
-use Rattle.book_rules.specs.History.{made, emptyBook, booked, movements, accepted, listOf, listRefusal, standingRefusal, sizesFit, standing}
+use Rattle.book_rules.specs.History.{made, emptyBook, booked, movements, accepted, listOf, listRefusal}
+use Rattle.book_rules.specs.History.{standingRefusal, sizesFit, standing}
 use Rattle.book_rules.proofs.History.{history-refusal}
 use Rattle.book_rules.proofs.Lookup.{call-does}
 use Rattle.level.specs.Tables.{tableA}
@@ -22,7 +23,8 @@ use Rattle.level.proofs.RootLaws.{root-only}
 use Rattle.contour_rules.specs.Contours.{waiting, follow, without, swept, crossedTo}
 use Rattle.text.specs.Number.{shown}
 use Rattle.wkt.specs.Text.{placeText, pointsText, linesText, textOf}
-use Rattle.worked.specs.Cases.{Case, InPeriod, EnterAnswered, CaseHolds, AllHold, cases, hill, hillFrame, hillContours, hillText}
+use Rattle.worked.specs.Cases.{Case, InPeriod, EnterAnswered, CaseHolds, AllHold, cases, hill, hillFrame}
+use Rattle.worked.specs.Cases.{hillContours, hillText}
 use Rattle.worked.specs.Cases.Case.{period, mass, energy, contour}
 
 -- a group's period is read from its number
@@ -39,10 +41,18 @@ loaded-as t k number h =
     numbered (suc (suc (suc n))) h = absurd (omega arith)
 
 in-day : (s : ℕ) → 25200 ≤ s → s < 68400 → InPeriod s 0
-in-day s h k = record { stored = λ p x t i m b b′ q. call-does (enter x t i s m) q .day h k; loaded = λ t i. loaded-as t i 0 (omega arith) }
+in-day s h k = record {
+  stored = λ p x t i m b b′ q. call-does (enter x t i s m) q .day h k;
+  loaded =
+      λ t i. loaded-as t i 0 (omega arith);
+}
 
 in-evening : (s : ℕ) → 68400 ≤ s → s < 82800 → InPeriod s 1
-in-evening s h k = record { stored = λ p x t i m b b′ q. call-does (enter x t i s m) q .evening h k; loaded = λ t i. loaded-as t i 1 (omega arith) }
+in-evening s h k = record {
+  stored = λ p x t i m b b′ q. call-does (enter x t i s m) q .evening h k;
+  loaded =
+      λ t i. loaded-as t i 1 (omega arith);
+}
 
 in-night : (s : ℕ) → (82800 ≤ s) ⊎ (s < 25200) → InPeriod s 2
 in-night s h =
@@ -53,7 +63,8 @@ in-night s h =
     }
 
 -- an *enter* on an empty book is refused as its movement is
-enter-empty : (p n x t k s m : ℕ) → (1 ≤ p) × (p ≤ 8) → (1 ≤ n) × (n ≤ 50000) → (1 ≤ x) × (x ≤ 99999)
+enter-empty : (p n x t k s m : ℕ) → (1 ≤ p) × (p ≤ 8) → (1 ≤ n) × (n ≤ 50000)
+    → (1 ≤ x) × (x ≤ 99999)
     → refusal p (emptyBook p n) (enter x t k s m) ≡ movementRefusal t k s m
 unfolding identityFits booked movements accepted listOf listRefusal standingRefusal sizesFit standing
 enter-empty p n x t k s m hp hn hx =
@@ -77,7 +88,8 @@ enter-empty p n x t k s m hp hn hx =
 of-mass : (type kg answer : ℕ) → movementRefusal type 0 0 kg ≡ answer → EnterAnswered type kg answer
 unfolding movementRefusal fieldsFit
 of-mass type kg answer e p n x k s hp hn hx hk hs =
-    enter-empty p n x type k s kg hp hn hx ∙ rw (lt-ltb k kindCount (omega arith), lt-ltb s secondsADay (omega arith)) e
+    enter-empty p n x type k s kg hp hn hx
+    ∙ rw (lt-ltb k kindCount (omega arith), lt-ltb s secondsADay (omega arith)) e
 
 -- A(0) and A(500)
 a-0 : tableA 0 ≡ 1000000

@@ -12,7 +12,8 @@ list-out-requires c κs =
     let right = c .before .before .before .before .before .before in
     let judged = right .before in
     let a = judged .before .before .before .before .before .before .args in
-    contour-not-refused (now (a .levels)) (a .frame) (a .v) (sym (judged .contour-refusal .ensures) ∙ right .if1 .taken)
+    contour-not-refused (now (a .levels)) (a .frame) (a .v) (sym (judged .contour-refusal .ensures)
+    ∙ right .if1 .taken)
     .0 .sized
 
 returns : tie.Need-returns

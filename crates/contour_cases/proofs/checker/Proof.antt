@@ -13,7 +13,11 @@ abbrev μ-loop : tie.MeasureT-loop
 μ-loop levels₀ i₀ levels i = length levels₀ - i
 
 loop-again : tie.Need-loop-again Inv-loop μ-loop
-loop-again c = (length-set (c .before .before .loop .levels) (c .before .before .loop .i) _ ∙ c .before .before .loop .inv .0, search needs)
+loop-again c = (
+  length-set (c .before .before .loop .levels) (c .before .before .loop .i) _
+      ∙ c .before .before .loop .inv .0,
+  search needs,
+)
 
 pub checker-spec : {M : Type 1} → statement M
 checker-spec =

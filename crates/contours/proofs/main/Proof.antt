@@ -27,8 +27,13 @@ slice-aggregate-answer-2 c = search needs
 answer-requires : tie.Need-answer-requires
 answer-requires c κs =
     let t = c .before .before .before .before .before .before .read-text in
-    let g = c .before .before .before .gather in
-    (t .ensures, (t .kept .0 ∙ length-replicate {A = ℕ} 600000 0, (g .kept .0 ∙ length-replicate {A = ℕ} 15000 0, g .ensures)))
+    let g = c .before .before .before .gather in (
+      t .ensures,
+      (
+        t .kept .0 ∙ length-replicate {A = ℕ} 600000 0,
+        (g .kept .0 ∙ length-replicate {A = ℕ} 15000 0, g .ensures),
+      ),
+    )
 
 returns : tie.Need-returns
 returns c = search needs

@@ -19,7 +19,8 @@ returns-2 c =
     let at-replay-refusal : tie.After-replay-refusal = search in
     let left1 : tie.Else1 = search in
     let at-run : tie.After-run = search in
-    replay-done (sym (at-replay-refusal .replay-refusal .ensures) ∙ left1 .if1 .left) (at-run .run .ensures .0) (at-run .run .ensures .1)
+    replay-done (sym (at-replay-refusal .replay-refusal .ensures) ∙ left1 .if1 .left) (at-run .run .ensures .0)
+    (at-run .run .ensures .1)
 
 pub replay-spec : {M : Type 1} → statement M
 replay-spec =

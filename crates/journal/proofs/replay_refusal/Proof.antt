@@ -13,7 +13,10 @@ returns c = simp (failed (c .before .is-laid-out .ensures) (c .if1 .taken))
 returns-2 : tie.Need-returns-2
 unfolding replayRefusal
 returns-2 c =
-    simp (passed (c .before .before .before .is-laid-out .ensures) (c .before .before .if1 .left), failed (c .before .is-sound .ensures) (c .if2 .taken))
+    simp (
+      passed (c .before .before .before .is-laid-out .ensures) (c .before .before .if1 .left),
+      failed (c .before .is-sound .ensures) (c .if2 .taken),
+    )
 
 count-calls-requires : tie.Need-count-calls-requires
 count-calls-requires c κs = passed (c .before .before .before .is-laid-out .ensures) (c .before .before .if1 .left)
@@ -24,7 +27,13 @@ returns-3 c =
     let at-is-laid-out : tie.After-is-laid-out = search in
     let left1 : tie.Else1 = search in
     let at-is-sound : tie.After-is-sound = search in
-    simp (passed (at-is-laid-out .is-laid-out .ensures) (left1 .if1 .left), passed (at-is-sound .is-sound .ensures) (c .before .before .if2 .left), ← (c .before .count-calls .ensures), lt-leb _ _ (c .if3 .taken))
+    simp (
+      passed (at-is-laid-out .is-laid-out .ensures) (left1 .if1 .left),
+      passed (at-is-sound .is-sound .ensures)
+          (c .before .before .if2 .left),
+      ← (c .before .count-calls .ensures),
+      lt-leb _ _ (c .if3 .taken),
+    )
 
 returns-4 : tie.Need-returns-4
 unfolding replayRefusal
@@ -32,7 +41,13 @@ returns-4 c =
     let at-is-laid-out : tie.After-is-laid-out = search in
     let left1 : tie.Else1 = search in
     let at-is-sound : tie.After-is-sound = search in
-    simp (passed (at-is-laid-out .is-laid-out .ensures) (left1 .if1 .left), passed (at-is-sound .is-sound .ensures) (c .before .before .if2 .left), ← (c .before .count-calls .ensures), le-leb _ _ (c .if3 .left))
+    simp (
+      passed (at-is-laid-out .is-laid-out .ensures) (left1 .if1 .left),
+      passed (at-is-sound .is-sound .ensures)
+          (c .before .before .if2 .left),
+      ← (c .before .count-calls .ensures),
+      le-leb _ _ (c .if3 .left),
+    )
 
 pub replay-refusal-spec : {M : Type 1} → statement M
 replay-refusal-spec =

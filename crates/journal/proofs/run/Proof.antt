@@ -14,12 +14,18 @@ use Rattle.journal.proofs.run.Statement.{statement}
 use Rattle.journal.proofs.run.Tie as tie
 
 abbrev Inv-loop : tie.InvT-loop
-Inv-loop ids₀ groups₀ marks₀ levels₀ points journal answers₀ at₀ made₀ ids groups marks levels answers at made =
-    Replaying points (bookOf ids₀ groups₀ marks₀ levels₀) journal answers₀ at made (bookOf ids groups marks levels) answers
-    × ((length ids ≡ length ids₀) × ((length groups ≡ length groups₀) × ((length marks ≡ length marks₀) × ((length levels ≡ length levels₀) × (length answers ≡ length answers₀)))))
+Inv-loop ids₀ groups₀ marks₀ levels₀ points journal answers₀ at₀ made₀ ids groups marks levels answers
+    at made =
+    Replaying points (bookOf ids₀ groups₀ marks₀ levels₀) journal answers₀ at made
+    (bookOf ids groups marks levels) answers
+    × ((length ids ≡ length ids₀)
+    × ((length groups ≡ length groups₀)
+    × ((length marks ≡ length marks₀)
+    × ((length levels ≡ length levels₀) × (length answers ≡ length answers₀)))))
 
 abbrev μ-loop : tie.MeasureT-loop
-μ-loop ids₀ groups₀ marks₀ levels₀ points journal answers₀ at₀ made₀ ids groups marks levels answers at made =
+μ-loop ids₀ groups₀ marks₀ levels₀ points journal answers₀ at₀ made₀ ids groups marks levels answers
+    at made =
     length journal - at
 
 loop-holds : tie.Need-loop-holds Inv-loop μ-loop
@@ -43,14 +49,16 @@ head c = search
 step : (c : tie.After-width-of Inv-loop μ-loop)
     → Step (start c .args .journal .now) (head c .loop .at) (c .width-of .result)
 step c =
-    step-laid _ _ _ (c .width-of .ensures) (c .before .before .loop-test .taken) (c .before .before .before .loop .inv .0 .laid)
+    step-laid _ _ _ (c .width-of .ensures) (c .before .before .loop-test .taken)
+    (c .before .before .before .loop .inv .0 .laid)
 
 -- there is an answer's room for it
 abbrev book : tie.Start Inv-loop μ-loop → Book
 book s = bookNow (s .args .ids) (s .args .groups) (s .args .marks) (s .args .levels)
 
 space : (c : tie.After-width-of Inv-loop μ-loop)
-    → length (all (start c .args .points) (book (start c)) (start c .args .journal .now)) ≤ length (now (start c .args .answers))
+    → length (all (start c .args .points) (book (start c)) (start c .args .journal .now)) ≤ length
+    (now (start c .args .answers))
 space c =
     let s = start c in
     omega (arith, length-all (s .args .points) (book s) (callsOf (s .args .journal .now)), s .pre .1 .1)
@@ -58,7 +66,12 @@ space c =
 below : (c : tie.After-width-of Inv-loop μ-loop)
     → c .before .before .before .loop .made < length (c .before .before .before .loop .answers)
 below c =
-    omega (arith, next (c .before .before .before .loop .inv .0) (step c) .inside, space c, c .before .before .before .loop .inv .1)
+    omega (
+      arith,
+      next (c .before .before .before .loop .inv .0) (step c) .inside,
+      space c,
+      c .before .before .before .loop .inv .1,
+    )
 
 mul-make-call : tie.Need-mul-make-call Inv-loop μ-loop
 mul-make-call c =

@@ -18,19 +18,24 @@ returns c = rw (failed (c .before .before .point-fits .ensures) (c .before .if1 
 returns-2 : tie.Need-returns-2
 unfolding bookLoad loadOf loadRefusal
 returns-2 c =
-    rw (passed (c .before .before .before .before .point-fits .ensures) (c .before .before .before .if1 .left), failed (c .before .before .days-fit .ensures) (c .before .if2 .taken)) (c .refusal2 .ensures)
+    rw (
+      passed (c .before .before .before .before .point-fits .ensures) (c .before .before .before .if1 .left),
+      failed (c .before .before .days-fit .ensures) (c .before .if2 .taken),
+    ) (c .refusal2 .ensures)
 
 load-of-requires : tie.Need-load-of-requires
 load-of-requires c κs =
     let at-point-fits : tie.After-point-fits = search in
     let s : tie.Start = search in
-    let there = fits-there (s .args .points) (s .args .point) (book s) (passed (at-point-fits .point-fits .ensures) (c .before .before .if1 .left)) in
+    let there = fits-there (s .args .points) (s .args .point) (book s)
+    (passed (at-point-fits .point-fits .ensures) (c .before .before .if1 .left)) in
     (there .0, (there .1, passed (c .before .days-fit .ensures) (c .if2 .left)))
 
 returns-3 : tie.Need-returns-3
 unfolding bookLoad
 returns-3 c =
-    rw (passed (c .before .before .before .before .point-fits .ensures) (c .before .before .before .if1 .left)) (c .load-of .ensures)
+    rw (passed (c .before .before .before .before .point-fits .ensures) (c .before .before .before .if1 .left))
+    (c .load-of .ensures)
 
 pub load-at-spec : {M : Type 1} → statement M
 load-at-spec =

@@ -19,8 +19,10 @@ book s = bookNow (s .args .ids) (s .args .groups) (s .args .marks) (s .args .lev
 answer-from-requires : tie.Need-answer-from-requires
 unfolding bookShares
 answer-from-requires c κs =
-    let s : tie.Start = search in
-    (rw (c .tallied .ensures) (rows-bounded (s .args .points) (s .args .point) (book s) (s .pre .0) (s .pre .1 .0)), s .pre .1 .1)
+    let s : tie.Start = search in (
+      rw (c .tallied .ensures) (rows-bounded (s .args .points) (s .args .point) (book s) (s .pre .0) (s .pre .1 .0)),
+      s .pre .1 .1,
+    )
 
 returns : tie.Need-returns
 unfolding bookShares
@@ -30,7 +32,9 @@ returns c =
     c .answer-from .ensures
     ∙ ap (λ cs. loadFrom (groupAt cs) (s .args .days)) (c .before .tallied .ensures)
     ∙ from-table (tally ss) (s .args .days)
-    ∙ from-shares ss (s .args .days) (s .pre .1 .1) (rows-grouped (s .args .points) (s .args .point) (book s) (s .pre .0) (s .pre .1 .0) (length (s .args .ids .now)) (omega arith))
+    ∙ from-shares ss (s .args .days) (s .pre .1 .1)
+    (rows-grouped (s .args .points) (s .args .point) (book s) (s .pre .0) (s .pre .1 .0)
+    (length (s .args .ids .now)) (omega arith))
 
 pub load-of-spec : {M : Type 1} → statement M
 load-of-spec =

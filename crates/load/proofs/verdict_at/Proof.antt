@@ -23,19 +23,29 @@ returns c = judging (rw (failed (c .before .point-fits .ensures) (c .if1 .taken)
 returns-2 : tie.Need-returns-2
 unfolding bookVerdict judgedOf verdictRefusal judged
 returns-2 c =
-    judging (rw (passed (c .before .before .before .point-fits .ensures) (c .before .before .if1 .left), failed (c .before .days-fit .ensures) (c .if2 .taken)) refl)
+    judging (rw (
+      passed (c .before .before .before .point-fits .ensures) (c .before .before .if1 .left),
+      failed (c .before .days-fit .ensures) (c .if2 .taken),
+    ) refl)
 
 returns-3 : tie.Need-returns-3
 unfolding bookVerdict judgedOf verdictRefusal judged limitFits
 returns-3 c =
-    judging (rw (passed (c .before .before .before .before .point-fits .ensures) (c .before .before .before .if1 .left), passed (c .before .before .days-fit .ensures) (c .before .if2 .left), lt-leb _ _ (c .if3 .taken)) refl)
+    judging (rw (
+      passed (c .before .before .before .before .point-fits .ensures)
+          (c .before .before .before .if1 .left),
+      passed (c .before .before .days-fit .ensures)
+          (c .before .if2 .left),
+      lt-leb _ _ (c .if3 .taken),
+    ) refl)
 
 load-of-requires : tie.Need-load-of-requires
 load-of-requires c κs =
     let at-point-fits : tie.After-point-fits = search in
     let left1 : tie.Else1 = search in
     let s : tie.Start = search in
-    let there = fits-there (s .args .points) (s .args .point) (book s) (passed (at-point-fits .point-fits .ensures) (left1 .if1 .left)) in
+    let there = fits-there (s .args .points) (s .args .point) (book s)
+    (passed (at-point-fits .point-fits .ensures) (left1 .if1 .left)) in
     (there .0, (there .1, passed (c .before .before .days-fit .ensures) (c .before .if2 .left)))
 
 returns-4 : tie.Need-returns-4

@@ -11,10 +11,12 @@ use Rattle.mapping.proofs.crossing_at.Tie as tie
 crossing-of-requires : tie.Need-crossing-of-requires
 crossing-of-requires c κs =
     let a = c .before .before .before .args in
-    contour-not-refused (now (a .levels)) (a .frame) (a .v) (sym (c .before .contour-refusal .ensures) ∙ c .if1 .taken) .0
+    contour-not-refused (now (a .levels)) (a .frame) (a .v) (sym (c .before .contour-refusal .ensures)
+    ∙ c .if1 .taken) .0
 
 returns : tie.Need-returns
-returns c = rw (sym (c .before .before .contour-refusal .ensures) ∙ c .before .if1 .taken) (ap Crossed (c .crossing-of .ensures))
+returns c = rw (sym (c .before .before .contour-refusal .ensures) ∙ c .before .if1 .taken)
+    (ap Crossed (c .crossing-of .ensures))
 
 returns-2 : tie.Need-returns-2
 returns-2 c = rw (← c .before .contour-refusal .ensures, ne-eqb (c .before .contour-refusal .result) 0 (c .if1 .left))

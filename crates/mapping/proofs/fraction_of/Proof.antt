@@ -10,4 +10,5 @@ returns c = zero-whole ∙ rw (c .enum-told .given .1)
 
 pub fraction-of-spec : {M : Type 1} → statement M
 fraction-of-spec =
-    tie.close (tie.spec (λ c. search needs) (λ c. search needs) (λ c. search needs) returns (λ c. search needs) (λ c. search needs))
+    tie.close (tie.spec (λ c. search needs) (λ c. search needs) (λ c. search needs) returns (λ c. search needs)
+    (λ c. search needs))

@@ -12,7 +12,8 @@ use Rattle.mapping.proofs.put_crossing.Statement.{statement}
 use Rattle.mapping.proofs.put_crossing.Tie as tie
 
 -- past the first test nothing of the network is refused
-right : (c : tie.Then1) → let a = c .before .before .before .before .before .args in contourRefusal (now (a .levels)) (a .frame) (a .v) ≡ 0
+right : (c : tie.Then1) → let a = c .before .before .before .before .before .args in
+    contourRefusal (now (a .levels)) (a .frame) (a .v) ≡ 0
 right c = sym (c .before .contour-refusal .ensures) ∙ c .if1 .taken
 
 crossing-of-requires : tie.Need-crossing-of-requires

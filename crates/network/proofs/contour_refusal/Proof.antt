@@ -10,13 +10,15 @@ returns : tie.Need-returns
 returns c =
     let a = c .before .before .before .before .before .args in
     let none = sym (c .before .before .before .refusal .ensures) ∙ c .before .before .if1 .taken in
-    sym (checked-on (a .max) (now (a .levels)) (a .frame) _ none ∙ rw (sym (c .before .lies-between .ensures) ∙ c .if2 .taken))
+    sym (checked-on (a .max) (now (a .levels)) (a .frame) _ none
+    ∙ rw (sym (c .before .lies-between .ensures) ∙ c .if2 .taken))
 
 returns-2 : tie.Need-returns-2
 returns-2 c =
     let a = c .before .before .before .before .before .args in
     let none = sym (c .before .before .before .refusal .ensures) ∙ c .before .before .if1 .taken in
-    sym (checked-on (a .max) (now (a .levels)) (a .frame) _ none ∙ rw (sym (c .before .lies-between .ensures) ∙ c .if2 .left))
+    sym (checked-on (a .max) (now (a .levels)) (a .frame) _ none
+    ∙ rw (sym (c .before .lies-between .ensures) ∙ c .if2 .left))
 
 returns-3 : tie.Need-returns-3
 returns-3 c =

@@ -6,10 +6,18 @@ use Rattle.network.proofs.is_placed.Statement.{statement}
 use Rattle.network.proofs.is_placed.Tie as tie
 
 returns : tie.Need-returns
-returns c = rw (sym (c .before .before .before .before .lies-between .ensures) ∙ c .before .before .before .if1 .taken, le-leb _ _ (c .before .if2 .taken))
+returns c = rw (
+  sym (c .before .before .before .before .lies-between .ensures)
+      ∙ c .before .before .before .if1 .taken,
+  le-leb _ _ (c .before .if2 .taken),
+)
 
 returns-2 : tie.Need-returns-2
-returns-2 c = rw (sym (c .before .before .before .lies-between .ensures) ∙ c .before .before .if1 .taken, lt-leb _ _ (c .if2 .left))
+returns-2 c = rw (
+  sym (c .before .before .before .lies-between .ensures)
+      ∙ c .before .before .if1 .taken,
+  lt-leb _ _ (c .if2 .left),
+)
 
 returns-3 : tie.Need-returns-3
 returns-3 c = rw (sym (c .before .lies-between .ensures) ∙ c .if1 .left)

@@ -5,10 +5,19 @@ use Rattle.network.proofs.is_whole.Statement.{statement}
 use Rattle.network.proofs.is_whole.Tie as tie
 
 returns : tie.Need-returns
-returns c = rw (sym (c .before .before .before .before .is-sided .ensures) ∙ c .before .before .before .if1 .taken, sym (c .before .before .is-placed .ensures) ∙ c .before .if2 .taken) (c .is-filled .ensures)
+returns c = rw (
+  sym (c .before .before .before .before .is-sided .ensures)
+      ∙ c .before .before .before .if1 .taken,
+  sym (c .before .before .is-placed .ensures)
+      ∙ c .before .if2 .taken,
+) (c .is-filled .ensures)
 
 returns-2 : tie.Need-returns-2
-returns-2 c = rw (sym (c .before .before .before .is-sided .ensures) ∙ c .before .before .if1 .taken, sym (c .before .is-placed .ensures) ∙ c .if2 .left)
+returns-2 c = rw (
+  sym (c .before .before .before .is-sided .ensures)
+      ∙ c .before .before .if1 .taken,
+  sym (c .before .is-placed .ensures) ∙ c .if2 .left,
+)
 
 returns-3 : tie.Need-returns-3
 returns-3 c = rw (sym (c .before .is-sided .ensures) ∙ c .if1 .left)

@@ -5,10 +5,18 @@ use Rattle.network.proofs.refusal.Statement.{statement}
 use Rattle.network.proofs.refusal.Tie as tie
 
 returns : tie.Need-returns
-returns c = rw (sym (c .before .before .before .is-whole .ensures) ∙ c .before .before .if1 .taken, sym (c .before .all-within .ensures) ∙ c .if2 .taken)
+returns c = rw (
+  sym (c .before .before .before .is-whole .ensures)
+      ∙ c .before .before .if1 .taken,
+  sym (c .before .all-within .ensures) ∙ c .if2 .taken,
+)
 
 returns-2 : tie.Need-returns-2
-returns-2 c = rw (sym (c .before .before .before .is-whole .ensures) ∙ c .before .before .if1 .taken, sym (c .before .all-within .ensures) ∙ c .if2 .left)
+returns-2 c = rw (
+  sym (c .before .before .before .is-whole .ensures)
+      ∙ c .before .before .if1 .taken,
+  sym (c .before .all-within .ensures) ∙ c .if2 .left,
+)
 
 returns-3 : tie.Need-returns-3
 returns-3 c = rw (sym (c .before .is-whole .ensures) ∙ c .if1 .left)

@@ -23,7 +23,8 @@ size-is c = omega (arith, c .put-sentence .ensures .0 .place)
 -- the sentence stands at the front of that room
 front-long : (c : tie.After-put-sentence)
     → length (take (c .put-sentence .result) (c .put-sentence .last .0)) ≡ c .put-sentence .result
-front-long c = length-take-le (c .put-sentence .result) (c .put-sentence .last .0) (wrote-fits (c .put-sentence .ensures .0))
+front-long c = length-take-le (c .put-sentence .result) (c .put-sentence .last .0)
+    (wrote-fits (c .put-sentence .ensures .0))
 
 returns : tie.Need-returns
 returns c = short-first (omega (arith, size-is (c .before), c .if1 .taken)) refl

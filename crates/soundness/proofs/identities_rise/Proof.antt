@@ -20,17 +20,24 @@ returns : tie.Need-returns Inv-loop μ-loop
 returns c =
     let start : tie.Start Inv-loop μ-loop = search in
     let turn : tie.In-loop Inv-loop μ-loop = search in
-    sym (turn .before .loop .inv .1 ∙ rise-more (start .args .ids .now) (turn .before .loop .i) (turn .loop-test .taken) (sym (not-true _ (c .if1 .taken)) ∙ c .before .may-follow .ensures))
+    sym (turn .before .loop .inv .1
+    ∙ rise-more (start .args .ids .now) (turn .before .loop .i) (turn .loop-test .taken)
+    (sym (not-true _ (c .if1 .taken)) ∙ c .before .may-follow .ensures))
 
 loop-again : tie.Need-loop-again Inv-loop μ-loop
 loop-again c =
     let start : tie.Start Inv-loop μ-loop = search in
-    let turn : tie.In-loop Inv-loop μ-loop = search in
-    (omega arith, turn .before .loop .inv .1 ∙ rise-more (start .args .ids .now) (turn .before .loop .i) (turn .loop-test .taken) (sym (not-false _ (c .if1 .left)) ∙ c .before .may-follow .ensures))
+    let turn : tie.In-loop Inv-loop μ-loop = search in (
+      omega arith,
+      turn .before .loop .inv .1
+          ∙ rise-more (start .args .ids .now) (turn .before .loop .i) (turn .loop-test .taken)
+          (sym (not-false _ (c .if1 .left)) ∙ c .before .may-follow .ensures),
+    )
 
 returns-2 : tie.Need-returns-2 Inv-loop μ-loop
 returns-2 c =
-    sym (c .before .loop .inv .1 ∙ rise-end (c .before .before .before .args .ids .now) (c .before .loop .i) (c .loop-test .left))
+    sym (c .before .loop .inv .1
+    ∙ rise-end (c .before .before .before .args .ids .now) (c .before .loop .i) (c .loop-test .left))
 
 pub identities-rise-spec : {M : Type 1} → statement M
 identities-rise-spec =

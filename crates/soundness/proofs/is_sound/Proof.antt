@@ -14,18 +14,27 @@ returns c = simp (failed (c .before .shape-fits .ensures) (c .if1 .taken))
 returns-2 : tie.Need-returns-2
 unfolding sound shaped
 returns-2 c =
-    simp (passed (c .before .before .before .shape-fits .ensures) (c .before .before .if1 .left), failed (c .before .identities-rise .ensures) (c .if2 .taken))
+    simp (
+      passed (c .before .before .before .shape-fits .ensures) (c .before .before .if1 .left),
+      failed (c .before .identities-rise .ensures) (c .if2 .taken),
+    )
 
 rows-sound-requires : tie.Need-rows-sound-requires
 rows-sound-requires c κs =
-    let g = fitting _ _ _ _ _ (passed (c .before .before .before .shape-fits .ensures) (c .before .before .if1 .left)) in
+    let g = fitting _ _ _ _ _
+    (passed (c .before .before .before .shape-fits .ensures) (c .before .before .if1 .left)) in
     (g .groups=, (g .marks=, g .levels=))
 
 returns-3 : tie.Need-returns-3
 unfolding sound shaped
 returns-3 c =
     c .rows-sound .ensures
-    ∙ simp (passed (c .before .before .before .before .shape-fits .ensures) (c .before .before .before .if1 .left), passed (c .before .before .identities-rise .ensures) (c .before .if2 .left))
+    ∙ simp (
+      passed (c .before .before .before .before .shape-fits .ensures)
+          (c .before .before .before .if1 .left),
+      passed (c .before .before .identities-rise .ensures)
+          (c .before .if2 .left),
+    )
 
 pub is-sound-spec : {M : Type 1} → statement M
 is-sound-spec =

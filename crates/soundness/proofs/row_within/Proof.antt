@@ -26,19 +26,24 @@ loop-again c =
     let s = c .before .before .before .loop in
     let z = c .before .before .before .before .args in
     let rest = allWithin (z .top) (drop (s .i + 1) (z .levels .now)) in
-    let read : (t : Bool) → leb (getD (z .levels .now) (s .i) 0) (z .top) ≡ t → allWithin (z .top) (z .levels .now) ≡ (s .within && (t && rest)) =
+    let read : (t : Bool) → leb (getD (z .levels .now) (s .i) 0) (z .top) ≡ t
+    → allWithin (z .top) (z .levels .now) ≡ (s .within && (t && rest)) =
     λ t e. s .inv .1
-    ∙ ap (λ (k : Bool). s .within && k) (within-more (z .top) (z .levels .now) (s .i) (c .before .before .loop-test .taken) e) in (
+    ∙ ap (λ (k : Bool). s .within && k)
+    (within-more (z .top) (z .levels .now) (s .i) (c .before .before .loop-test .taken) e) in (
       omega arith,
       ⊎-elim
-          (λ w. read false (lt-leb _ _ (w .0 .taken)) ∙ flag-falls (s .within) rest ∙ ap (λ (k : Bool). k && rest) (sym (w .1)))
+          (λ w. read false (lt-leb _ _ (w .0 .taken)) ∙ flag-falls (s .within) rest
+          ∙ ap (λ (k : Bool). k && rest) (sym (w .1)))
           (λ w. read true (le-leb _ _ (w .0 .left)) ∙ ap (λ (k : Bool). k && rest) (sym (w .1)))
           (c .if1 .came),
     )
 
 returns : tie.Need-returns Inv-loop μ-loop
 returns c =
-    sym (c .before .loop .inv .1 ∙ rw (within-end (c .before .before .args .top) (c .before .before .args .levels .now) (c .before .loop .i) (c .loop-test .left)) (and-true (c .before .loop .within)))
+    sym (c .before .loop .inv .1
+    ∙ rw (within-end (c .before .before .args .top) (c .before .before .args .levels .now)
+    (c .before .loop .i) (c .loop-test .left)) (and-true (c .before .loop .within)))
 
 pub row-within-spec : {M : Type 1} → statement M
 row-within-spec =

@@ -13,7 +13,9 @@ use Rattle.soundness.proofs.rows_sound.Tie as tie
 
 abbrev Inv-loop : tie.InvT-loop
 Inv-loop ids groups marks levels points i₀ at₀ i at =
-    (i ≤ length ids) × ((at ≡ i * points) × (rowsSound points ids groups marks levels ≡ rowsSound points (drop i ids) (drop i groups) (drop i marks) (drop at levels)))
+    (i ≤ length ids) × ((at ≡ i * points)
+    × (rowsSound points ids groups marks levels ≡ rowsSound points (drop i ids) (drop i groups)
+    (drop i marks) (drop at levels)))
 
 abbrev μ-loop : tie.MeasureT-loop
 μ-loop ids groups marks levels points i₀ at₀ i at = length ids - i
@@ -30,7 +32,8 @@ space : (c : tie.In-loop Inv-loop μ-loop)
     → c .before .loop .at + entry c .args .points ≤ length (entry c .args .levels .now)
 space c =
     let s : tie.Start Inv-loop μ-loop = search in
-    room (s .args .points) (c .before .loop .i) (c .before .loop .at) (length (s .args .ids .now)) (length (s .args .levels .now)) (c .before .loop .inv .1 .0)
+    room (s .args .points) (c .before .loop .i) (c .before .loop .at) (length (s .args .ids .now))
+    (length (s .args .levels .now)) (c .before .loop .inv .1 .0)
     (c .loop-test .taken)
     (s .pre .1 .1)
 
@@ -53,18 +56,21 @@ rest c =
     let head : tie.At-loop Inv-loop μ-loop = search in
     let i = head .loop .i in
     let z = start .args in
-    rowsSound (z .points) (drop (i + 1) (z .ids .now)) (drop (i + 1) (z .groups .now)) (drop (i + 1) (z .marks .now)) (drop (head .loop .at + z .points) (z .levels .now))
+    rowsSound (z .points) (drop (i + 1) (z .ids .now)) (drop (i + 1) (z .groups .now))
+    (drop (i + 1) (z .marks .now)) (drop (head .loop .at + z .points) (z .levels .now))
 
 -- what the rows say from here on, where row i's test gave t
 next : (c : tie.After-row-sound Inv-loop μ-loop) {t : Bool} → c .row-sound .result ≡ t
-    → rowsSound (start c .args .points) (start c .args .ids .now) (start c .args .groups .now) (start c .args .marks .now) (start c .args .levels .now)
+    → rowsSound (start c .args .points) (start c .args .ids .now) (start c .args .groups .now)
+    (start c .args .marks .now) (start c .args .levels .now)
     ≡ (t && rest c)
 next c e =
     let turn : tie.In-loop Inv-loop μ-loop = search in
     let s : tie.At-loop Inv-loop μ-loop = search in
     let z : tie.Start Inv-loop μ-loop = search in
     s .loop .inv .1 .1
-    ∙ rows-more (z .args .points) (z .args .ids .now) (z .args .groups .now) (z .args .marks .now) (z .args .levels .now) (s .loop .i) (s .loop .at)
+    ∙ rows-more (z .args .points) (z .args .ids .now) (z .args .groups .now) (z .args .marks .now)
+    (z .args .levels .now) (s .loop .i) (s .loop .at)
     (turn .loop-test .taken)
     (z .pre .0)
     (z .pre .1 .0)
@@ -76,13 +82,19 @@ returns c = sym (next (c .before) (not-true _ (c .if1 .taken)))
 loop-again : tie.Need-loop-again Inv-loop μ-loop
 loop-again c =
     let start : tie.Start Inv-loop μ-loop = search in
-    let s : tie.At-loop Inv-loop μ-loop = search in
-    (omega arith, (room-next (start .args .points) (s .loop .i) (s .loop .at) (s .loop .inv .1 .0), next (c .before) (not-false _ (c .if1 .left))))
+    let s : tie.At-loop Inv-loop μ-loop = search in (
+      omega arith,
+      (
+        room-next (start .args .points) (s .loop .i) (s .loop .at) (s .loop .inv .1 .0),
+        next (c .before) (not-false _ (c .if1 .left)),
+      ),
+    )
 
 returns-2 : tie.Need-returns-2 Inv-loop μ-loop
 returns-2 c =
     let z : tie.Start Inv-loop μ-loop = search in
-    sym (c .before .loop .inv .1 .1 ∙ rows-end (z .args .points) (z .args .ids .now) _ _ _ (c .before .loop .i) (c .loop-test .left))
+    sym (c .before .loop .inv .1 .1
+    ∙ rows-end (z .args .points) (z .args .ids .now) _ _ _ (c .before .loop .i) (c .loop-test .left))
 
 pub rows-sound-spec : {M : Type 1} → statement M
 rows-sound-spec =

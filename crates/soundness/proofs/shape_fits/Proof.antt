@@ -21,18 +21,36 @@ returns-3 c =
 returns-4 : tie.Need-returns-4
 unfolding shapeFits
 returns-4 c =
-    simp (le-leb _ _ (c .before .before .before .if1 .left), le-leb _ _ (c .before .before .if2 .left), le-leb _ _ (c .before .if3 .left), lt-leb _ _ (c .if4 .taken))
+    simp (
+      le-leb _ _ (c .before .before .before .if1 .left),
+      le-leb _ _ (c .before .before .if2 .left),
+      le-leb _ _ (c .before .if3 .left),
+      lt-leb _ _ (c .if4 .taken),
+    )
 
 returns-5 : tie.Need-returns-5
 unfolding shapeFits
 returns-5 c =
-    simp (le-leb _ _ (c .before .before .before .before .if1 .left), le-leb _ _ (c .before .before .before .if2 .left), le-leb _ _ (c .before .before .if3 .left), le-leb _ _ (c .before .if4 .left), ne-eqb _ _ (c .if5 .taken))
+    simp (
+      le-leb _ _ (c .before .before .before .before .if1 .left),
+      le-leb _ _ (c .before .before .before .if2 .left),
+      le-leb _ _ (c .before .before .if3 .left),
+      le-leb _ _ (c .before .if4 .left),
+      ne-eqb _ _ (c .if5 .taken),
+    )
 
 returns-6 : tie.Need-returns-6
 unfolding shapeFits
 returns-6 c =
     let left3 : tie.Else3 = search in
-    simp (le-leb _ _ (left3 .before .before .if1 .left), le-leb _ _ (left3 .before .if2 .left), le-leb _ _ (left3 .if3 .left), le-leb _ _ (c .before .before .if4 .left), eq-eqb _ _ (c .before .if5 .left), ne-eqb _ _ (c .if6 .taken))
+    simp (
+      le-leb _ _ (left3 .before .before .if1 .left),
+      le-leb _ _ (left3 .before .if2 .left),
+      le-leb _ _ (left3 .if3 .left),
+      le-leb _ _ (c .before .before .if4 .left),
+      eq-eqb _ _ (c .before .if5 .left),
+      ne-eqb _ _ (c .if6 .taken),
+    )
 
 mul-result : tie.Need-mul-result
 mul-result c =
@@ -44,7 +62,14 @@ returns-7 : tie.Need-returns-7
 unfolding shapeFits
 returns-7 c =
     let left3 : tie.Else3 = search in
-    simp (le-leb _ _ (left3 .before .before .if1 .left), le-leb _ _ (left3 .before .if2 .left), le-leb _ _ (left3 .if3 .left), le-leb _ _ (c .before .before .if4 .left), eq-eqb _ _ (c .before .if5 .left), eq-eqb _ _ (c .if6 .left))
+    simp (
+      le-leb _ _ (left3 .before .before .if1 .left),
+      le-leb _ _ (left3 .before .if2 .left),
+      le-leb _ _ (left3 .if3 .left),
+      le-leb _ _ (c .before .before .if4 .left),
+      eq-eqb _ _ (c .before .if5 .left),
+      eq-eqb _ _ (c .if6 .left),
+    )
 
 pub shape-fits-spec : {M : Type 1} → statement M
 shape-fits-spec =

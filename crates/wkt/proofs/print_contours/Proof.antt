@@ -9,7 +9,8 @@ use Rattle.wkt.proofs.print_contours.Statement.{statement}
 use Rattle.wkt.proofs.print_contours.Tie as tie
 
 -- past the test nothing of the network is refused
-right : (c : tie.Then1) → let a = c .before .before .before .before .before .args in contourRefusal (now (a .levels)) (a .frame) (a .v) ≡ 0
+right : (c : tie.Then1) → let a = c .before .before .before .before .before .args in
+    contourRefusal (now (a .levels)) (a .frame) (a .v) ≡ 0
 right c = sym (c .before .contour-refusal .ensures) ∙ c .if1 .taken
 
 print-checked-requires : tie.Need-print-checked-requires

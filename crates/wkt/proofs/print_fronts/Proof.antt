@@ -6,10 +6,12 @@ use Rattle.wkt.proofs.print_fronts.Statement.{statement}
 use Rattle.wkt.proofs.print_fronts.Tie as tie
 
 slice-aggregate-print-listed : tie.Need-slice-aggregate-print-listed
-slice-aggregate-print-listed c = sym (length-take-le _ _ (c .before .before .before .before .before .before .before .pre .0 .0))
+slice-aggregate-print-listed c =
+    sym (length-take-le _ _ (c .before .before .before .before .before .before .before .pre .0 .0))
 
 slice-aggregate-print-listed-2 : tie.Need-slice-aggregate-print-listed-2
-slice-aggregate-print-listed-2 c = sym (length-take-le _ _ (c .before .before .before .before .before .before .before .before .pre .0 .1 .0))
+slice-aggregate-print-listed-2 c =
+    sym (length-take-le _ _ (c .before .before .before .before .before .before .before .before .pre .0 .1 .0))
 
 slice-aggregate-print-listed-3 : tie.Need-slice-aggregate-print-listed-3
 slice-aggregate-print-listed-3 c =

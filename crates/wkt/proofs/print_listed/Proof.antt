@@ -22,7 +22,8 @@ whole s =
 
 -- the text fits where the size found does
 fits : (c : tie.Then1)
-    → let s = c .before .before .before .before .before .before .before .before in length (whole s) ≤ length (now (s .args .text))
+    → let s = c .before .before .before .before .before .before .before .before in
+    length (whole s) ≤ length (now (s .args .text))
 fits c = omega (arith, c .before .text-size .ensures, c .if1 .taken)
 
 print-part-requires : tie.Need-print-part-requires

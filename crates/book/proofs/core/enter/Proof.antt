@@ -17,11 +17,13 @@ start c = search
 
 -- past the test nothing refuses the call
 ok : (c : tie.Else1)
-    → enterRefusal (now (start c .args .ids)) (start c .args .identity) (start c .args .ty) (start c .args .kind) (start c .args .time) (start c .args .mass) ≡ 0
+    → enterRefusal (now (start c .args .ids)) (start c .args .identity) (start c .args .ty) (start c .args .kind)
+    (start c .args .time) (start c .args .mass) ≡ 0
 ok c = sym (c .before .enter-refusal .ensures) ∙ c .if1 .left
 
 facts : (c : tie.Else1)
-    → Entered (now (start c .args .ids)) (start c .args .identity) (start c .args .ty) (start c .args .kind) (start c .args .time) (start c .args .mass)
+    → Entered (now (start c .args .ids)) (start c .args .identity) (start c .args .ty) (start c .args .kind)
+    (start c .args .time) (start c .args .mass)
 facts c = entered _ _ _ _ _ _ (ok c)
 
 place-of-requires : tie.Need-place-of-requires
@@ -37,8 +39,10 @@ standing-rows-requires c κs =
 enter-refusal-requires : tie.Need-enter-refusal-requires
 enter-refusal-requires c κs =
     let start : tie.Start = search in
-    let at-place-of : tie.After-place-of = search in
-    (record { rising= = sound-rises _ _ (start .pre); place = at-place-of .place-of .ensures }, c .before .standing-rows .ensures)
+    let at-place-of : tie.After-place-of = search in (
+      record { rising= = sound-rises _ _ (start .pre); place = at-place-of .place-of .ensures },
+      c .before .standing-rows .ensures,
+    )
 
 returns : tie.Need-returns
 unfolding soundRefusal
@@ -68,7 +72,8 @@ returns-2 c =
     let at-place-of : tie.After-place-of = search in
     let at-group-of : tie.After-group-of = search in
     let at-row-in : tie.After-row-in = search in
-    meets (start .pre) (ok (at-group-of .before)) (at-row-in .row-in .ensures ∙ rw (at-place-of .place-of .ensures, at-group-of .group-of .ensures) refl)
+    meets (start .pre) (ok (at-group-of .before)) (at-row-in .row-in .ensures
+    ∙ rw (at-place-of .place-of .ensures, at-group-of .group-of .ensures) refl)
 
 pub enter-spec : {M : Type 1} → statement M
 enter-spec =

@@ -21,7 +21,8 @@ start c = search
 
 -- past the test nothing refuses the call
 ok : (c : tie.Else1)
-    → supplyRefusal (start c .args .points) (now (start c .args .ids)) (start c .args .identity) (now (start c .args .given)) ≡ 0
+    → supplyRefusal (start c .args .points) (now (start c .args .ids)) (start c .args .identity)
+    (now (start c .args .given)) ≡ 0
 ok c = sym (c .before .supply-refusal .ensures) ∙ c .if1 .left
 
 row : (c : tie.Else1)
@@ -65,7 +66,8 @@ returns-2 c =
     let start : tie.Start = search in
     let left1 : tie.Else1 = search in
     let at-fill-at : tie.After-fill-at = search in
-    meets (start .pre) (ok left1) (rw (at-fill-at .fill-at .ensures, c .before .before .copy-at .ensures, row left1 .index) refl)
+    meets (start .pre) (ok left1)
+    (rw (at-fill-at .fill-at .ensures, c .before .before .copy-at .ensures, row left1 .index) refl)
 
 pub supply-spec : {M : Type 1} → statement M
 supply-spec =

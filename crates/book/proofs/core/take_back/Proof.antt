@@ -39,8 +39,10 @@ place-of-requires c κs = sound-rises _ _ (c .before .before .before .before .pr
 
 take-back-refusal-requires : tie.Need-take-back-refusal-requires
 take-back-refusal-requires c κs =
-    let start : tie.Start = search in
-    (record { rising= = sound-rises _ _ (start .pre); place = c .before .place-of .ensures }, sound-fits _ _ (start .pre) .marks=)
+    let start : tie.Start = search in (
+      record { rising= = sound-rises _ _ (start .pre); place = c .before .place-of .ensures },
+      sound-fits _ _ (start .pre) .marks=,
+    )
 
 returns : tie.Need-returns
 unfolding soundRefusal
@@ -67,7 +69,8 @@ returns-2 c =
     let start : tie.Start = search in
     let left1 : tie.Else1 = search in
     let at-fill-at : tie.After-fill-at = search in
-    meets (start .pre) (ok left1) (rw (at-fill-at .fill-at .ensures, c .before .before .fill-at2 .ensures, row left1 .index) refl)
+    meets (start .pre) (ok left1)
+    (rw (at-fill-at .fill-at .ensures, c .before .before .fill-at2 .ensures, row left1 .index) refl)
 
 pub take-back-spec : {M : Type 1} → statement M
 take-back-spec =

@@ -23,13 +23,25 @@ mul-goes-before c = let g = c .before .before .before .good in omega arith
 
 loop-again : tie.Need-loop-again Inv-loop μ-loop
 loop-again c =
-    let start : tie.Start Inv-loop μ-loop = search in
-    (omega arith, (place-before (start .args .x) (start .args .ids .now) _ (omega arith) (sym (c .before .goes-before .ensures) ∙ c .if1 .taken), omega arith))
+    let start : tie.Start Inv-loop μ-loop = search in (
+      omega arith,
+      (
+        place-before (start .args .x) (start .args .ids .now) _ (omega arith)
+            (sym (c .before .goes-before .ensures) ∙ c .if1 .taken),
+        omega arith,
+      ),
+    )
 
 loop-again-2 : tie.Need-loop-again-2 Inv-loop μ-loop
 loop-again-2 c =
-    let start : tie.Start Inv-loop μ-loop = search in
-    (omega (arith, place-after (start .args .x) (start .args .ids .now) _ (start .pre) (omega arith) (sym (c .before .goes-before .ensures) ∙ c .if1 .left)), omega arith)
+    let start : tie.Start Inv-loop μ-loop = search in (
+      omega (
+        arith,
+        place-after (start .args .x) (start .args .ids .now) _ (start .pre) (omega arith)
+            (sym (c .before .goes-before .ensures) ∙ c .if1 .left),
+      ),
+      omega arith,
+    )
 
 returns : tie.Need-returns Inv-loop μ-loop
 returns c = omega arith

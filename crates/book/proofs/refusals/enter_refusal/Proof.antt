@@ -13,16 +13,19 @@ use Rattle.book.proofs.refusals.enter_refusal.Tie as tie
 
 -- past the first test rules 1 and 2 refuse nothing
 allowed : (c : tie.Else1)
-    → movementRefusal (c .before .before .before .args .ty) (c .before .before .before .args .kind) (c .before .before .before .args .time) (c .before .before .before .args .mass) ≡ 0
+    → movementRefusal (c .before .before .before .args .ty) (c .before .before .before .args .kind)
+    (c .before .before .before .args .time) (c .before .before .before .args .mass) ≡ 0
 allowed c = sym (c .before .movement-refusal .ensures) ∙ c .if1 .left
 
 returns : tie.Need-returns
 returns c =
-    let said = c .before .movement-refusal .ensures in said ∙ enter-refused _ _ _ _ _ _ (λ e. c .if1 .taken (said ∙ e))
+    let said = c .before .movement-refusal .ensures in
+    said ∙ enter-refused _ _ _ _ _ _ (λ e. c .if1 .taken (said ∙ e))
 
 returns-2 : tie.Need-returns-2
 returns-2 c =
-    sym (enter-allowed _ _ _ _ _ _ (allowed (c .before .before)) ∙ simp (failed (c .before .identity-fits .ensures) (c .if2 .taken)))
+    sym (enter-allowed _ _ _ _ _ _ (allowed (c .before .before))
+    ∙ simp (failed (c .before .identity-fits .ensures) (c .if2 .taken)))
 
 stands-at-requires : tie.Need-stands-at-requires
 stands-at-requires c κs =
@@ -31,7 +34,11 @@ stands-at-requires c κs =
 
 returns-3 : tie.Need-returns-3
 returns-3 c =
-    sym (enter-allowed _ _ _ _ _ _ (allowed (c .before .before .before .before)) ∙ simp (passed (c .before .before .before .identity-fits .ensures) (c .before .before .if2 .left), sym (c .before .stands-at .ensures) ∙ c .if3 .taken))
+    sym (enter-allowed _ _ _ _ _ _ (allowed (c .before .before .before .before))
+    ∙ simp (
+      passed (c .before .before .before .identity-fits .ensures) (c .before .before .if2 .left),
+      sym (c .before .stands-at .ensures) ∙ c .if3 .taken,
+    ))
 
 returns-4 : tie.Need-returns-4
 unfolding stands
@@ -39,7 +46,13 @@ returns-4 c =
     let start : tie.Start = search in
     let left2 : tie.Else2 = search in
     let rows = start .pre .1 in
-    sym (enter-allowed _ _ _ _ _ _ (allowed (left2 .before .before)) ∙ simp (passed (left2 .before .identity-fits .ensures) (left2 .if2 .left), sym (c .before .before .stands-at .ensures) ∙ c .before .if3 .left, ← rows, lt-ltb _ _ (c .if4 .taken)))
+    sym (enter-allowed _ _ _ _ _ _ (allowed (left2 .before .before))
+    ∙ simp (
+      passed (left2 .before .identity-fits .ensures) (left2 .if2 .left),
+      sym (c .before .before .stands-at .ensures) ∙ c .before .if3 .left,
+      ← rows,
+      lt-ltb _ _ (c .if4 .taken),
+    ))
 
 returns-5 : tie.Need-returns-5
 unfolding stands
@@ -47,7 +60,13 @@ returns-5 c =
     let start : tie.Start = search in
     let left2 : tie.Else2 = search in
     let rows = start .pre .1 in
-    sym (enter-allowed _ _ _ _ _ _ (allowed (left2 .before .before)) ∙ simp (passed (left2 .before .identity-fits .ensures) (left2 .if2 .left), sym (c .before .before .stands-at .ensures) ∙ c .before .if3 .left, ← rows, le-ltb _ _ (c .if4 .left)))
+    sym (enter-allowed _ _ _ _ _ _ (allowed (left2 .before .before))
+    ∙ simp (
+      passed (left2 .before .identity-fits .ensures) (left2 .if2 .left),
+      sym (c .before .before .stands-at .ensures) ∙ c .before .if3 .left,
+      ← rows,
+      le-ltb _ _ (c .if4 .left),
+    ))
 
 pub enter-refusal-spec : {M : Type 1} → statement M
 enter-refusal-spec =

@@ -13,7 +13,10 @@ returns c = simp (failed (c .before .identity-fits .ensures) (c .if1 .taken))
 returns-2 : tie.Need-returns-2
 unfolding supplyRefusal
 returns-2 c =
-    simp (passed (c .before .before .before .identity-fits .ensures) (c .before .before .if1 .left), failed (c .before .levels-fit .ensures) (c .if2 .taken))
+    simp (
+      passed (c .before .before .before .identity-fits .ensures) (c .before .before .if1 .left),
+      failed (c .before .levels-fit .ensures) (c .if2 .taken),
+    )
 
 stands-at-requires : tie.Need-stands-at-requires
 stands-at-requires c κs =
@@ -25,13 +28,21 @@ returns-3 : tie.Need-returns-3
 unfolding supplyRefusal
 returns-3 c =
     let at-levels-fit : tie.After-levels-fit = search in
-    simp (passed (at-levels-fit .before .before .identity-fits .ensures) (at-levels-fit .before .if1 .left), passed (at-levels-fit .levels-fit .ensures) (c .before .before .if2 .left), failed (c .before .stands-at .ensures) (c .if3 .taken))
+    simp (
+      passed (at-levels-fit .before .before .identity-fits .ensures) (at-levels-fit .before .if1 .left),
+      passed (at-levels-fit .levels-fit .ensures) (c .before .before .if2 .left),
+      failed (c .before .stands-at .ensures) (c .if3 .taken),
+    )
 
 returns-4 : tie.Need-returns-4
 unfolding supplyRefusal
 returns-4 c =
     let at-levels-fit : tie.After-levels-fit = search in
-    simp (passed (at-levels-fit .before .before .identity-fits .ensures) (at-levels-fit .before .if1 .left), passed (at-levels-fit .levels-fit .ensures) (c .before .before .if2 .left), passed (c .before .stands-at .ensures) (c .if3 .left))
+    simp (
+      passed (at-levels-fit .before .before .identity-fits .ensures) (at-levels-fit .before .if1 .left),
+      passed (at-levels-fit .levels-fit .ensures) (c .before .before .if2 .left),
+      passed (c .before .stands-at .ensures) (c .if3 .left),
+    )
 
 pub supply-refusal-spec : {M : Type 1} → statement M
 supply-refusal-spec =

@@ -14,15 +14,18 @@ use Rattle.book.proofs.refusals.take_back_refusal.Statement.{statement}
 use Rattle.book.proofs.refusals.take_back_refusal.Tie as tie
 
 ok : (c : tie.Else1)
-    → withdrawRefusal (c .before .before .before .before .args .ids .now) (c .before .before .before .before .args .identity) ≡ 0
+    → withdrawRefusal (c .before .before .before .before .args .ids .now)
+    (c .before .before .before .before .args .identity) ≡ 0
 ok c = sym (c .before .withdraw-refusal .ensures) ∙ c .if1 .left
 
 -- the row is that of the identity
 same : (c : tie.Else1)
-    → indexOf (c .before .before .before .before .args .identity) (c .before .before .before .before .args .ids .now) ≡ c .before .before .before .before .args .at
+    → indexOf (c .before .before .before .before .args .identity)
+    (c .before .before .before .before .args .ids .now) ≡ c .before .before .before .before .args .at
 same c =
     let w = withdrawn _ _ (ok c) in
-    place-index _ _ (identity-in _ (w .identity=) .0) (c .before .before .before .before .pre .0 .rising=) (stands-index _ _ (w .stands=))
+    place-index _ _ (identity-in _ (w .identity=) .0) (c .before .before .before .before .pre .0 .rising=)
+    (stands-index _ _ (w .stands=))
     ∙ sym (c .before .before .before .before .pre .0 .place)
 
 row : (c : tie.Else1)
@@ -31,7 +34,8 @@ row c = omega (arith, same c, stands-index _ _ (withdrawn _ _ (ok c) .stands=))
 
 returns : tie.Need-returns
 returns c =
-    let said = c .before .withdraw-refusal .ensures in said ∙ take-back-refused _ _ _ (λ e. c .if1 .taken (said ∙ e))
+    let said = c .before .withdraw-refusal .ensures in
+    said ∙ take-back-refused _ _ _ (λ e. c .if1 .taken (said ∙ e))
 
 mul-if2 : tie.Need-mul-if2
 mul-if2 c = let r = row c in let g = c .before .before .before .before .good in omega arith
@@ -41,11 +45,13 @@ shared-slice-read-if2 c = omega (arith, row (c .before))
 
 returns-2 : tie.Need-returns-2
 returns-2 c =
-    sym (take-back-mark _ _ _ (ok (c .before .before)) ∙ rw (same (c .before .before), ne-eqb _ _ (c .if2 .taken)) refl)
+    sym (take-back-mark _ _ _ (ok (c .before .before))
+    ∙ rw (same (c .before .before), ne-eqb _ _ (c .if2 .taken)) refl)
 
 returns-3 : tie.Need-returns-3
 returns-3 c =
-    sym (take-back-mark _ _ _ (ok (c .before .before)) ∙ rw (same (c .before .before), eq-eqb _ _ (c .if2 .left)) refl)
+    sym (take-back-mark _ _ _ (ok (c .before .before))
+    ∙ rw (same (c .before .before), eq-eqb _ _ (c .if2 .left)) refl)
 
 pub take-back-refusal-spec : {M : Type 1} → statement M
 take-back-refusal-spec =

@@ -17,12 +17,18 @@ stands-at-requires c κs =
 returns-2 : tie.Need-returns-2
 unfolding withdrawRefusal
 returns-2 c =
-    simp (passed (c .before .before .before .identity-fits .ensures) (c .before .before .if1 .left), failed (c .before .stands-at .ensures) (c .if2 .taken))
+    simp (
+      passed (c .before .before .before .identity-fits .ensures) (c .before .before .if1 .left),
+      failed (c .before .stands-at .ensures) (c .if2 .taken),
+    )
 
 returns-3 : tie.Need-returns-3
 unfolding withdrawRefusal
 returns-3 c =
-    simp (passed (c .before .before .before .identity-fits .ensures) (c .before .before .if1 .left), passed (c .before .stands-at .ensures) (c .if2 .left))
+    simp (
+      passed (c .before .before .before .identity-fits .ensures) (c .before .before .if1 .left),
+      passed (c .before .stands-at .ensures) (c .if2 .left),
+    )
 
 pub withdraw-refusal-spec : {M : Type 1} → statement M
 withdraw-refusal-spec =

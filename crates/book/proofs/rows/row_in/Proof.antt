@@ -9,7 +9,8 @@ use Rattle.book.proofs.rows.row_in.Statement.{statement}
 use Rattle.book.proofs.rows.row_in.Tie as tie
 
 room : (s : tie.Start)
-    → RoomIn (s .args .points) (bookNow (s .args .ids) (s .args .groups) (s .args .marks) (s .args .levels)) (s .args .at) (s .args .rows)
+    → RoomIn (s .args .points) (bookNow (s .args .ids) (s .args .groups) (s .args .marks) (s .args .levels))
+    (s .args .at) (s .args .rows)
 room s = room-in _ _ _ _ (s .pre .0) (s .pre .1)
 
 open-at-requires : tie.Need-open-at-requires
@@ -48,7 +49,12 @@ returns c =
     let at-open-at : tie.After-open-at = search in
     let at-open-at2 : tie.After-open-at2 = search in
     let at-open-at3 : tie.After-open-at3 = search in
-    rw (at-open-at .open-at .ensures, at-open-at2 .open-at2 .ensures, at-open-at3 .open-at3 .ensures, c .before .before .open-at4 .ensures) refl
+    rw (
+      at-open-at .open-at .ensures,
+      at-open-at2 .open-at2 .ensures,
+      at-open-at3 .open-at3 .ensures,
+      c .before .before .open-at4 .ensures,
+    ) refl
 
 pub row-in-spec : {M : Type 1} → statement M
 row-in-spec =

@@ -9,7 +9,8 @@ use Rattle.book.proofs.rows.row_out.Statement.{statement}
 use Rattle.book.proofs.rows.row_out.Tie as tie
 
 room : (s : tie.Start)
-    → RoomOut (s .args .points) (bookNow (s .args .ids) (s .args .groups) (s .args .marks) (s .args .levels)) (s .args .at) (s .args .rows)
+    → RoomOut (s .args .points) (bookNow (s .args .ids) (s .args .groups) (s .args .marks) (s .args .levels))
+    (s .args .at) (s .args .rows)
 room s = room-out _ _ _ _ (s .pre .0) (s .pre .1)
 
 close-at-requires : tie.Need-close-at-requires
@@ -48,7 +49,12 @@ returns c =
     let at-close-at : tie.After-close-at = search in
     let at-close-at2 : tie.After-close-at2 = search in
     let at-close-at3 : tie.After-close-at3 = search in
-    rw (at-close-at .close-at .ensures, at-close-at2 .close-at2 .ensures, at-close-at3 .close-at3 .ensures, c .before .before .close-at4 .ensures) refl
+    rw (
+      at-close-at .close-at .ensures,
+      at-close-at2 .close-at2 .ensures,
+      at-close-at3 .close-at3 .ensures,
+      c .before .before .close-at4 .ensures,
+    ) refl
 
 pub row-out-spec : {M : Type 1} → statement M
 row-out-spec =

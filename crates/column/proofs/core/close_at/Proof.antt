@@ -7,7 +7,8 @@ use Rattle.column.proofs.core.close_at.Tie as tie
 returns : tie.Need-returns
 returns c =
     let s : tie.Start = search in
-    closed-tail (s .args .at) (s .args .count) (s .args .w) (s .args .column .now) (s .pre) (c .before .before .close-tail .ensures)
+    closed-tail (s .args .at) (s .args .count) (s .args .w) (s .args .column .now) (s .pre)
+    (c .before .before .close-tail .ensures)
 
 pub close-at-spec : {M : Type 1} → statement M
 close-at-spec =

@@ -8,7 +8,8 @@ returns : tie.Need-returns
 returns c =
     let at-shift-down : tie.After-shift-down = search in
     let s : tie.Start = search in
-    filled-end (s .args .count) (s .args .w) 0 (s .args .tail .now) (s .pre) (at-shift-down .shift-down .ensures) (c .before .before .fill .ensures)
+    filled-end (s .args .count) (s .args .w) 0 (s .args .tail .now) (s .pre) (at-shift-down .shift-down .ensures)
+    (c .before .before .fill .ensures)
 
 pub close-tail-spec : {M : Type 1} → statement M
 close-tail-spec =

@@ -9,7 +9,8 @@ use Rattle.column.proofs.core.copy_at.Tie as tie
 returns : tie.Need-returns
 returns c =
     let s : tie.Start = search in
-    put-part (s .args .at) (length (s .args .from .now)) (s .args .column .now) (c .before .before .copy-over .ensures) refl
+    put-part (s .args .at) (length (s .args .from .now)) (s .args .column .now)
+    (c .before .before .copy-over .ensures) refl
 
 pub copy-at-spec : {M : Type 1} → statement M
 copy-at-spec =

@@ -10,7 +10,8 @@ use Rattle.column.proofs.core.fill.Tie as tie
 
 abbrev Inv-loop : tie.InvT-loop
 Inv-loop part₀ v i₀ part i =
-    (i ≤ length part₀) × ((part ≡ frontTo (replicate (length part₀) v) part₀ i) × (length part ≡ length part₀))
+    (i ≤ length part₀) × ((part ≡ frontTo (replicate (length part₀) v) part₀ i)
+    × (length part ≡ length part₀))
 
 abbrev μ-loop : tie.MeasureT-loop
 μ-loop part₀ v i₀ part i = length part₀ - i
@@ -20,8 +21,14 @@ loop-again c =
     let d = c .before .before .args .part .now in
     let v = c .before .before .args .v in
     let l = length-replicate (length d) v in
-    let i = c .before .loop .i in
-    (omega arith, (front-to-more (replicate (length d) v) d (c .before .loop .inv .1 .0) (getD-replicate (length d) i v 0 (omega arith)) (omega arith) (omega arith), simp length-set (omega arith)))
+    let i = c .before .loop .i in (
+      omega arith,
+      (
+        front-to-more (replicate (length d) v) d (c .before .loop .inv .1 .0)
+            (getD-replicate (length d) i v 0 (omega arith)) (omega arith) (omega arith),
+        simp length-set (omega arith),
+      ),
+    )
 
 returns : tie.Need-returns Inv-loop μ-loop
 returns c =

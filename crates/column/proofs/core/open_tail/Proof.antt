@@ -9,7 +9,8 @@ returns : tie.Need-returns
 returns c =
     let at-shift-up : tie.After-shift-up = search in
     let s : tie.Start = search in
-    filled-front (s .args .w) (s .args .v) (s .args .tail .now) _ (omega arith) (at-shift-up .shift-up .ensures) (c .before .before .fill .ensures)
+    filled-front (s .args .w) (s .args .v) (s .args .tail .now) _ (omega arith) (at-shift-up .shift-up .ensures)
+    (c .before .before .fill .ensures)
 
 pub open-tail-spec : {M : Type 1} → statement M
 open-tail-spec =

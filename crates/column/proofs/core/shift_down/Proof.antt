@@ -21,8 +21,14 @@ loop-again c =
     let d = c .before .before .before .args .tail .now in
     let w = c .before .before .before .args .w in
     let i = c .before .before .loop .i in
-    let l = length-drop w d in
-    (omega arith, (front-to-more (drop w d) d (c .before .before .loop .inv .1 .0) (down-read d w i (c .before .before .loop .inv .1 .0) (omega arith)) (omega arith) (omega arith), simp length-set (omega arith)))
+    let l = length-drop w d in (
+      omega arith,
+      (
+        front-to-more (drop w d) d (c .before .before .loop .inv .1 .0)
+            (down-read d w i (c .before .before .loop .inv .1 .0) (omega arith)) (omega arith) (omega arith),
+        simp length-set (omega arith),
+      ),
+    )
 
 returns : tie.Need-returns Inv-loop μ-loop
 returns c =

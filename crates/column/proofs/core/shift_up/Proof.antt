@@ -23,8 +23,14 @@ loop-holds c =
 
 loop-again : tie.Need-loop-again Inv-loop μ-loop
 loop-again c =
-    let s = c .before .before .before in
-    (omega arith, (back-more (s .args .tail .now) (s .args .count) (s .args .w) (c .before .before .loop .left) (c .before .before .loop .inv .1 .0) (omega arith) (omega arith) (s .pre), simp length-set (omega arith)))
+    let s = c .before .before .before in (
+      omega arith,
+      (
+        back-more (s .args .tail .now) (s .args .count) (s .args .w) (c .before .before .loop .left)
+            (c .before .before .loop .inv .1 .0) (omega arith) (omega arith) (s .pre),
+        simp length-set (omega arith),
+      ),
+    )
 
 returns : tie.Need-returns Inv-loop μ-loop
 returns c =

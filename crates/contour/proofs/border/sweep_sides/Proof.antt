@@ -20,7 +20,8 @@ Inv-loop levels nx ny v list₀ edges₀ counts₀ closed₀ so-far₀ row₀ li
     (desk list edges counts closed (so-far .edges) (so-far .contours)) × (row < ny))
 
 abbrev μ-loop : tie.MeasureT-loop
-μ-loop levels nx ny v list₀ edges₀ counts₀ closed₀ so-far₀ row₀ list edges counts closed so-far row = ny - row
+μ-loop levels nx ny v list₀ edges₀ counts₀ closed₀ so-far₀ row₀ list edges counts closed so-far row =
+    ny - row
 
 loop-holds : tie.Need-loop-holds Inv-loop μ-loop
 loop-holds c = (

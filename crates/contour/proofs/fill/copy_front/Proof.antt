@@ -19,8 +19,15 @@ loop-again : tie.Need-loop-again Inv-loop μ-loop
 loop-again c =
     let l = c .before .before .loop in
     let s = c .before .before .before in
-    let t = c .before .loop-test .taken in
-    (omega arith, (length-set (l .to) (l .i) _ ∙ l .inv .1 .0, rw (l .inv .1 .1) (copy-more (s .args .from .now) (s .args .to .now) (l .i) (omega arith) (omega arith))))
+    let t = c .before .loop-test .taken in (
+      omega arith,
+      (
+        length-set (l .to) (l .i) _
+            ∙ l .inv .1 .0,
+        rw (l .inv .1 .1)
+            (copy-more (s .args .from .now) (s .args .to .now) (l .i) (omega arith) (omega arith)),
+      ),
+    )
 
 returns : tie.Need-returns Inv-loop μ-loop
 returns c =

@@ -16,7 +16,9 @@ use Rattle.contour.proofs.fill.fill_row.Statement.{statement}
 use Rattle.contour.proofs.fill.fill_row.Tie as tie
 
 abbrev Inv-loop : tie.InvT-loop
-Inv-loop levels nx ny v up row first list₀ width col₀ list col = (col ≤ width) × ((length list ≡ length list₀) × Fills (picture levels nx ny v) first (first + col) list₀ list)
+Inv-loop levels nx ny v up row first list₀ width col₀ list col =
+    (col ≤ width) × ((length list ≡ length list₀) × Fills (picture levels nx ny v) first
+    (first + col) list₀ list)
 
 abbrev μ-loop : tie.MeasureT-loop
 μ-loop levels nx ny v up row first list₀ width col₀ list col = width - col
@@ -25,11 +27,15 @@ abbrev pictured : tie.Start Inv-loop μ-loop → Picture
 pictured s = picture (now (s .args .levels)) (s .args .nx) (s .args .ny) (s .args .v)
 
 -- the edge at hand is in the network, and its number is that of the row's first edge and its column
-found : (c : tie.In-loop Inv-loop μ-loop) → let s = c .before .before .before .before .before in let n = s .args .first + c .before .loop .col in
-    (crossedAt (pictured s) n ≡ crossed (pictured s) (edgeIn (s .args .up) (s .args .row) (c .before .loop .col))) × (n < edges (s .args .nx) (s .args .ny))
+found : (c : tie.In-loop Inv-loop μ-loop) → let s = c .before .before .before .before .before in
+    let n = s .args .first + c .before .loop .col in
+    (crossedAt (pictured s) n ≡ crossed (pictured s) (edgeIn (s .args .up) (s .args .row) (c .before .loop .col)))
+    × (n < edges (s .args .nx) (s .args .ny))
 found c =
     let s = c .before .before .before .before .before in
-    row-crossed (pictured s) (s .pre .0 .sides .wide) (s .args .up) (s .args .row) (c .before .loop .col) _ (s .pre .1 .0) (omega (arith, c .loop-test .taken, c .before .before .row-width .ensures)) (ap (λ n. n + c .before .loop .col) (s .pre .1 .1 .0))
+    row-crossed (pictured s) (s .pre .0 .sides .wide) (s .args .up) (s .args .row) (c .before .loop .col) _
+    (s .pre .1 .0) (omega (arith, c .loop-test .taken, c .before .before .row-width .ensures))
+    (ap (λ n. n + c .before .loop .col) (s .pre .1 .1 .0))
 
 row-width-requires : tie.Need-row-width-requires Inv-loop μ-loop
 row-width-requires c κs = c .before .before .pre .0 .sides .wide
@@ -39,21 +45,39 @@ loop-holds c = (omega arith, (refl, fills-none _ _ _))
 
 crossed-edge-requires : tie.Need-crossed-edge-requires Inv-loop μ-loop
 crossed-edge-requires c κs =
-    let s = c .before .before .before .before .before .before in
-    (s .pre .0, subst (WithinEdge (s .args .nx) (s .args .ny)) (sym (c .edge-in .ensures)) (row-within (s .args .up) (s .args .nx) (s .args .ny) (s .args .row) (c .before .before .loop .col) (s .pre .1 .0) (omega (arith, c .before .loop-test .taken, c .before .before .before .row-width .ensures))))
+    let s = c .before .before .before .before .before .before in (
+      s .pre .0,
+      subst (WithinEdge (s .args .nx) (s .args .ny)) (sym (c .edge-in .ensures))
+          (row-within (s .args .up) (s .args .nx) (s .args .ny) (s .args .row) (c .before .before .loop .col)
+          (s .pre .1 .0) (omega (arith, c .before .loop-test .taken, c .before .before .before .row-width .ensures))),
+    )
 
 add-list : tie.Need-add-list Inv-loop μ-loop
 add-list c =
     let s = c .before .before .before .before .before .before .before .before in
-    omega (arith, found (c .before .before .before) .1, edges-le (s .args .nx) (s .args .ny) (s .pre .0 .sides .narrow) (s .pre .0 .sides .low))
+    omega (
+      arith,
+      found (c .before .before .before) .1,
+      edges-le (s .args .nx) (s .args .ny)
+          (s .pre .0 .sides .narrow) (s .pre .0 .sides .low),
+    )
 
 slice-write-list : tie.Need-slice-write-list Inv-loop μ-loop
 slice-write-list c =
     let s = c .before .before .before .before .before .before .before .before in
-    omega (arith, found (c .before .before .before) .1, c .before .before .before .before .loop .inv .1 .0, s .pre .1 .1 .1)
+    omega (
+      arith,
+      found (c .before .before .before) .1,
+      c .before .before .before .before .loop .inv .1 .0,
+      s .pre .1 .1 .1,
+    )
 
 add-col : tie.Need-add-col Inv-loop μ-loop
-add-col c = omega (arith, c .before .before .before .loop-test .taken, c .before .before .before .before .before .row-width .ok)
+add-col c = omega (
+  arith,
+  c .before .before .before .loop-test .taken,
+  c .before .before .before .before .before .row-width .ok,
+)
 
 loop-less : tie.Need-loop-less Inv-loop μ-loop
 loop-less c = omega (arith, c .before .before .before .loop-test .taken)
@@ -63,8 +87,17 @@ loop-again c =
     let s = c .before .before .before .before .before .before .before .before in
     let l = c .before .before .before .before .loop in
     let f = found (c .before .before .before) in
-    let x = c .crossed-mark .ensures ∙ ap bit (c .before .crossed-edge .ensures ∙ ap (crossed (pictured s)) (c .before .before .edge-in .ensures) ∙ sym (f .0)) in
-    (omega (arith, c .before .before .before .loop-test .taken), (length-set (l .list) _ _ ∙ l .inv .1 .0, fills-more (pictured s) (s .args .first) (l .col) (now (s .args .list)) (l .list) _ (l .inv .1 .1) (omega (arith, f .1, l .inv .1 .0, s .pre .1 .1 .1)) x))
+    let x = c .crossed-mark .ensures
+    ∙ ap bit (c .before .crossed-edge .ensures
+    ∙ ap (crossed (pictured s)) (c .before .before .edge-in .ensures) ∙ sym (f .0)) in (
+      omega (arith, c .before .before .before .loop-test .taken),
+      (
+        length-set (l .list) _ _
+            ∙ l .inv .1 .0,
+        fills-more (pictured s) (s .args .first) (l .col) (now (s .args .list)) (l .list) _
+            (l .inv .1 .1) (omega (arith, f .1, l .inv .1 .0, s .pre .1 .1 .1)) x,
+      ),
+    )
 
 same-length : tie.Need-same-length Inv-loop μ-loop
 same-length c = c .before .loop .inv .1 .0

@@ -54,7 +54,11 @@ add-n c =
     omega (arith, w .1, at-row-width .row-width .ensures, l .inv .1 .0, k, s .pre .0 .sides .narrow)
 
 add-row : tie.Need-add-row Inv-loop μ-loop
-add-row c = omega (arith, c .before .before .before .before .loop-test .taken, c .before .before .before .before .before .before .row-count .ok)
+add-row c = omega (
+  arith,
+  c .before .before .before .before .loop-test .taken,
+  c .before .before .before .before .before .before .row-count .ok,
+)
 
 loop-less : tie.Need-loop-less Inv-loop μ-loop
 loop-less c = omega (arith, c .before .before .before .before .loop-test .taken)
@@ -69,7 +73,8 @@ loop-again c =
     let t = c .before .before .fill-row in
     let e : l .n + at-row-width .row-width .result ≡ l .n + rowWidth (s .args .up) (s .args .nx) = ap (λ k. l .n + k)
     (at-row-width .row-width .ensures) in
-    let m = e ∙ ap (λ k. k + rowWidth (s .args .up) (s .args .nx)) (l .inv .1 .0) ∙ next-row (s .args .up) (s .args .nx)
+    let m = e ∙ ap (λ k. k + rowWidth (s .args .up) (s .args .nx)) (l .inv .1 .0)
+    ∙ next-row (s .args .up) (s .args .nx)
     (s .args .ny) (l .row) in (
       omega (arith, at-loop-test .loop-test .taken),
       (

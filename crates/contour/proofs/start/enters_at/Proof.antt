@@ -10,12 +10,15 @@ use Rattle.contour.proofs.start.enters_at.Statement.{statement}
 use Rattle.contour.proofs.start.enters_at.Tie as tie
 
 -- the edge of the number is in the network
-within : (c : tie.After-edge-at) → WithinEdge (c .before .before .args .nx) (c .before .before .args .ny) (c .edge-at .result)
+within : (c : tie.After-edge-at)
+    → WithinEdge (c .before .before .args .nx) (c .before .before .args .ny) (c .edge-at .result)
 within c =
     let s = c .before .before in
-    subst (WithinEdge (s .args .nx) (s .args .ny)) (sym (c .edge-at .ensures)) (edge-within (s .args .nx) (s .args .ny) (s .pre .0 .sides .wide) (s .args .n) (s .pre .1))
+    subst (WithinEdge (s .args .nx) (s .args .ny)) (sym (c .edge-at .ensures))
+    (edge-within (s .args .nx) (s .args .ny) (s .pre .0 .sides .wide) (s .args .n) (s .pre .1))
 
-is-crossed : (c : tie.After-crossed-edge) → let a = c .before .before .before .args in c .crossed-edge .result ≡ crossedAt (picture (now (a .levels)) (a .nx) (a .ny) (a .v)) (a .n)
+is-crossed : (c : tie.After-crossed-edge) → let a = c .before .before .before .args in
+    c .crossed-edge .result ≡ crossedAt (picture (now (a .levels)) (a .nx) (a .ny) (a .v)) (a .n)
 is-crossed c = c .crossed-edge .ensures ∙ rw (c .before .edge-at .ensures)
 
 crossed-edge-requires : tie.Need-crossed-edge-requires
@@ -30,7 +33,13 @@ across-requires c κs = (c .before .before .before .before .before .pre .0 .side
 returns : tie.Need-returns
 returns c =
     let k = c .before .before .before in
-    simp (c .outside .ensures, c .before .across .ensures, c .before .before .first-in .ensures, sym (is-crossed (k .before)) ∙ k .if1 .taken, k .before .before .edge-at .ensures)
+    simp (
+      c .outside .ensures,
+      c .before .across .ensures,
+      c .before .before .first-in .ensures,
+      sym (is-crossed (k .before)) ∙ k .if1 .taken,
+      k .before .before .edge-at .ensures,
+    )
 
 returns-2 : tie.Need-returns-2
 returns-2 c = rw (sym (is-crossed (c .before)) ∙ c .if1 .left)

@@ -7,10 +7,12 @@ use Rattle.contour.proofs.start.stand_at.Statement.{statement}
 use Rattle.contour.proofs.start.stand_at.Tie as tie
 
 -- the edge of the number is in the network
-within : (c : tie.After-edge-at) → WithinEdge (c .before .before .args .nx) (c .before .before .args .ny) (c .edge-at .result)
+within : (c : tie.After-edge-at)
+    → WithinEdge (c .before .before .args .nx) (c .before .before .args .ny) (c .edge-at .result)
 within c =
     let s = c .before .before in
-    subst (WithinEdge (s .args .nx) (s .args .ny)) (sym (c .edge-at .ensures)) (edge-within (s .args .nx) (s .args .ny) (s .pre .0 .sides .wide) (s .args .n) (s .pre .1))
+    subst (WithinEdge (s .args .nx) (s .args .ny)) (sym (c .edge-at .ensures))
+    (edge-within (s .args .nx) (s .args .ny) (s .pre .0 .sides .wide) (s .args .n) (s .pre .1))
 
 first-in-requires : tie.Need-first-in-requires
 first-in-requires c κs = (c .before .before .pre .0, within c)

@@ -9,7 +9,8 @@ use Rattle.contour.proofs.start.starts_here.Statement.{statement}
 use Rattle.contour.proofs.start.starts_here.Tie as tie
 
 abbrev starts : tie.Start → Bool
-starts s = s .args .closes || entersAt (picture (now (s .args .levels)) (s .args .nx) (s .args .ny) (s .args .v)) (s .args .n)
+starts s = s .args .closes || entersAt (picture (now (s .args .levels)) (s .args .nx) (s .args .ny) (s .args .v))
+    (s .args .n)
 
 and-true : (a : Bool) → (a && true) ≡ a
 and-true true = refl
@@ -20,10 +21,12 @@ and-false true = refl
 and-false false = refl
 
 returns : tie.Need-returns
-returns c = rw (sym (c .before .before .still-waits .ensures) ∙ c .before .if1 .taken) (c .may-start .ensures ∙ sym (and-true (starts (c .before .before .before .before .before))))
+returns c = rw (sym (c .before .before .still-waits .ensures) ∙ c .before .if1 .taken) (c .may-start .ensures
+    ∙ sym (and-true (starts (c .before .before .before .before .before))))
 
 returns-2 : tie.Need-returns-2
-returns-2 c = rw (sym (c .before .still-waits .ensures) ∙ c .if1 .left) (sym (and-false (starts (c .before .before .before .before))))
+returns-2 c = rw (sym (c .before .still-waits .ensures) ∙ c .if1 .left)
+    (sym (and-false (starts (c .before .before .before .before))))
 
 pub starts-here-spec : {M : Type 1} → statement M
 starts-here-spec =

@@ -12,7 +12,8 @@ use Rattle.contour.proofs.sweep.first_waiting.Statement.{statement}
 use Rattle.contour.proofs.sweep.first_waiting.Tie as tie
 
 abbrev Inv-loop : tie.InvT-loop
-Inv-loop list from last n₀ n = (from ≤ n) × ((n ≤ last) × ((m : ℕ) → from ≤ m → m < n → waits list m ≡ false))
+Inv-loop list from last n₀ n =
+    (from ≤ n) × ((n ≤ last) × ((m : ℕ) → from ≤ m → m < n → waits list m ≡ false))
 
 abbrev μ-loop : tie.MeasureT-loop
 μ-loop list from last n₀ n = last - n
@@ -21,7 +22,8 @@ loop-holds : tie.Need-loop-holds Inv-loop μ-loop
 loop-holds c = (omega arith, (omega arith, λ m p q. absurd (omega arith)))
 
 returns : tie.Need-returns Inv-loop μ-loop
-returns c = let l = c .before .before .before .loop in record { low = l .inv .0; high = l .inv .1 .0; none = l .inv .1 .1 }
+returns c = let l = c .before .before .before .loop in
+    record { low = l .inv .0; high = l .inv .1 .0; none = l .inv .1 .1 }
 
 loop-again : tie.Need-loop-again Inv-loop μ-loop
 loop-again c =

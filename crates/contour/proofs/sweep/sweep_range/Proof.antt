@@ -1,4 +1,5 @@
--- `contour::sweep::sweep_range` meets its contract: while edges are tried, the buffers hold what the edges below n gave. Assumes nothing.
+-- `contour::sweep::sweep_range` meets its contract: while edges are tried, the buffers hold what the edges below n
+-- gave. Assumes nothing.
 use mathlib.Core.Path.{_≡_, sym}
 use Prim.Native.Nat.{_-_, _≤_}
 use native.Mathlib.Omega.{arith}
@@ -9,14 +10,16 @@ use Rattle.contour.proofs.sweep.sweep_range.Statement.{statement}
 use Rattle.contour.proofs.sweep.sweep_range.Tie as tie
 
 abbrev Inv-loop : tie.InvT-loop
-Inv-loop levels nx ny v closes from to list₀ edges₀ counts₀ closed₀ so-far₀ n₀ list edges counts closed so-far n =
+Inv-loop levels nx ny v closes from to list₀ edges₀ counts₀ closed₀ so-far₀ n₀ list edges counts closed
+    so-far n =
     Sweeps (picture levels nx ny v) closes from n (desk list₀ edges₀ counts₀ closed₀ (so-far₀ .edges)
     (so-far₀ .contours)) (desk list edges counts closed (so-far .edges) (so-far .contours))
     × (Same (desk list₀ edges₀ counts₀ closed₀ (so-far₀ .edges) (so-far₀ .contours))
     (desk list edges counts closed (so-far .edges) (so-far .contours)) × ((from ≤ n) × (n ≤ to)))
 
 abbrev μ-loop : tie.MeasureT-loop
-μ-loop levels nx ny v closes from to list₀ edges₀ counts₀ closed₀ so-far₀ n₀ list edges counts closed so-far n = to - n
+μ-loop levels nx ny v closes from to list₀ edges₀ counts₀ closed₀ so-far₀ n₀ list edges counts closed
+    so-far n = to - n
 
 loop-holds : tie.Need-loop-holds Inv-loop μ-loop
 loop-holds c = (
@@ -29,8 +32,10 @@ sub-first-waiting c = omega arith
 
 first-waiting-requires : tie.Need-first-waiting-requires Inv-loop μ-loop
 first-waiting-requires c κs =
-    let s = c .before .before .before .before .before .before .before .before in
-    (omega (arith, c .before .loop-test .taken), omega (arith, c .before .loop-test .taken, s .pre .1 .1 .0, c .before .before .loop .inv .0 .room .long))
+    let s = c .before .before .before .before .before .before .before .before in (
+      omega (arith, c .before .loop-test .taken),
+      omega (arith, c .before .loop-test .taken, s .pre .1 .1 .0, c .before .before .loop .inv .0 .room .long),
+    )
 
 try-edge-requires : tie.Need-try-edge-requires Inv-loop μ-loop
 try-edge-requires c κs =
@@ -39,7 +44,15 @@ try-edge-requires c κs =
     let at-loop = at-loop-test .before in
     let s = at-loop .before .before .before .before .before .before in (
       s .pre .0,
-      (omega (arith, at-first-waiting .first-waiting .ensures .high, at-loop-test .loop-test .taken, s .pre .1 .1 .0), at-loop .loop .inv .0 .room),
+      (
+        omega (
+          arith,
+          at-first-waiting .first-waiting .ensures .high,
+          at-loop-test .loop-test .taken,
+          s .pre .1 .1 .0,
+        ),
+        at-loop .loop .inv .0 .room,
+      ),
     )
 
 -- from the edge tried to the search that found it

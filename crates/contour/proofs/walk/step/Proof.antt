@@ -16,8 +16,10 @@ abbrev pictured : tie.Start → Picture
 pictured s = picture (now (s .args .levels)) (s .args .nx) (s .args .ny) (s .args .v)
 
 -- the square ahead is in the network
-within : (c : tie.After-known-told) → let s = c .before .before .before .before in WithinSquare (s .args .nx) (s .args .ny) (c .before .ahead .given .0 .0) (c .before .ahead .given .0 .1 .0)
-within c = let s = c .before .before .before .before in subst (WithinAhead (s .args .nx) (s .args .ny)) (c .before .ahead .given .1) (s .pre .1)
+within : (c : tie.After-known-told) → let s = c .before .before .before .before in
+    WithinSquare (s .args .nx) (s .args .ny) (c .before .ahead .given .0 .0) (c .before .ahead .given .0 .1 .0)
+within c = let s = c .before .before .before .before in
+    subst (WithinAhead (s .args .nx) (s .args .ny)) (c .before .ahead .given .1) (s .pre .1)
 
 exit-side-requires : tie.Need-exit-side-requires
 exit-side-requires c κs = (c .before .before .before .before .pre .0, within c)
@@ -30,8 +32,12 @@ side-edge-requires c κs =
 
 number-of-requires : tie.Need-number-of-requires
 number-of-requires c κs =
-    let s = c .before .before .before .before .before .before in
-    (s .pre .0 .sides, subst (WithinEdge (s .args .nx) (s .args .ny)) (sym (c .side-edge .ensures)) (side-within (s .args .nx) (s .args .ny) (c .before .before .before .ahead .given .0 .0) (c .before .before .before .ahead .given .0 .1 .0) (c .before .exit-side .result) (within (c .before .before))))
+    let s = c .before .before .before .before .before .before in (
+      s .pre .0 .sides,
+      subst (WithinEdge (s .args .nx) (s .args .ny)) (sym (c .side-edge .ensures))
+          (side-within (s .args .nx) (s .args .ny) (c .before .before .before .ahead .given .0 .0)
+          (c .before .before .before .ahead .given .0 .1 .0) (c .before .exit-side .result) (within (c .before .before))),
+    )
 
 beyond-side-requires : tie.Need-beyond-side-requires
 beyond-side-requires c κs =
@@ -44,7 +50,9 @@ returns c =
     let s = c .before .before .before .before .before .before .before .before in
     let h = c .before .before .before .before .before .ahead .given .1 in
     let e = c .before .before .before .exit-side .ensures in (
-      c .before .number-of .ensures ∙ ap (numberOf (s .args .nx) (s .args .ny)) (c .before .before .side-edge .ensures ∙ ap (sideEdge _ _) e) ∙ ap (stepEdge (pictured s)) (sym h),
+      c .before .number-of .ensures
+          ∙ ap (numberOf (s .args .nx) (s .args .ny)) (c .before .before .side-edge .ensures
+          ∙ ap (sideEdge _ _) e) ∙ ap (stepEdge (pictured s)) (sym h),
       c .beyond-side .ensures ∙ ap (beyond (s .args .nx) (s .args .ny) _ _) e ∙ ap (stepAhead (pictured s)) (sym h),
     )
 

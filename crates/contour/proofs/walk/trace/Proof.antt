@@ -1,4 +1,5 @@
--- `contour::walk::trace` meets its contract: the invariant is `Going`, and the measure the number of edges that wait. Assumes nothing.
+-- `contour::walk::trace` meets its contract: the invariant is `Going`, and the measure the number of edges that
+-- wait. Assumes nothing.
 use borrow.Author.Needs.{needs}
 use mathlib.Core.Path.{_≡_, sym, _∙_}
 use mathlib.Core.Bool.{true}
@@ -16,28 +17,40 @@ use Rattle.contour.proofs.walk.trace.Statement.{statement}
 use Rattle.contour.proofs.walk.trace.Tie as tie
 
 abbrev Inv-loop : tie.InvT-loop
-Inv-loop levels nx ny v list₀ edges₀ from here₀ at₀ list edges here at = Going (picture levels nx ny v) list₀ edges₀ from (here₀ .edge) list edges (here .edge) (here .ahead) at
+Inv-loop levels nx ny v list₀ edges₀ from here₀ at₀ list edges here at =
+    Going (picture levels nx ny v) list₀ edges₀ from (here₀ .edge) list edges (here .edge) (here .ahead) at
 
 abbrev μ-loop : tie.MeasureT-loop
 μ-loop levels nx ny v list₀ edges₀ from here₀ at₀ list edges here at = waiting list
 
 -- in a turn the edge waits, so it is an edge of the network and there is room for it
-waits-here : (c : tie.Then1 Inv-loop μ-loop) → waits (c .before .before .before .loop .list) (c .before .before .before .loop .here .edge) ≡ true
+waits-here : (c : tie.Then1 Inv-loop μ-loop)
+    → waits (c .before .before .before .loop .list) (c .before .before .before .loop .here .edge) ≡ true
 waits-here c = sym (c .before .still-waits .ensures) ∙ c .if1 .taken
 
-below : (c : tie.Then1 Inv-loop μ-loop) → c .before .before .before .loop .here .edge < edges (c .before .before .before .before .before .before .before .args .nx) (c .before .before .before .before .before .before .before .args .ny)
+below : (c : tie.Then1 Inv-loop μ-loop)
+    → c .before .before .before .loop .here .edge < edges
+    (c .before .before .before .before .before .before .before .args .nx)
+    (c .before .before .before .before .before .before .before .args .ny)
 below c =
     let l = c .before .before .before .loop in
-    omega (arith, waits-lt (l .list) (l .here .edge) (waits-here c), l .inv .as-many, c .before .before .before .before .before .before .before .pre .1 .long)
+    omega (
+      arith,
+      waits-lt (l .list) (l .here .edge) (waits-here c),
+      l .inv .as-many,
+      c .before .before .before .before .before .before .before .pre .1 .long,
+    )
 
-room-here : (c : tie.Then1 Inv-loop μ-loop) → c .before .before .before .loop .at < length (c .before .before .before .loop .edges)
+room-here : (c : tie.Then1 Inv-loop μ-loop)
+    → c .before .before .before .loop .at < length (c .before .before .before .loop .edges)
 room-here c = fits _ _ _ _ _ _ _ _ _ _ (c .before .before .before .loop .inv) (waits-here c)
 
 loop-holds : tie.Need-loop-holds Inv-loop μ-loop
 loop-holds c = begins _ _ _ _ _ _ (c .before .before .before .pre .1)
 
 slice-write-list : tie.Need-slice-write-list Inv-loop μ-loop
-slice-write-list c = waits-lt (c .before .before .before .loop .list) (c .before .before .before .loop .here .edge) (waits-here c)
+slice-write-list c = waits-lt (c .before .before .before .loop .list) (c .before .before .before .loop .here .edge)
+    (waits-here c)
 
 cast-edges : tie.Need-cast-edges Inv-loop μ-loop
 cast-edges c =
@@ -58,16 +71,24 @@ add-at c = omega (arith, room-here c, c .before .before .before .loop .inv .as-l
 step-requires : tie.Need-step-requires Inv-loop μ-loop
 step-requires c κs =
     let s = c .before .before .before .before .before .before .before in
-    let l = c .before .before .before .loop in
-    (s .pre .0, ahead-within (picture (now (s .args .levels)) (s .args .nx) (s .args .ny) (s .args .v)) (s .pre .0 .sides .wide) (l .here .edge) (l .here .ahead) (below c) (l .inv .heads (below c)))
+    let l = c .before .before .before .loop in (
+      s .pre .0,
+      ahead-within (picture (now (s .args .levels)) (s .args .nx) (s .args .ny) (s .args .v))
+          (s .pre .0 .sides .wide) (l .here .edge) (l .here .ahead) (below c) (l .inv .heads (below c)),
+    )
 
 loop-less : tie.Need-loop-less Inv-loop μ-loop
-loop-less c = omega (arith, waiting-set (c .before .before .before .before .loop .list) (c .before .before .before .before .loop .here .edge) (waits-here (c .before)))
+loop-less c = omega (
+  arith,
+  waiting-set (c .before .before .before .before .loop .list)
+      (c .before .before .before .before .loop .here .edge) (waits-here (c .before)),
+)
 
 loop-again : tie.Need-loop-again Inv-loop μ-loop
 loop-again c =
     let s = c .before .before .before .before .before .before .before .before in
-    goes-on _ _ _ _ _ _ _ _ _ _ (c .before .before .before .before .loop .inv) (s .pre .0 .sides .wide) (below (c .before)) (waits-here (c .before)) _ _ (c .step .ensures .0) (c .step .ensures .1)
+    goes-on _ _ _ _ _ _ _ _ _ _ (c .before .before .before .before .loop .inv) (s .pre .0 .sides .wide)
+    (below (c .before)) (waits-here (c .before)) _ _ (c .step .ensures .0) (c .step .ensures .1)
 
 same-length : tie.Need-same-length Inv-loop μ-loop
 same-length c = c .before .before .before .loop .inv .as-many
@@ -78,7 +99,8 @@ same-length-2 c = c .before .before .before .loop .inv .as-long
 returns : tie.Need-returns Inv-loop μ-loop
 returns c =
     let s = c .before .before .before .before .before .before .before in
-    ended _ _ _ _ _ _ _ _ _ _ (c .before .before .before .loop .inv) (omega (arith, s .pre .1 .room)) (sym (c .before .still-waits .ensures) ∙ c .if1 .left)
+    ended _ _ _ _ _ _ _ _ _ _ (c .before .before .before .loop .inv) (omega (arith, s .pre .1 .room))
+    (sym (c .before .still-waits .ensures) ∙ c .if1 .left)
 
 pub trace-spec : {M : Type 1} → statement M
 trace-spec =

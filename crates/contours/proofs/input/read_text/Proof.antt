@@ -4,7 +4,8 @@ use Prim.Native.Nat.{_-_}
 use native.Mathlib.Omega.{arith}
 use lib.ListN.{length}
 use borrow.Author.Needs.{needs}
-use Rattle.contours_steps.proofs.Turns.{Standing, standing-none, standing-more, standing-next, standing-stops, standing-full}
+use Rattle.contours_steps.proofs.Turns.{Standing, standing-none, standing-more, standing-next, standing-stops}
+use Rattle.contours_steps.proofs.Turns.{standing-full}
 use Rattle.contours.proofs.input.read_text.Statement.{statement}
 use Rattle.contours.proofs.input.read_text.Tie as tie
 

@@ -38,7 +38,8 @@ returns-2 c =
     let s = c .before .before .before .args .s .now in
     ⊎-elim
     (λ w. rw (ne-eqb (getD s 0 0) 45 (w .2 .left)) (c .is-number2 .ensures))
-    (λ w. rw (ne-eqb (getD s 0 0) 45 (λ e. omega (arith, List·getD-eq-default s 0 {n = 0} (omega (arith, w .left))))) (c .is-number2 .ensures))
+    (λ w. rw (ne-eqb (getD s 0 0) 45
+    (λ e. omega (arith, List·getD-eq-default s 0 {n = 0} (omega (arith, w .left))))) (c .is-number2 .ensures))
     (c .before .if1 .came)
 
 pub is-spelling-spec : {M : Type 1} → statement M

@@ -37,7 +37,8 @@ returns-2 : tie.Need-returns-2
 returns-2 c =
     let a = c .before .before .before .before .before .before .before .args in
     let l = c .before .before .before .before .line-at .ensures in
-    ap (numberAfter (a .key .now)) (sym (l .line)) ∙ sym (c .before .before .key-number .ensures) ∙ c .enum-told .given .1
+    ap (numberAfter (a .key .now)) (sym (l .line)) ∙ sym (c .before .before .key-number .ensures)
+    ∙ c .enum-told .given .1
 
 pub key-line-spec : {M : Type 1} → statement M
 key-line-spec =

@@ -14,7 +14,8 @@ is-begun-requires : tie.Need-is-begun-requires
 is-begun-requires c κs = search needs
 
 -- past the test the key fits into the line
-long : (c : tie.Then1) → let a = c .before .before .before .before .args in length (a .key .now) ≤ length (a .line .now)
+long : (c : tie.Then1) → let a = c .before .before .before .before .args in
+    length (a .key .now) ≤ length (a .line .now)
 long c = begins-long _ _ (sym (c .before .is-begun .ensures) ∙ c .if1 .taken)
 
 sub-whole : tie.Need-sub-whole

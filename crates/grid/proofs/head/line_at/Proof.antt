@@ -12,11 +12,13 @@ add-t6 c = search needs
 
 returns : tie.Need-returns
 returns c =
-    line-ended _ _ (c .before .line-end .result) (c .before .before .before .pre) (c .before .line-end .ensures) (c .if1 .taken)
+    line-ended _ _ (c .before .line-end .result) (c .before .before .before .pre) (c .before .line-end .ensures)
+    (c .if1 .taken)
 
 returns-2 : tie.Need-returns-2
 returns-2 c =
-    line-open _ _ (c .before .line-end .result) (c .before .before .before .pre) (c .before .line-end .ensures) (c .if1 .left)
+    line-open _ _ (c .before .line-end .result) (c .before .before .before .pre) (c .before .line-end .ensures)
+    (c .if1 .left)
 
 pub line-at-spec : {M : Type 1} → statement M
 line-at-spec = tie.close (tie.spec line-end-requires add-t6 returns returns-2)

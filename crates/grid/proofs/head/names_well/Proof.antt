@@ -37,7 +37,8 @@ returns-3 : tie.Need-returns-3
 unfolding namesWell
 returns-3 c =
     let s = c .before .before .before .before .before .before .args .line .now in
-    rw (eq-eqb (getD s 12 0) 32 (c .before .before .if2 .left)) (c .is-spelling .ensures ∙ ap isSpelling (part-rest s 13))
+    rw (eq-eqb (getD s 12 0) 32 (c .before .before .if2 .left)) (c .is-spelling .ensures
+    ∙ ap isSpelling (part-rest s 13))
 
 pub names-well-spec : {M : Type 1} → statement M
 names-well-spec =

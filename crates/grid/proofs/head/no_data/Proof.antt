@@ -45,7 +45,8 @@ names-well-requires c κs = search needs
 returns-2 : tie.Need-returns-2
 returns-2 c =
     let l = c .before .before .before .before .before .before .before .line-at .ensures in (
-      ap names (sym (l .line)) ∙ sym (c .before .before .before .before .is-begun .ensures) ∙ not-false _ (c .before .before .before .if1 .left),
+      ap names (sym (l .line)) ∙ sym (c .before .before .before .before .is-begun .ensures)
+          ∙ not-false _ (c .before .before .before .if1 .left),
       ap namesWell (sym (l .line)) ∙ sym (c .before .names-well .ensures) ∙ not-true _ (c .if2 .taken),
     )
 
@@ -59,7 +60,8 @@ returns-3 c =
     let a = start .args in
     let l = at-line-at .line-at .ensures in
     let end = at-line-at .line-at .result .end in
-    let named = ap names (sym (l .line)) ∙ sym (c .before .before .before .before .is-begun .ensures) ∙ not-false _ (c .before .before .before .if1 .left) in
+    let named = ap names (sym (l .line)) ∙ sym (c .before .before .before .before .is-begun .ensures)
+    ∙ not-false _ (c .before .before .before .if1 .left) in
     let well = ap namesWell (sym (l .line)) ∙ sym (c .before .names-well .ensures) ∙ not-false _ (c .if2 .left) in
     let p = spelled-at (a .s .now) (a .at) _ l well in
     (named, well, p .0, l .within, p .1, l .passed)

@@ -26,20 +26,29 @@ abbrev text-5 : tie.After-known-told5 → List ℕ
 text-5 c = text-4 (c .before .before .before .before .before)
 
 -- header line after header line
-first : (c : tie.After-known-told) → KeyStep (text-1 c) ncols 0 (c .before .columns .given .0 .0) (c .before .columns .given .0 .1 .0)
+first : (c : tie.After-known-told)
+    → KeyStep (text-1 c) ncols 0 (c .before .columns .given .0 .0) (c .before .columns .given .0 .1 .0)
 first c = key-step _ _ ncols 0 refl (c .before .before .before .key-line .ensures) (c .before .columns .given .1)
 
-second : (c : tie.After-known-told2) → KeyStep (text-2 c) nrows 1 (c .before .rows .given .0 .0) (c .before .rows .given .0 .1 .0)
-second c = key-step _ _ nrows 1 (first (c .before .before .before .before .before) .rest) (c .before .before .before .key-line2 .ensures) (c .before .rows .given .1)
+second : (c : tie.After-known-told2)
+    → KeyStep (text-2 c) nrows 1 (c .before .rows .given .0 .0) (c .before .rows .given .0 .1 .0)
+second c = key-step _ _ nrows 1 (first (c .before .before .before .before .before) .rest)
+    (c .before .before .before .key-line2 .ensures) (c .before .rows .given .1)
 
-third : (c : tie.After-known-told3) → KeyStep (text-3 c) xllcenter 2 (c .before .west .given .0 .0) (c .before .west .given .0 .1 .0)
-third c = key-step _ _ xllcenter 2 (second (c .before .before .before .before .before) .rest) (c .before .before .before .key-line3 .ensures) (c .before .west .given .1)
+third : (c : tie.After-known-told3)
+    → KeyStep (text-3 c) xllcenter 2 (c .before .west .given .0 .0) (c .before .west .given .0 .1 .0)
+third c = key-step _ _ xllcenter 2 (second (c .before .before .before .before .before) .rest)
+    (c .before .before .before .key-line3 .ensures) (c .before .west .given .1)
 
-fourth : (c : tie.After-known-told4) → KeyStep (text-4 c) yllcenter 3 (c .before .south .given .0 .0) (c .before .south .given .0 .1 .0)
-fourth c = key-step _ _ yllcenter 3 (third (c .before .before .before .before .before) .rest) (c .before .before .before .key-line4 .ensures) (c .before .south .given .1)
+fourth : (c : tie.After-known-told4)
+    → KeyStep (text-4 c) yllcenter 3 (c .before .south .given .0 .0) (c .before .south .given .0 .1 .0)
+fourth c = key-step _ _ yllcenter 3 (third (c .before .before .before .before .before) .rest)
+    (c .before .before .before .key-line4 .ensures) (c .before .south .given .1)
 
-fifth : (c : tie.After-known-told5) → KeyStep (text-5 c) cellsize 4 (c .before .spacing .given .0 .0) (c .before .spacing .given .0 .1 .0)
-fifth c = key-step _ _ cellsize 4 (fourth (c .before .before .before .before .before) .rest) (c .before .before .before .key-line5 .ensures) (c .before .spacing .given .1)
+fifth : (c : tie.After-known-told5)
+    → KeyStep (text-5 c) cellsize 4 (c .before .spacing .given .0 .0) (c .before .spacing .given .0 .1 .0)
+fifth c = key-step _ _ cellsize 4 (fourth (c .before .before .before .before .before) .rest)
+    (c .before .before .before .key-line5 .ensures) (c .before .spacing .given .1)
 
 slice-aggregate-key-line : tie.Need-slice-aggregate-key-line
 slice-aggregate-key-line c = search needs
@@ -55,7 +64,10 @@ enum-told c = search needs
 
 returns : tie.Need-returns
 unfolding firstOff
-returns c = (rw (key-stop _ _ ncols 0 refl (c .before .before .key-line .ensures) (c .enum-told .given .1)), omega arith)
+returns c = (
+  rw (key-stop _ _ ncols 0 refl (c .before .before .key-line .ensures) (c .enum-told .given .1)),
+  omega arith,
+)
 
 slice-aggregate-key-line-2 : tie.Need-slice-aggregate-key-line-2
 slice-aggregate-key-line-2 c = search needs
@@ -71,8 +83,14 @@ enum-told-2 c = search needs
 
 returns-2 : tie.Need-returns-2
 unfolding firstOff
-returns-2 c =
-    (rw (first (c .before .before .before .before) .number, key-stop _ _ nrows 1 (first (c .before .before .before .before) .rest) (c .before .before .key-line2 .ensures) (c .enum-told2 .given .1)), omega arith)
+returns-2 c = (
+  rw (
+    first (c .before .before .before .before) .number,
+    key-stop _ _ nrows 1 (first (c .before .before .before .before) .rest)
+        (c .before .before .key-line2 .ensures) (c .enum-told2 .given .1),
+  ),
+  omega arith,
+)
 
 slice-aggregate-key-line-3 : tie.Need-slice-aggregate-key-line-3
 slice-aggregate-key-line-3 c = search needs
@@ -90,8 +108,15 @@ returns-3 : tie.Need-returns-3
 unfolding firstOff
 returns-3 c =
     let line-2 = c .before .before .before .before in
-    let line-1 = line-2 .before .before .before .before .before in
-    (rw (first line-1 .number, second line-2 .number, key-stop _ _ xllcenter 2 (second line-2 .rest) (c .before .before .key-line3 .ensures) (c .enum-told3 .given .1)), omega arith)
+    let line-1 = line-2 .before .before .before .before .before in (
+      rw (
+        first line-1 .number,
+        second line-2 .number,
+        key-stop _ _ xllcenter 2 (second line-2 .rest)
+            (c .before .before .key-line3 .ensures) (c .enum-told3 .given .1),
+      ),
+      omega arith,
+    )
 
 slice-aggregate-key-line-4 : tie.Need-slice-aggregate-key-line-4
 slice-aggregate-key-line-4 c = search needs
@@ -110,8 +135,16 @@ unfolding firstOff
 returns-4 c =
     let line-3 = c .before .before .before .before in
     let line-2 = line-3 .before .before .before .before .before in
-    let line-1 = line-2 .before .before .before .before .before in
-    (rw (first line-1 .number, second line-2 .number, third line-3 .number, key-stop _ _ yllcenter 3 (third line-3 .rest) (c .before .before .key-line4 .ensures) (c .enum-told4 .given .1)), omega arith)
+    let line-1 = line-2 .before .before .before .before .before in (
+      rw (
+        first line-1 .number,
+        second line-2 .number,
+        third line-3 .number,
+        key-stop _ _ yllcenter 3 (third line-3 .rest) (c .before .before .key-line4 .ensures)
+            (c .enum-told4 .given .1),
+      ),
+      omega arith,
+    )
 
 slice-aggregate-key-line-5 : tie.Need-slice-aggregate-key-line-5
 slice-aggregate-key-line-5 c = search needs
@@ -131,8 +164,17 @@ returns-5 c =
     let line-4 = c .before .before .before .before in
     let line-3 = line-4 .before .before .before .before .before in
     let line-2 = line-3 .before .before .before .before .before in
-    let line-1 = line-2 .before .before .before .before .before in
-    (rw (first line-1 .number, second line-2 .number, third line-3 .number, fourth line-4 .number, key-stop _ _ cellsize 4 (fourth line-4 .rest) (c .before .before .key-line5 .ensures) (c .enum-told5 .given .1)), omega arith)
+    let line-1 = line-2 .before .before .before .before .before in (
+      rw (
+        first line-1 .number,
+        second line-2 .number,
+        third line-3 .number,
+        fourth line-4 .number,
+        key-stop _ _ cellsize 4 (fourth line-4 .rest) (c .before .before .key-line5 .ensures)
+            (c .enum-told5 .given .1),
+      ),
+      omega arith,
+    )
 
 returns-6 : tie.Need-returns-6
 unfolding firstOff frameOf
@@ -140,8 +182,18 @@ returns-6 c =
     let line-4 = c .before .before .before .before .before in
     let line-3 = line-4 .before .before .before .before .before in
     let line-2 = line-3 .before .before .before .before .before in
-    let line-1 = line-2 .before .before .before .before .before in
-    (rw (first line-1 .number, second line-2 .number, third line-3 .number, fourth line-4 .number, fifth c .number), rw (first line-1 .number, second line-2 .number, third line-3 .number, fourth line-4 .number, fifth c .number), fifth c .inside, fifth c .rest)
+    let line-1 = line-2 .before .before .before .before .before in (
+      rw (first line-1 .number, second line-2 .number, third line-3 .number, fourth line-4 .number, fifth c .number),
+      rw (
+        first line-1 .number,
+        second line-2 .number,
+        third line-3 .number,
+        fourth line-4 .number,
+        fifth c .number,
+      ),
+      fifth c .inside,
+      fifth c .rest,
+    )
 
 pub read-head-spec : {M : Type 1} → statement M
 read-head-spec =

@@ -14,7 +14,8 @@ enum-known-frame : tie.Need-enum-known-frame
 enum-known-frame c = search needs
 
 -- the header is on its layout
-headed : (c : tie.After-known-told) → let g = c .before .frame .given in headRead (c .before .before .before .before .before .args .s .now) (Got (g .0 .0) (g .0 .1 .0))
+headed : (c : tie.After-known-told) → let g = c .before .frame .given in
+    headRead (c .before .before .before .before .before .args .s .now) (Got (g .0 .0) (g .0 .1 .0))
 headed c = subst (headRead _) (c .before .frame .given .1) (c .before .before .before .read-head .ensures)
 
 judge-body-requires : tie.Need-judge-body-requires
@@ -26,11 +27,13 @@ enum-known-line c = search needs
 returns : tie.Need-returns
 returns c =
     let h = headed (c .before) in
-    file-on (c .before .before .before .before .before .before .args .s .now) _ (h .3) _ (h .0) (h .1) (c .judge-body .result) (c .judge-body .ensures)
+    file-on (c .before .before .before .before .before .before .args .s .now) _ (h .3) _ (h .0) (h .1)
+    (c .judge-body .result) (c .judge-body .ensures)
 
 returns-2 : tie.Need-returns-2
 returns-2 c =
-    let h = subst (headRead (c .before .before .before .before .before .args .s .now)) (c .before .line .given .1) (c .before .before .before .read-head .ensures) in
+    let h = subst (headRead (c .before .before .before .before .before .args .s .now)) (c .before .line .given .1)
+    (c .before .before .before .read-head .ensures) in
     file-off (c .before .before .before .before .before .args .s .now) _ (h .0) (h .1)
 
 pub judge-spec : {M : Type 1} → statement M

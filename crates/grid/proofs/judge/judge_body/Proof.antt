@@ -15,7 +15,8 @@ enum-known-start : tie.Need-enum-known-start
 enum-known-start c = search needs
 
 -- the line names the no-data value
-named : (c : tie.After-known-told) → let a = c .before .before .before .before .before .args in let g = c .before .start .given in
+named : (c : tie.After-known-told) → let a = c .before .before .before .before .before .args in
+    let g = c .before .start .given in
     noDataRead (a .s .now) (a .at) (Named (g .0 .0) (g .0 .1 .0) (g .0 .1 .1 .0))
 named c = subst (noDataRead _ _) (c .before .start .given .1) (c .before .before .before .no-data .ensures)
 
@@ -47,17 +48,23 @@ returns : tie.Need-returns
 returns c =
     let n = named (c .before .before) in
     let a = c .before .before .before .before .before .before .before .args in
-    body-named (a .s .now) (a .at) (a .frame) _ _ (n .0) (n .1) (n .4) (n .5) (c .judge-rows .result) (c .judge-rows .ensures)
+    body-named (a .s .now) (a .at) (a .frame) _ _ (n .0) (n .1) (n .4) (n .5) (c .judge-rows .result)
+    (c .judge-rows .ensures)
 
 returns-2 : tie.Need-returns-2
 returns-2 c =
-    let n = subst (noDataRead (c .before .before .before .before .before .before .args .s .now) (c .before .before .before .before .before .before .args .at)) (c .before .before .enum-told .given .1) (c .before .before .before .before .no-data .ensures) in
+    let n = subst (noDataRead (c .before .before .before .before .before .before .args .s .now)
+    (c .before .before .before .before .before .before .args .at)) (c .before .before .enum-told .given .1)
+    (c .before .before .before .before .no-data .ensures) in
     let a = c .before .before .before .before .before .before .args in
-    body-unnamed (a .s .now) (a .at) (a .frame) n (c .before .before .before .before .before .before .pre) (c .judge-rows2 .result) (c .judge-rows2 .ensures)
+    body-unnamed (a .s .now) (a .at) (a .frame) n (c .before .before .before .before .before .before .pre)
+    (c .judge-rows2 .result) (c .judge-rows2 .ensures)
 
 returns-3 : tie.Need-returns-3
 returns-3 c =
-    let n = subst (noDataRead (c .before .before .before .before .args .s .now) (c .before .before .before .before .args .at)) (c .enum-told2 .given .1) (c .before .before .no-data .ensures) in
+    let n = subst (noDataRead (c .before .before .before .before .args .s .now)
+    (c .before .before .before .before .args .at)) (c .enum-told2 .given .1)
+    (c .before .before .no-data .ensures) in
     let a = c .before .before .before .before .args in
     body-off (a .s .now) (a .at) (a .frame) (n .0) (n .1)
 

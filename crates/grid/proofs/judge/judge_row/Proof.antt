@@ -1,4 +1,5 @@
--- `grid::judge::judge_row` meets its contract. The invariant: the values passed, and what all of them were. Assumes nothing.
+-- `grid::judge::judge_row` meets its contract. The invariant: the values passed, and what all of them were. Assumes
+-- nothing.
 use Prim.Native.Nat.{_-_}
 use mathlib.Core.Path.{_≡_, sym, ap, _∙_}
 use mathlib.Core.Bool.{true, _&&_}
@@ -41,29 +42,41 @@ returns : tie.Need-returns Inv-loop μ-loop
 returns c =
     let l = c .before .before .before .before .loop in
     let r = c .before .value-refusal in
-    sym (row-off (l .inv) (c .before .before .before .field-end .result) (c .before .before .before .field-end .ensures) (value-off _ _ (sym (r .ensures) ∙ c .if1 .taken)))
+    sym (row-off (l .inv) (c .before .before .before .field-end .result)
+    (c .before .before .before .field-end .ensures) (value-off _ _ (sym (r .ensures) ∙ c .if1 .taken)))
 
 -- past the test there is a value, and the other test says whether it is sound
-tested : (c : tie.After-both Inv-loop μ-loop) → let a = c .before .before .before .before .before .before .before .before .args in
-    let t = between (a .s .now) (c .before .before .before .before .before .loop .at) (c .before .before .before .before .field-end .result) in
-    (isValue (a .nodata .now) t ≡ true) × (c .both .result ≡ (c .before .before .before .before .before .loop .sound && isSound (a .nodata .now) t))
+tested : (c : tie.After-both Inv-loop μ-loop)
+    → let a = c .before .before .before .before .before .before .before .before .args in
+    let t = between (a .s .now) (c .before .before .before .before .before .loop .at)
+    (c .before .before .before .before .field-end .result) in
+    (isValue (a .nodata .now) t ≡ true)
+    × (c .both .result ≡ (c .before .before .before .before .before .loop .sound && isSound (a .nodata .now) t))
 tested c =
     let r = c .before .before .value-refusal in
-    let t = value-on _ _ (λ off. c .before .if1 .left (r .ensures ∙ off)) in
-    (t .0, c .both .ensures ∙ ap (λ b. c .before .before .before .before .before .loop .sound && b) (ap (λ n. eqb n 0) (r .ensures) ∙ t .1))
+    let t = value-on _ _ (λ off. c .before .if1 .left (r .ensures ∙ off)) in (
+      t .0,
+      c .both .ensures ∙ ap (λ b. c .before .before .before .before .before .loop .sound && b)
+          (ap (λ n. eqb n 0) (r .ensures) ∙ t .1),
+    )
 
 both-requires : tie.Need-both-requires Inv-loop μ-loop
 both-requires c κs = search needs
 
 add-count : tie.Need-add-count Inv-loop μ-loop
 add-count c =
-    omega (arith, c .before .before .before .before .before .loop .inv .few, c .before .before .before .before .before .loop .inv .within)
+    omega (
+      arith,
+      c .before .before .before .before .before .loop .inv .few,
+      c .before .before .before .before .before .loop .inv .within,
+    )
 
 returns-2 : tie.Need-returns-2 Inv-loop μ-loop
 returns-2 c =
     let l = c .before .before .before .before .before .before .loop in
     let t = tested (c .before) in
-    sym (row-last (l .inv) (c .before .before .before .before .before .field-end .result) (c .before .before .before .before .before .field-end .ensures) (c .if2 .taken) (t .0) ∙ rw (t .1))
+    sym (row-last (l .inv) (c .before .before .before .before .before .field-end .result)
+    (c .before .before .before .before .before .field-end .ensures) (c .if2 .taken) (t .0) ∙ rw (t .1))
 
 add-at : tie.Need-add-at Inv-loop μ-loop
 add-at c = search needs
@@ -75,7 +88,8 @@ loop-again : tie.Need-loop-again Inv-loop μ-loop
 loop-again c =
     let l = c .before .before .before .before .before .before .loop in
     let t = tested (c .before) in
-    rw (t .1) (row-next (l .inv) (c .before .before .before .before .before .field-end .result) (c .before .before .before .before .before .field-end .ensures) (c .if2 .left) (t .0))
+    rw (t .1) (row-next (l .inv) (c .before .before .before .before .before .field-end .result)
+    (c .before .before .before .before .before .field-end .ensures) (c .if2 .left) (t .0))
 
 pub judge-row-spec : {M : Type 1} → statement M
 judge-row-spec =

@@ -1,4 +1,5 @@
--- `grid::judge::judge_rows` meets its contract. The invariant: the rows passed, and what all of them were. Assumes nothing.
+-- `grid::judge::judge_rows` meets its contract. The invariant: the rows passed, and what all of them were. Assumes
+-- nothing.
 use Prim.Native.Nat.{_-_}
 use mathlib.Core.Path.{_≡_, refl, sym, ap, _∙_}
 use native.Mathlib.Omega.{arith}
@@ -10,7 +11,8 @@ use Rattle.grid.proofs.judge.judge_rows.Tie as tie
 use borrow.Author.Needs.{needs}
 
 abbrev Inv-loop : tie.InvT-loop
-Inv-loop s from nodata frame first columns at₀ count₀ fits₀ sound₀ at count fits sound = RowsAt nodata columns first s from at count fits sound
+Inv-loop s from nodata frame first columns at₀ count₀ fits₀ sound₀ at count fits sound =
+    RowsAt nodata columns first s from at count fits sound
 
 abbrev μ-loop : tie.MeasureT-loop
 μ-loop s from nodata frame first columns at₀ count₀ fits₀ sound₀ at count fits sound = length s - at
@@ -43,7 +45,8 @@ enum-told : tie.Need-enum-told Inv-loop μ-loop
 enum-told c = search needs
 
 -- what was judged is the line at `at`
-judged : (c : tie.After-judge-row Inv-loop μ-loop) → let a = c .before .before .before .before .before .before .before .before .args in
+judged : (c : tie.After-judge-row Inv-loop μ-loop)
+    → let a = c .before .before .before .before .before .before .before .before .args in
     c .judge-row .result ≡ rowOf (a .nodata .now) (lineFrom (a .s .now) (c .before .before .before .before .loop .at))
 judged c = c .judge-row .ensures ∙ ap (rowOf _) (c .before .before .line-at .ensures .line)
 
@@ -59,8 +62,10 @@ returns c =
     let at-loop-test = c .before .before .before .before .before in
     let at-loop = at-loop-test .before in
     let start = at-loop .before .before .before .before in
-    let i = at-loop .loop .inv in
-    (rows-off i (at-loop-test .loop-test .taken) (sym (judged (c .before .before)) ∙ c .enum-told .given .1), omega (arith, start .pre .1))
+    let i = at-loop .loop .inv in (
+      rows-off i (at-loop-test .loop-test .taken) (sym (judged (c .before .before)) ∙ c .enum-told .given .1),
+      omega (arith, start .pre .1),
+    )
 
 both-requires : tie.Need-both-requires Inv-loop μ-loop
 both-requires c κs = search needs
@@ -78,7 +83,12 @@ add-count c =
 loop-less : tie.Need-loop-less Inv-loop μ-loop
 loop-less c =
     let l = c .before .before .before .before .before .before .before .line-at .ensures in
-    omega (arith, l .moves (c .before .before .before .before .before .before .before .before .loop-test .taken), l .passed .inside, c .before .before .before .before .before .before .before .before .loop-test .taken)
+    omega (
+      arith,
+      l .moves (c .before .before .before .before .before .before .before .before .loop-test .taken),
+      l .passed .inside,
+      c .before .before .before .before .before .before .before .before .loop-test .taken,
+    )
 
 loop-again : tie.Need-loop-again Inv-loop μ-loop
 loop-again c =
@@ -90,7 +100,8 @@ loop-again c =
     let l = at-line-at .line-at in
     let h = at-loop-test .loop-test .taken in
     let v = c .before .before .before .values .given in
-    rw (c .before .both .ensures, c .both2 .ensures) (rows-next i h (l .result) (l .ensures) (v .0 .0) (v .0 .1 .0) (sym (judged at-judge-row) ∙ v .1))
+    rw (c .before .both .ensures, c .both2 .ensures)
+    (rows-next i h (l .result) (l .ensures) (v .0 .0) (v .0 .1 .0) (sym (judged at-judge-row) ∙ v .1))
 
 cast-rows : tie.Need-cast-rows Inv-loop μ-loop
 cast-rows c = search needs

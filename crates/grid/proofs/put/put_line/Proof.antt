@@ -5,22 +5,30 @@ use lib.ListN.{length}
 use Rattle.text.specs.Number.{showWhole}
 use Rattle.room.proofs.Laws.{wrote-then}
 use Rattle.grid.specs.Write.{keyLine}
-use Rattle.grid.proofs.WriteLaws.{ended-length, key-length}
+use Rattle.grid.proofs.WriteSizes.{ended-length, key-length}
 use borrow.Author.Needs.{needs}
 use Rattle.grid.proofs.put.put_line.Statement.{statement}
 use Rattle.grid.proofs.put.put_line.Tie as tie
 
 -- the room, part by part
-room : (c : tie.Start) → c .args .at + (length (c .args .key .now) + length (showWhole (c .args .n)) + 2) ≤ length (c .args .out .now)
-room c = omega (arith, c .pre .1, ended-length (keyLine (c .args .key .now) (c .args .n)), key-length (c .args .key .now) (c .args .n))
+room : (c : tie.Start) → c .args .at + (length (c .args .key .now) + length (showWhole (c .args .n)) + 2) ≤
+    length (c .args .out .now)
+room c = omega (
+  arith,
+  c .pre .1,
+  ended-length (keyLine (c .args .key .now) (c .args .n)),
+  key-length (c .args .key .now) (c .args .n),
+)
 
 put-text-requires : tie.Need-put-text-requires
 put-text-requires c κs = omega (arith, room (c .before .before .before))
 
 put-whole-requires : tie.Need-put-whole-requires
 put-whole-requires c κs =
-    let k = c .before .before .before .put-text in
-    (omega (arith, c .before .before .before .before .before .before .before .pre .0), omega (arith, room (c .before .before .before .before .before .before .before), k .ensures .place, k .kept .0))
+    let k = c .before .before .before .put-text in (
+      omega (arith, c .before .before .before .before .before .before .before .pre .0),
+      omega (arith, room (c .before .before .before .before .before .before .before), k .ensures .place, k .kept .0),
+    )
 
 put-end-requires : tie.Need-put-end-requires
 put-end-requires c κs =
@@ -39,7 +47,8 @@ returns c =
     let at-put-text = at-put-whole .before .before .before .before in
     let a = at-put-text .before .before .before .before in
     let l = key-length (a .args .key .now) (a .args .n) in
-    wrote-then (a .pre .1) (wrote-then (omega (arith, room a)) (at-put-text .put-text .ensures) (at-put-whole .put-whole .ensures)) (c .before .before .put-end .ensures)
+    wrote-then (a .pre .1) (wrote-then (omega (arith, room a)) (at-put-text .put-text .ensures)
+    (at-put-whole .put-whole .ensures)) (c .before .before .put-end .ensures)
 
 pub put-line-spec : {M : Type 1} → statement M
 put-line-spec =

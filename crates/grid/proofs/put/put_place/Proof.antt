@@ -7,29 +7,47 @@ use Rattle.room.proofs.Laws.{wrote-then}
 use Rattle.grid.specs.File.{xllcenter, yllcenter, cellsize}
 use Rattle.grid.specs.Write.{keyLine}
 use Rattle.grid.specs.InnerSteps.{ended}
-use Rattle.grid.proofs.WriteLaws.{three-lines, three-length}
+use Rattle.grid.proofs.WriteSizes.{three-lines, three-length}
 use borrow.Author.Needs.{needs}
 use Rattle.grid.proofs.put.put_place.Statement.{statement}
 use Rattle.grid.proofs.put.put_place.Tie as tie
 
 -- the room, line by line
 room : (c : tie.Start) → let f = c .args .frame in
-    c .args .at + (length (ended (keyLine xllcenter (f .west))) + (length (ended (keyLine yllcenter (f .south))) + length (ended (keyLine cellsize (f .spacing))))) ≤ length (c .args .out .now)
-room c = let f = c .args .frame in omega (arith, c .pre .1, three-length (keyLine xllcenter (f .west)) (keyLine yllcenter (f .south)) (keyLine cellsize (f .spacing)))
+    c .args .at + (length (ended (keyLine xllcenter (f .west))) +
+    (length (ended (keyLine yllcenter (f .south))) + length (ended (keyLine cellsize (f .spacing))))) ≤ length
+    (c .args .out .now)
+room c = let f = c .args .frame in
+    omega (
+      arith,
+      c .pre .1,
+      three-length (keyLine xllcenter (f .west)) (keyLine yllcenter (f .south))
+          (keyLine cellsize (f .spacing)),
+    )
 
 slice-aggregate-put-line : tie.Need-slice-aggregate-put-line
 slice-aggregate-put-line c = search needs
 
 put-line-requires : tie.Need-put-line-requires
-put-line-requires c κs = (c .before .before .before .pre .0 .west-most, omega (arith, room (c .before .before .before)))
+put-line-requires c κs = (
+  c .before .before .before .pre .0 .west-most,
+  omega (arith, room (c .before .before .before)),
+)
 
 slice-aggregate-put-line-2 : tie.Need-slice-aggregate-put-line-2
 slice-aggregate-put-line-2 c = search needs
 
 put-line-requires-2 : tie.Need-put-line-requires-2
 put-line-requires-2 c κs =
-    let l = c .before .before .before .before .put-line in
-    (c .before .before .before .before .before .before .before .before .pre .0 .south-most, omega (arith, room (c .before .before .before .before .before .before .before .before), l .ensures .place, l .kept .0))
+    let l = c .before .before .before .before .put-line in (
+      c .before .before .before .before .before .before .before .before .pre .0 .south-most,
+      omega (
+        arith,
+        room (c .before .before .before .before .before .before .before .before),
+        l .ensures .place,
+        l .kept .0,
+      ),
+    )
 
 slice-aggregate-put-line-3 : tie.Need-slice-aggregate-put-line-3
 slice-aggregate-put-line-3 c = search needs
@@ -40,8 +58,10 @@ put-line-requires-3 c κs =
     let at-put-line = at-put-line2 .before .before .before .before .before in
     let start = at-put-line .before .before .before .before in
     let l = at-put-line .put-line in
-    let m = at-put-line2 .put-line2 in
-    (start .pre .0 .spacing-most, omega (arith, room start, l .ensures .place, l .kept .0, m .ensures .place, m .kept .0))
+    let m = at-put-line2 .put-line2 in (
+      start .pre .0 .spacing-most,
+      omega (arith, room start, l .ensures .place, l .kept .0, m .ensures .place, m .kept .0),
+    )
 
 same-length : tie.Need-same-length
 same-length c = search needs
@@ -58,7 +78,8 @@ returns c =
     let l = at-put-line .put-line in
     rw (three-lines (keyLine xllcenter (f .west)) (keyLine yllcenter (f .south)) (keyLine cellsize (f .spacing)))
     (wrote-then (omega (arith, room start, length-append x (y ++ z), length-append y z)) (l .ensures)
-    (wrote-then (omega (arith, room start, length-append y z, l .ensures .place, l .kept .0)) (at-put-line2 .put-line2 .ensures) (c .before .before .put-line3 .ensures)))
+    (wrote-then (omega (arith, room start, length-append y z, l .ensures .place, l .kept .0))
+    (at-put-line2 .put-line2 .ensures) (c .before .before .put-line3 .ensures)))
 
 pub put-place-spec : {M : Type 1} → statement M
 put-place-spec =

@@ -2,7 +2,7 @@
 use native.Mathlib.Omega.{arith}
 use Rattle.room.proofs.Laws.{wrote-then}
 use Rattle.grid.specs.Write.{rowLine}
-use Rattle.grid.proofs.WriteLaws.{ended-length}
+use Rattle.grid.proofs.WriteSizes.{ended-length}
 use borrow.Author.Needs.{needs}
 use Rattle.grid.proofs.put.put_row.Statement.{statement}
 use Rattle.grid.proofs.put.put_row.Tie as tie

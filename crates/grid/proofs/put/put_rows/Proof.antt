@@ -16,7 +16,8 @@ use Rattle.grid.proofs.put.put_rows.Tie as tie
 
 abbrev Inv-loop : tie.InvT-loop
 Inv-loop out₀ from levels columns rows at₀ left₀ out at left =
-    Writing out₀ at₀ (textOf (rowLines columns levels rows)) out at (textOf (rowLines columns levels left)) × (left ≤ rows) × (length out ≡ length out₀)
+    Writing out₀ at₀ (textOf (rowLines columns levels rows)) out at (textOf (rowLines columns levels left))
+    × (left ≤ rows) × (length out ≡ length out₀)
 
 abbrev μ-loop : tie.MeasureT-loop
 μ-loop out₀ from levels columns rows at₀ left₀ out at left = left
@@ -28,14 +29,21 @@ sub-left : tie.Need-sub-left Inv-loop μ-loop
 sub-left c = search needs
 
 -- the row stands among the levels
-inside : (c : tie.In-loop Inv-loop μ-loop) → let a = c .before .before .before .before .args in (c .before .loop .left - 1) * a .columns + a .columns ≤ length (a .levels .now)
-inside c = let s = c .before .before .before .before in row-inside (s .args .levels .now) (s .args .columns) (s .args .rows) (c .before .loop .left) (s .pre .0) (c .loop-test .taken) (c .before .loop .inv .1)
+inside : (c : tie.In-loop Inv-loop μ-loop) → let a = c .before .before .before .before .args in
+    (c .before .loop .left - 1) * a .columns + a .columns ≤ length (a .levels .now)
+inside c = let s = c .before .before .before .before in
+    row-inside (s .args .levels .now) (s .args .columns) (s .args .rows) (c .before .loop .left) (s .pre .0)
+    (c .loop-test .taken) (c .before .loop .inv .1)
 
 -- what is left begins with its line
-next : (c : tie.In-loop Inv-loop μ-loop) → let a = c .before .before .before .before .args in let l = c .before .loop in
+next : (c : tie.In-loop Inv-loop μ-loop) → let a = c .before .before .before .before .args in
+    let l = c .before .loop in
     Writing (a .out .now) (a .from) (textOf (rowLines (a .columns) (a .levels .now) (a .rows))) (l .out) (l .at)
-    (ended (rowLine (rowAt (a .columns) (a .levels .now) (l .left - 1))) ++ textOf (rowLines (a .columns) (a .levels .now) (l .left - 1)))
-next c = let a = c .before .before .before .before .args in rw (← rows-more (a .columns) (a .levels .now) (c .before .loop .left) (c .loop-test .taken)) (c .before .loop .inv .0)
+    (ended (rowLine (rowAt (a .columns) (a .levels .now) (l .left - 1)))
+    ++ textOf (rowLines (a .columns) (a .levels .now) (l .left - 1)))
+next c = let a = c .before .before .before .before .args in
+    rw (← rows-more (a .columns) (a .levels .now) (c .before .loop .left) (c .loop-test .taken))
+    (c .before .loop .inv .0)
 
 mul-start : tie.Need-mul-start Inv-loop μ-loop
 mul-start c = omega (arith, inside c, c .before .before .before .before .good .1 .1 .0 .0)
@@ -63,11 +71,18 @@ put-row-requires c κs =
     let columns = s .args .columns in
     let start = (l .left - 1) * columns in
     let e = part-row levels start columns in
-    let n : length (rowAt columns levels (l .left - 1)) ≡ columns = length-take-le columns (drop start levels) (omega (arith, inside (c .before .before), length-drop start levels)) in
+    let n : length (rowAt columns levels (l .left - 1)) ≡ columns =
+    length-take-le columns (drop start levels)
+    (omega (arith, inside (c .before .before), length-drop start levels)) in
     let line = ended (rowLine (rowAt columns levels (l .left - 1))) in (
       omega (arith, ap length e, n, s .pre .0 .sides .wide),
       subst Quiet (sym e) (quiet-part levels start columns (s .pre .1) (inside (c .before .before))),
-      omega (arith, ap (λ t. length (ended (rowLine t))) e, writing-room (next (c .before .before)) (s .pre .2) .0, length-append line (textOf (rowLines columns levels (l .left - 1)))),
+      omega (
+        arith,
+        ap (λ t. length (ended (rowLine t))) e,
+        writing-room (next (c .before .before)) (s .pre .2) .0,
+        length-append line (textOf (rowLines columns levels (l .left - 1))),
+      ),
     )
 
 loop-less : tie.Need-loop-less Inv-loop μ-loop
@@ -83,8 +98,10 @@ loop-again c =
     let columns = s .args .columns in
     let start = (l .left - 1) * columns in
     let p = c .before .before .put-row in
-    let wrote = subst (λ t. Wrote (l .out) (l .at) (ended (rowLine t)) (p .last .0) (p .result)) (part-row levels start columns) (p .ensures) in (
-      writing-more (ended (rowLine (rowAt columns levels (l .left - 1)))) (textOf (rowLines columns levels (l .left - 1))) (next in-loop) (s .pre .2) wrote,
+    let wrote = subst (λ t. Wrote (l .out) (l .at) (ended (rowLine t)) (p .last .0) (p .result))
+    (part-row levels start columns) (p .ensures) in (
+      writing-more (ended (rowLine (rowAt columns levels (l .left - 1))))
+          (textOf (rowLines columns levels (l .left - 1))) (next in-loop) (s .pre .2) wrote,
       omega (arith, l .inv .1),
       p .kept .0 ∙ l .inv .2,
     )
@@ -97,7 +114,8 @@ returns c =
     let s = c .before .before .before .before in
     let l = c .before .loop in
     let none : l .left ≡ 0 = omega (arith, c .loop-test .left) in
-    let e = ap (λ n. textOf (rowLines (s .args .columns) (s .args .levels .now) n)) none ∙ rows-none (s .args .columns) (s .args .levels .now) in
+    let e = ap (λ n. textOf (rowLines (s .args .columns) (s .args .levels .now) n)) none
+    ∙ rows-none (s .args .columns) (s .args .levels .now) in
     writing-end (rw e at (l .inv .0))
 
 pub put-rows-spec : {M : Type 1} → statement M

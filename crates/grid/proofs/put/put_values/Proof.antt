@@ -1,4 +1,5 @@
--- `grid::put::put_values` meets its contract. The invariant: what is written, and what is left to write. Assumes nothing.
+-- `grid::put::put_values` meets its contract. The invariant: what is written, and what is left to write. Assumes
+-- nothing.
 use Prim.Native.Nat.{ℕ, _+_, _-_, _≤_}
 use mathlib.Core.Path.{_≡_, refl, ap, _∙_}
 use mathlib.Core.List.{List, _∷_, _++_}
@@ -14,7 +15,8 @@ use Rattle.grid.proofs.put.put_values.Tie as tie
 
 abbrev Inv-loop : tie.InvT-loop
 Inv-loop out₀ from row at₀ i₀ out at i =
-    Writing out₀ at₀ (spacedOf (drop 1 row)) out at (spacedOf (drop i row)) × (1 ≤ i) × (i ≤ length row) × (length out ≡ length out₀)
+    Writing out₀ at₀ (spacedOf (drop 1 row)) out at (spacedOf (drop i row)) × (1 ≤ i) × (i ≤ length row)
+    × (length out ≡ length out₀)
 
 abbrev μ-loop : tie.MeasureT-loop
 μ-loop out₀ from row at₀ i₀ out at i = length row - i
@@ -25,24 +27,50 @@ shared-slice-read-put-level c = omega (arith, c .before .before .before .before 
 put-level-requires : tie.Need-put-level-requires Inv-loop μ-loop
 put-level-requires c κs =
     let a = c .before .before .before .before in
-    let row = a .args .row .now in
-    (omega (arith, a .pre .1 0), omega (arith, a .pre .2, ap length (row-first row (a .pre .0)), length-append (showLevel (getD row 0 0)) (spacedOf (drop 1 row))))
+    let row = a .args .row .now in (
+      omega (arith, a .pre .1 0),
+      omega (
+        arith,
+        a .pre .2,
+        ap length (row-first row (a .pre .0)),
+        length-append (showLevel (getD row 0 0))
+            (spacedOf (drop 1 row)),
+      ),
+    )
 
 loop-holds : tie.Need-loop-holds Inv-loop μ-loop
-loop-holds c = (writing-start _ _ _, omega arith, c .before .before .before .before .before .before .before .pre .0, refl)
+loop-holds c = (
+  writing-start _ _ _,
+  omega arith,
+  c .before .before .before .before .before .before .before .pre .0,
+  refl,
+)
 
 -- past the first level there is room for the others
-started : (c : tie.After-slice-known2 Inv-loop μ-loop) → c .before .before .put-level .result + length (spacedOf (drop 1 (c .before .before .before .before .before .before .before .args .row .now))) ≤ length (c .before .before .put-level .last .0)
+started : (c : tie.After-slice-known2 Inv-loop μ-loop)
+    → c .before .before .put-level .result + length
+    (spacedOf (drop 1 (c .before .before .before .before .before .before .before .args .row .now))) ≤ length
+    (c .before .before .put-level .last .0)
 started c =
     let a = c .before .before .before .before .before .before .before in
     let row = a .args .row .now in
     let p = c .before .before .put-level in
-    omega (arith, a .pre .2, ap length (row-first row (a .pre .0)), length-append (showLevel (getD row 0 0)) (spacedOf (drop 1 row)), p .ensures .place, p .kept .0)
+    omega (
+      arith,
+      a .pre .2,
+      ap length (row-first row (a .pre .0)),
+      length-append (showLevel (getD row 0 0))
+          (spacedOf (drop 1 row)),
+      p .ensures .place,
+      p .kept .0,
+    )
 
 -- what is left begins with the next space and level
-next : (c : tie.In-loop Inv-loop μ-loop) → let at-put-level = c .before .before .before .before in let start = at-put-level .before .before .before .before .before in
+next : (c : tie.In-loop Inv-loop μ-loop) → let at-put-level = c .before .before .before .before in
+    let start = at-put-level .before .before .before .before .before in
     let a = start .args in let l = c .before .loop in let p = at-put-level .put-level in
-    Writing (p .last .0) (p .result) (spacedOf (drop 1 (a .row .now))) (l .out) (l .at) ((32 ∷ showLevel (getD (a .row .now) (l .i) 0)) ++ spacedOf (drop (l .i + 1) (a .row .now)))
+    Writing (p .last .0) (p .result) (spacedOf (drop 1 (a .row .now))) (l .out) (l .at)
+    ((32 ∷ showLevel (getD (a .row .now) (l .i) 0)) ++ spacedOf (drop (l .i + 1) (a .row .now)))
 next c =
     let at-loop = c .before in
     let start = at-loop .before .before .before .before .before .before .before .before in
@@ -59,8 +87,14 @@ put-spaced-requires c κs =
     let at-slice-known2 = c .before .before .before .before in
     let a = at-slice-known2 .before .before .before .before .before .before .before in
     let l = c .before .before .before .loop in
-    let piece : List ℕ = 32 ∷ showLevel (getD (a .args .row .now) (l .i) 0) in
-    (a .pre .1 (l .i), omega (arith, writing-room (next (c .before .before)) (started at-slice-known2) .0, length-append piece (spacedOf (drop (l .i + 1) (a .args .row .now)))))
+    let piece : List ℕ = 32 ∷ showLevel (getD (a .args .row .now) (l .i) 0) in (
+      a .pre .1 (l .i),
+      omega (
+        arith,
+        writing-room (next (c .before .before)) (started at-slice-known2) .0,
+        length-append piece (spacedOf (drop (l .i + 1) (a .args .row .now))),
+      ),
+    )
 
 add-i : tie.Need-add-i Inv-loop μ-loop
 add-i c = search needs
@@ -77,7 +111,8 @@ loop-again c =
     let a = start .args in
     let l = at-loop .loop in
     let piece : List ℕ = 32 ∷ showLevel (getD (a .row .now) (l .i) 0) in (
-      writing-more piece (spacedOf (drop (l .i + 1) (a .row .now))) (next at-loop-test) (started at-slice-known2) (c .before .before .put-spaced .ensures),
+      writing-more piece (spacedOf (drop (l .i + 1) (a .row .now))) (next at-loop-test) (started at-slice-known2)
+          (c .before .before .put-spaced .ensures),
       omega arith,
       omega (arith, at-loop-test .loop-test .taken),
       c .before .before .put-spaced .kept .0 ∙ l .inv .3,

@@ -1,4 +1,5 @@
--- `grid::read::read_network` meets its contract: off the layout, refused for its shape, too little room, or read. Assumes nothing.
+-- `grid::read::read_network` meets its contract: off the layout, refused for its shape, too little room, or read.
+-- Assumes nothing.
 use mathlib.Core.Path.{_≡_, subst, sym, ap, _∙_}
 use native.Mathlib.Omega.{arith}
 use Rattle.grid.specs.Row.{levelsOf}
@@ -14,11 +15,13 @@ use Rattle.grid.proofs.read.read_network.Tie as tie
 
 -- the text is on its layout, and how it was judged
 file : (c : tie.After-known-told) → let g = c .before .frame .given .0 in
-    fileRead (c .before .before .before .before .before .before .before .args .text .now) (On (g .0) (g .1 .0) (g .1 .1 .0) (g .1 .1 .1 .0))
+    fileRead (c .before .before .before .before .before .before .before .args .text .now)
+    (On (g .0) (g .1 .0) (g .1 .1 .0) (g .1 .1 .1 .0))
 file c = subst (fileRead _) (c .before .frame .given .1) (c .before .before .before .judge .ensures)
 
 -- past the test of its shape
-none : (c : tie.Else1) → let g = c .before .before .before .frame .given .0 in shapeRefusal (g .0) (g .1 .1 .0) (g .1 .1 .1 .0) ≡ 0
+none : (c : tie.Else1) → let g = c .before .before .before .frame .given .0 in
+    shapeRefusal (g .0) (g .1 .1 .0) (g .1 .1 .1 .0) ≡ 0
 none c = sym (c .before .shape-refusal .ensures) ∙ c .if1 .left
 
 judge-requires : tie.Need-judge-requires
@@ -34,7 +37,8 @@ returns : tie.Need-returns
 returns c =
     let a = c .before .before .before .before .before .before .args in
     let f = subst (fileRead (a .text .now)) (c .enum-told .given .1) (c .before .before .judge .ensures) in
-    refused-outcome (a .text .now) (a .header .now) (a .levels .now) 17 (off-layout (a .text .now) _ _ _ (f .0) (f .1)) (λ z. omega arith)
+    refused-outcome (a .text .now) (a .header .now) (a .levels .now) 17
+    (off-layout (a .text .now) _ _ _ (f .0) (f .1)) (λ z. omega arith)
 
 shape-refusal-requires : tie.Need-shape-refusal-requires
 shape-refusal-requires c κs = search needs
@@ -46,7 +50,8 @@ returns-2 c =
     let a = start .args in
     let f = file at-known-told in
     refused-outcome (a .text .now) (a .header .now) (a .levels .now) (c .before .shape-refusal .result)
-    (shape-refused (a .text .now) _ _ _ _ (f .0) (f .1) _ _ (c .before .shape-refusal .result) (c .before .shape-refusal .ensures) (c .if1 .taken))
+    (shape-refused (a .text .now) _ _ _ _ (f .0) (f .1) _ _ (c .before .shape-refusal .result)
+    (c .before .shape-refusal .ensures) (c .if1 .taken))
     (c .if1 .taken)
 
 cast-columns : tie.Need-cast-columns
@@ -62,7 +67,8 @@ returns-3 c =
     let a = start .args in
     let f = file at-known-told in
     refused-outcome (a .text .now) (a .header .now) (a .levels .now) 14
-    (no-header (a .text .now) _ _ _ _ (f .0) (f .1) (none (c .before .before .before)) _ _ (omega (arith, c .if2 .taken)))
+    (no-header (a .text .now) _ _ _ _ (f .0) (f .1) (none (c .before .before .before)) _ _
+    (omega (arith, c .if2 .taken)))
     (λ z. omega arith)
 
 mul-if3 : tie.Need-mul-if3
@@ -77,7 +83,8 @@ returns-4 c =
     let a = start .args in
     let f = file at-known-told in
     refused-outcome (a .text .now) (a .header .now) (a .levels .now) 14
-    (no-levels (a .text .now) _ _ _ _ (f .0) (f .1) (none (c .before .before .before .before)) _ _ (omega (arith, c .before .if2 .left)) (c .if3 .taken))
+    (no-levels (a .text .now) _ _ _ _ (f .0) (f .1) (none (c .before .before .before .before)) _ _
+    (omega (arith, c .before .if2 .left)) (c .if3 .taken))
     (λ z. omega arith)
 
 store-frame-requires : tie.Need-store-frame-requires
@@ -107,7 +114,9 @@ returns-5 c =
     let start = at-known-told .before .before .before .before .before .before .before in
     let a = start .args in
     let f = file at-known-told in
-    let o = read-outcome (a .text .now) (a .header .now) (a .levels .now) (roomy-both (a .text .now) _ _ _ _ (f .0) (f .1) (none at-1) _ _ (omega (arith, at-if2 .if2 .left)) (at-if3 .if3 .left)) in (
+    let o = read-outcome (a .text .now) (a .header .now) (a .levels .now)
+    (roomy-both (a .text .now) _ _ _ _ (f .0) (f .1) (none at-1) _ _ (omega (arith, at-if2 .if2 .left))
+    (at-if3 .if3 .left)) in (
       o .0,
       at-store-frame .store-frame .ensures ∙ ap (λ x. front (numbersOf x) (a .header .now)) (f .1 .frame) ∙ o .1,
       c .before .before .store-rows .ensures ∙ ap (λ l. front (levelsOf l) (a .levels .now)) (f .1 .rows) ∙ o .2,

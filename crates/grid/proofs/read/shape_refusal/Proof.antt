@@ -16,7 +16,8 @@ is-sided-requires c κs = search needs
 returns-2 : tie.Need-returns-2
 returns-2 c =
     let fits = not-false (c .before .before .before .args .fits) (c .before .before .if1 .left) in
-    let out : sided (c .before .before .before .args .frame) ≡ false = sym (c .before .is-sided .ensures) ∙ not-true _ (c .if2 .taken) in
+    let out : sided (c .before .before .before .args .frame) ≡ false = sym (c .before .is-sided .ensures)
+    ∙ not-true _ (c .if2 .taken) in
     rw (fits, out)
 
 is-placed-requires : tie.Need-is-placed-requires
@@ -29,19 +30,22 @@ past c = (not-false _ (c .before .before .if1 .left), sym (c .before .is-sided .
 returns-3 : tie.Need-returns-3
 returns-3 c =
     let p = past (c .before .before) in
-    let out : placed (c .before .before .before .before .before .args .frame) ≡ false = sym (c .before .is-placed .ensures) ∙ not-true _ (c .if3 .taken) in
+    let out : placed (c .before .before .before .before .before .args .frame) ≡ false =
+    sym (c .before .is-placed .ensures) ∙ not-true _ (c .if3 .taken) in
     rw (p .0, p .1, out)
 
 returns-4 : tie.Need-returns-4
 returns-4 c =
     let p = past (c .before .before .before) in
-    let inside : placed (c .before .before .before .before .before .before .args .frame) ≡ true = sym (c .before .before .is-placed .ensures) ∙ not-false _ (c .before .if3 .left) in
+    let inside : placed (c .before .before .before .before .before .before .args .frame) ≡ true =
+    sym (c .before .before .is-placed .ensures) ∙ not-false _ (c .before .if3 .left) in
     rw (p .0, p .1, inside, c .if4 .taken)
 
 returns-5 : tie.Need-returns-5
 returns-5 c =
     let p = past (c .before .before .before) in
-    let inside : placed (c .before .before .before .before .before .before .args .frame) ≡ true = sym (c .before .before .is-placed .ensures) ∙ not-false _ (c .before .if3 .left) in
+    let inside : placed (c .before .before .before .before .before .before .args .frame) ≡ true =
+    sym (c .before .before .is-placed .ensures) ∙ not-false _ (c .before .if3 .left) in
     rw (p .0, p .1, inside, c .if4 .left)
 
 pub shape-refusal-spec : {M : Type 1} → statement M

@@ -1,7 +1,7 @@
 -- `grid::size::head_size` meets its contract. Assumes nothing.
 use Prim.Native.Nat.{_+_, _≤_}
 use native.Mathlib.Omega.{arith}
-use Rattle.grid.proofs.WriteLaws.{whole-most, head-length}
+use Rattle.grid.proofs.WriteSizes.{whole-most, head-length}
 use borrow.Author.Needs.{needs}
 use Rattle.grid.proofs.size.head_size.Statement.{statement}
 use Rattle.grid.proofs.size.head_size.Tie as tie
@@ -9,11 +9,24 @@ use Rattle.grid.proofs.size.head_size.Tie as tie
 -- each number has at most seven digits
 two : (c : tie.After-whole-size2) → c .before .whole-size .result + c .whole-size2 .result ≤ 14
 two c = let f = c .before .before in
-    omega (arith, c .before .whole-size .ensures, c .whole-size2 .ensures, whole-most (f .args .frame .columns) (f .pre .columns-most), whole-most (f .args .frame .rows) (f .pre .rows-most))
+    omega (
+      arith,
+      c .before .whole-size .ensures,
+      c .whole-size2 .ensures,
+      whole-most (f .args .frame .columns)
+          (f .pre .columns-most),
+      whole-most (f .args .frame .rows) (f .pre .rows-most),
+    )
 
 four : (c : tie.After-whole-size4) → c .before .whole-size3 .result + c .whole-size4 .result ≤ 14
 four c = let f = c .before .before .before .before in
-    omega (arith, c .before .whole-size3 .ensures, c .whole-size4 .ensures, whole-most (f .args .frame .west) (f .pre .west-most), whole-most (f .args .frame .south) (f .pre .south-most))
+    omega (
+      arith,
+      c .before .whole-size3 .ensures,
+      c .whole-size4 .ensures,
+      whole-most (f .args .frame .west) (f .pre .west-most),
+      whole-most (f .args .frame .south) (f .pre .south-most),
+    )
 
 whole-size-requires : tie.Need-whole-size-requires
 whole-size-requires c κs = search needs
@@ -45,11 +58,25 @@ whole-size-requires-5 c κs = search needs
 add-result-3 : tie.Need-add-result-3
 add-result-3 c =
     let f = c .before .before .before .before .before in
-    omega (arith, two (c .before .before .before), four (c .before), c .whole-size5 .ensures, whole-most (f .args .frame .spacing) (f .pre .spacing-most))
+    omega (
+      arith,
+      two (c .before .before .before),
+      four (c .before),
+      c .whole-size5 .ensures,
+      whole-most (f .args .frame .spacing) (f .pre .spacing-most),
+    )
 
 returns : tie.Need-returns
 returns c =
-    omega (arith, head-length (c .before .before .before .before .before .args .frame), c .before .before .before .before .whole-size .ensures, c .before .before .before .whole-size2 .ensures, c .before .before .whole-size3 .ensures, c .before .whole-size4 .ensures, c .whole-size5 .ensures)
+    omega (
+      arith,
+      head-length (c .before .before .before .before .before .args .frame),
+      c .before .before .before .before .whole-size .ensures,
+      c .before .before .before .whole-size2 .ensures,
+      c .before .before .whole-size3 .ensures,
+      c .before .whole-size4 .ensures,
+      c .whole-size5 .ensures,
+    )
 
 pub head-size-spec : {M : Type 1} → statement M
 head-size-spec =

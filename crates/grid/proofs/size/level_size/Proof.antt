@@ -1,6 +1,6 @@
 -- `grid::size::level_size` meets its contract. Assumes nothing.
 use mathlib.Core.Path.{sym}
-use Rattle.grid.proofs.WriteLaws.{level-four, level-five, level-six}
+use Rattle.grid.proofs.WriteSizes.{level-four, level-five, level-six}
 use Rattle.grid.proofs.size.level_size.Statement.{statement}
 use Rattle.grid.proofs.size.level_size.Tie as tie
 

@@ -1,4 +1,5 @@
--- `grid::size::levels_size` meets its contract. The invariant: what is added up, and what the rest adds. Assumes nothing.
+-- `grid::size::levels_size` meets its contract. The invariant: what is added up, and what the rest adds. Assumes
+-- nothing.
 use Prim.Native.Nat.{_+_, _-_, _*_, _≤_}
 use mathlib.Core.Path.{_≡_}
 use native.Mathlib.Omega.{arith}
@@ -6,12 +7,13 @@ use borrow.Author.Needs.{needs}
 use lib.ListN.{length, getD, drop}
 use Rattle.text.proofs.Shown.{level-most}
 use Rattle.grid.specs.InnerSteps.{sizesOf}
-use Rattle.grid.proofs.WriteLaws.{sizes-more, sizes-none}
+use Rattle.grid.proofs.WriteSizes.{sizes-more, sizes-none}
 use Rattle.grid.proofs.size.levels_size.Statement.{statement}
 use Rattle.grid.proofs.size.levels_size.Tie as tie
 
 abbrev Inv-loop : tie.InvT-loop
-Inv-loop levels total₀ i₀ total i = (total + sizesOf (drop i levels) ≡ sizesOf levels) × (total ≤ 7 * i) × (i ≤ length levels)
+Inv-loop levels total₀ i₀ total i = (total + sizesOf (drop i levels) ≡ sizesOf levels) × (total ≤ 7 * i)
+    × (i ≤ length levels)
 
 abbrev μ-loop : tie.MeasureT-loop
 μ-loop levels total₀ i₀ total i = length levels - i
@@ -29,21 +31,38 @@ level-size-requires : tie.Need-level-size-requires Inv-loop μ-loop
 level-size-requires c κs = c .before .before .before .before .pre .1 (c .before .before .loop .i)
 
 -- what one level adds
-added : (c : tie.After-level-size Inv-loop μ-loop) → let a = c .before .before .before .before .before .args in let l = c .before .before .before .loop in
-    (c .level-size .result ≤ 6) × (sizesOf (drop (l .i) (a .levels .now)) ≡ c .level-size .result + 1 + sizesOf (drop (l .i + 1) (a .levels .now)))
+added : (c : tie.After-level-size Inv-loop μ-loop) → let a = c .before .before .before .before .before .args in
+    let l = c .before .before .before .loop in
+    (c .level-size .result ≤ 6)
+    × (sizesOf (drop (l .i) (a .levels .now)) ≡ c .level-size .result + 1 + sizesOf
+    (drop (l .i + 1) (a .levels .now)))
 added c =
     let a = c .before .before .before .before .before .args in
     let l = c .before .before .before .loop in
-    let quiet = c .before .before .before .before .before .pre .1 (l .i) in
-    (omega (arith, c .level-size .ensures, level-most (getD (a .levels .now) (l .i) 0) (omega arith)), rw (c .level-size .ensures) (sizes-more (a .levels .now) (l .i) (c .before .before .loop-test .taken)))
+    let quiet = c .before .before .before .before .before .pre .1 (l .i) in (
+      omega (arith, c .level-size .ensures, level-most (getD (a .levels .now) (l .i) 0) (omega arith)),
+      rw (c .level-size .ensures) (sizes-more (a .levels .now) (l .i) (c .before .before .loop-test .taken)),
+    )
 
 add-total : tie.Need-add-total Inv-loop μ-loop
 add-total c =
-    omega (arith, added c .0, c .before .before .before .loop .inv .1, c .before .before .before .loop .inv .2, c .before .before .before .before .before .pre .0)
+    omega (
+      arith,
+      added c .0,
+      c .before .before .before .loop .inv .1,
+      c .before .before .before .loop .inv .2,
+      c .before .before .before .before .before .pre .0,
+    )
 
 add-total-2 : tie.Need-add-total-2 Inv-loop μ-loop
 add-total-2 c =
-    omega (arith, added c .0, c .before .before .before .loop .inv .1, c .before .before .before .loop .inv .2, c .before .before .before .before .before .pre .0)
+    omega (
+      arith,
+      added c .0,
+      c .before .before .before .loop .inv .1,
+      c .before .before .before .loop .inv .2,
+      c .before .before .before .before .before .pre .0,
+    )
 
 add-i : tie.Need-add-i Inv-loop μ-loop
 add-i c = omega (arith, c .before .before .loop-test .taken)
@@ -59,7 +78,12 @@ loop-again c =
 
 returns : tie.Need-returns Inv-loop μ-loop
 returns c =
-    omega (arith, c .before .loop .inv .0, sizes-none (c .before .before .before .args .levels .now) (c .before .loop .i) (c .loop-test .left))
+    omega (
+      arith,
+      c .before .loop .inv .0,
+      sizes-none (c .before .before .before .args .levels .now)
+          (c .before .loop .i) (c .loop-test .left),
+    )
 
 pub levels-size-spec : {M : Type 1} → statement M
 levels-size-spec =

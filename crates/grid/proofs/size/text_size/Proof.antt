@@ -1,6 +1,7 @@
 -- `grid::size::text_size` meets its contract. Assumes nothing.
 use Prim.Native.Nat.{_≤_}
-use Rattle.grid.proofs.WriteLaws.{near, network-size, head-most, levels-most, points-most}
+use Rattle.grid.proofs.WriteSizes.{near, network-size}
+use Rattle.grid.proofs.WriteLaws.{head-most, levels-most, points-most}
 use native.Mathlib.Omega.{arith}
 use borrow.Author.Needs.{needs}
 use Rattle.grid.proofs.size.text_size.Statement.{statement}
@@ -17,8 +18,10 @@ levels-size-requires c κs =
 -- the sizes are small
 most : (c : tie.After-levels-size) → (c .before .head-size .result ≤ 86) × (c .levels-size .result ≤ 458752)
 most c =
-    let s = c .before .before .before in
-    (omega (arith, c .before .head-size .ensures, head-most (s .args .frame) (near _ _ (s .pre))), omega (arith, c .levels-size .ensures, levels-most _ _ (s .pre)))
+    let s = c .before .before .before in (
+      omega (arith, c .before .head-size .ensures, head-most (s .args .frame) (near _ _ (s .pre))),
+      omega (arith, c .levels-size .ensures, levels-most _ _ (s .pre)),
+    )
 
 add-result : tie.Need-add-result
 add-result c = omega (arith, most c)
@@ -32,7 +35,12 @@ add-result-2 c = omega (arith, most (c .before), c .before .before .before .befo
 returns : tie.Need-returns
 returns c =
     let s = c .before .before .before .before in
-    omega (arith, network-size (s .args .levels .now) (s .args .frame) (s .pre), c .before .before .head-size .ensures, c .before .levels-size .ensures)
+    omega (
+      arith,
+      network-size (s .args .levels .now) (s .args .frame) (s .pre),
+      c .before .before .head-size .ensures,
+      c .before .levels-size .ensures,
+    )
 
 pub text-size-spec : {M : Type 1} → statement M
 text-size-spec =

@@ -1,4 +1,5 @@
--- `grid::size::whole_size` meets its contract. The invariant: a digit fewer is left for each one counted. Assumes nothing.
+-- `grid::size::whole_size` meets its contract. The invariant: a digit fewer is left for each one counted. Assumes
+-- nothing.
 use Prim.Native.Nat.{_+_, _≤_}
 use mathlib.Core.Path.{_≡_, refl, ap}
 use native.Mathlib.Omega.{arith}
@@ -19,15 +20,28 @@ loop-holds c = (refl, omega arith)
 
 add-size : tie.Need-add-size Inv-loop μ-loop
 add-size c =
-    omega (arith, c .before .loop .inv .0, shown-width 7 6 (c .before .before .args .n) (omega (arith, c .before .before .pre)), shown-least 6 (c .before .loop .left))
+    omega (
+      arith,
+      c .before .loop .inv .0,
+      shown-width 7 6 (c .before .before .args .n)
+          (omega (arith, c .before .before .pre)),
+      shown-least 6 (c .before .loop .left),
+    )
 
 loop-less : tie.Need-loop-less Inv-loop μ-loop
 loop-less c = omega (arith, c .loop-test .taken)
 
 loop-again : tie.Need-loop-again Inv-loop μ-loop
 loop-again c =
-    let l = c .before .loop in
-    (omega (arith, l .inv .0, whole-longer (l .left) (c .loop-test .taken) (omega (arith, l .inv .1, c .before .before .pre))), omega (arith, l .inv .1))
+    let l = c .before .loop in (
+      omega (
+        arith,
+        l .inv .0,
+        whole-longer (l .left) (c .loop-test .taken)
+            (omega (arith, l .inv .1, c .before .before .pre)),
+      ),
+      omega (arith, l .inv .1),
+    )
 
 returns : tie.Need-returns Inv-loop μ-loop
 returns c =

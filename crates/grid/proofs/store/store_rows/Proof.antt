@@ -1,4 +1,5 @@
--- `grid::store::store_rows` meets its contract. The invariant: what the rest of the rows still changes. Assumes nothing.
+-- `grid::store::store_rows` meets its contract. The invariant: what the rest of the rows still changes. Assumes
+-- nothing.
 use native.Mathlib.Nat.{mul-le-mul-right}
 use Prim.Native.Nat.{_+_, _-_, _*_, _≤_}
 use mathlib.Core.Path.{_≡_, refl, sym, ap, _∙_}
@@ -29,7 +30,8 @@ line-at-requires : tie.Need-line-at-requires Inv-loop μ-loop
 line-at-requires c κs = c .before .loop .inv .0 .inside
 
 -- this row is one of those left
-among : (c : tie.After-line-at Inv-loop μ-loop) → c .before .before .loop .row + 1 ≤ c .before .before .before .before .before .args .rows
+among : (c : tie.After-line-at Inv-loop μ-loop)
+    → c .before .before .loop .row + 1 ≤ c .before .before .before .before .before .args .rows
 among c = omega (arith, left-here _ _ _ _ (c .before .before .loop .inv .0) (c .before .loop-test .taken))
 
 add-row : tie.Need-add-row Inv-loop μ-loop
@@ -48,20 +50,30 @@ part-store-row-end : tie.Need-part-store-row-end Inv-loop μ-loop
 part-store-row-end c = c .before .line-at .ensures .within
 
 -- its place, and the room for its levels
-room : (c : tie.After-rows-south Inv-loop μ-loop) → c .rows-south .result * c .before .before .before .before .before .before .args .columns + c .before .before .before .before .before .before .args .columns ≤ length (c .before .before .before .loop .out)
+room : (c : tie.After-rows-south Inv-loop μ-loop)
+    → c .rows-south .result * c .before .before .before .before .before .before .args .columns + c .before .before
+    .before .before .before .before .args .columns ≤ length (c .before .before .before .loop .out)
 room c =
     let a = c .before .before .before .before .before .before in
     let kept = c .before .before .before .loop .inv .2 in
-    place-room (c .rows-south .result) (a .args .columns) (a .args .rows) (length (c .before .before .before .loop .out)) (omega (arith, c .rows-south .ensures, among (c .before))) (omega (arith, a .pre .1))
+    place-room (c .rows-south .result) (a .args .columns) (a .args .rows)
+    (length (c .before .before .before .loop .out)) (omega (arith, c .rows-south .ensures, among (c .before)))
+    (omega (arith, a .pre .1))
 
 mul-store-row : tie.Need-mul-store-row Inv-loop μ-loop
 mul-store-row c =
-    omega (arith, room (c .before .before), c .before .before .before .before .before .loop .inv .2, c .before .before .before .before .before .before .before .before .good .1 .1 .1 .1 .0 .0)
+    omega (
+      arith,
+      room (c .before .before),
+      c .before .before .before .before .before .loop .inv .2,
+      c .before .before .before .before .before .before .before .before .good .1 .1 .1 .1 .0 .0,
+    )
 
 store-row-requires : tie.Need-store-row-requires Inv-loop μ-loop
 store-row-requires c κs =
     let l = c .before .before .before .before .before .loop in
-    let n = ap (λ t. length (valuesOf t)) (c .before .before .before .line-at .ensures .line) ∙ values-here _ _ _ _ (l .inv .0) (c .before .before .before .before .loop-test .taken) in
+    let n = ap (λ t. length (valuesOf t)) (c .before .before .before .line-at .ensures .line)
+    ∙ values-here _ _ _ _ (l .inv .0) (c .before .before .before .before .loop-test .taken) in
     rw n (room (c .before .before))
 
 loop-less : tie.Need-loop-less Inv-loop μ-loop
@@ -86,12 +98,14 @@ loop-again c =
     let next = levelsOf (linesAt s (line .result .next)) in
     let one : a .args .rows - (l .row + 1) ≡ a .args .rows - l .row - 1 = omega arith in
     let place : a .args .rows - l .row - 1 ≡ south .result = omega (arith, south .ensures) in
-    let stored = c .before .before .store-row .ensures ∙ ap (λ t. put (l .out) (south .result * columns) (rowLevels t)) (line .ensures .line) in
+    let stored = c .before .before .store-row .ensures
+    ∙ ap (λ t. put (l .out) (south .result * columns) (rowLevels t)) (line .ensures .line) in
     let kept = c .before .before .store-row .kept .1 .0 in
     let fits = mul-le-mul-right {m = a .args .rows - l .row} {n = a .args .rows} columns (omega arith) in (
       rw one (rows-left _ _ _ _ (l .inv .0) h (line .result) (line .ensures)),
       l .inv .1
-          ∙ front-here _ _ _ _ (l .inv .0) h (line .result) (line .ensures) (l .out) (omega (arith, a .pre .1, l .inv .2))
+          ∙ front-here _ _ _ _ (l .inv .0) h (line .result) (line .ensures) (l .out)
+          (omega (arith, a .pre .1, l .inv .2))
           ∙ ap (λ n. front next (put (l .out) (n * columns) (rowLevels (lineFrom s (l .at))))) place
           ∙ ap (front next) (sym stored),
       kept ∙ l .inv .2,
@@ -103,7 +117,8 @@ same-length c = c .before .loop .inv .2
 returns : tie.Need-returns Inv-loop μ-loop
 returns c =
     let a = c .before .before .before .before .args in
-    sym (c .before .loop .inv .1 ∙ front-end (a .s .now) (c .before .loop .at) (c .before .loop .out) (c .loop-test .left))
+    sym (c .before .loop .inv .1
+    ∙ front-end (a .s .now) (c .before .loop .at) (c .before .loop .out) (c .loop-test .left))
 
 pub store-rows-spec : {M : Type 1} → statement M
 store-rows-spec =

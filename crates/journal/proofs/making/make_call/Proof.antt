@@ -1,7 +1,8 @@
 -- `journal::making::make_call` meets its contract: the first number says which call it is. Assumes nothing.
 use native.Mathlib.Omega.{arith}
 use borrow.Author.Needs.{needs}
-use Rattle.journal.proofs.Reading.{complete-two, complete-width, width-enter, width-supply, call-enter, call-supply, call-take-back, call-withdraw}
+use Rattle.journal.proofs.Reading.{complete-two, complete-width, width-enter, width-supply, call-enter}
+use Rattle.journal.proofs.Reading.{call-supply, call-take-back, call-withdraw}
 use Rattle.journal.proofs.making.make_call.Statement.{statement}
 use Rattle.journal.proofs.making.make_call.Tie as tie
 
@@ -18,8 +19,15 @@ shared-slice-read-identity c =
 enter-from-requires : tie.Need-enter-from-requires
 enter-from-requires c κs =
     let start : tie.Start = search in
-    let taken1 : tie.Then1 = search in
-    (start .pre .0, omega (arith, complete-width _ (start .pre .1) .1, width-enter (start .args .rest .now) (taken1 .if1 .taken)))
+    let taken1 : tie.Then1 = search in (
+      start .pre .0,
+      omega (
+        arith,
+        complete-width _ (start .pre .1) .1,
+        width-enter (start .args .rest .now)
+            (taken1 .if1 .taken),
+      ),
+    )
 
 returns : tie.Need-returns
 returns c =
@@ -30,8 +38,15 @@ returns c =
 supply-from-requires : tie.Need-supply-from-requires
 supply-from-requires c κs =
     let start : tie.Start = search in
-    let taken2 : tie.Then2 = search in
-    (start .pre .0, omega (arith, complete-width _ (start .pre .1) .1, width-supply (start .args .rest .now) (taken2 .if2 .taken)))
+    let taken2 : tie.Then2 = search in (
+      start .pre .0,
+      omega (
+        arith,
+        complete-width _ (start .pre .1) .1,
+        width-supply (start .args .rest .now)
+            (taken2 .if2 .taken),
+      ),
+    )
 
 returns-2 : tie.Need-returns-2
 returns-2 c =

@@ -12,7 +12,9 @@ use Rattle.journal.proofs.numbers.count_calls.Tie as tie
 
 abbrev Inv-loop : tie.InvT-loop
 Inv-loop journal at₀ count₀ at count =
-    (at ≤ length journal) × ((count ≤ at) × ((laidOut (drop at journal) ≡ true) × (length (callsOf journal) ≡ count + length (callsOf (drop at journal)))))
+    (at ≤ length journal) × ((count ≤ at)
+    × ((laidOut (drop at journal) ≡ true)
+    × (length (callsOf journal) ≡ count + length (callsOf (drop at journal)))))
 
 abbrev μ-loop : tie.MeasureT-loop
 μ-loop journal at₀ count₀ at count = length journal - at
@@ -33,7 +35,8 @@ head c = search
 step : (c : tie.After-width-of Inv-loop μ-loop)
     → Step (start c .args .journal .now) (head c .loop .at) (c .width-of .result)
 step c =
-    step-laid _ _ _ (c .width-of .ensures) (c .before .before .loop-test .taken) (c .before .before .before .loop .inv .1 .1 .0)
+    step-laid _ _ _ (c .width-of .ensures) (c .before .before .loop-test .taken)
+    (c .before .before .before .loop .inv .1 .1 .0)
 
 add-at : tie.Need-add-at Inv-loop μ-loop
 add-at c = let s = step c .fits in omega arith

@@ -21,13 +21,16 @@ mul-width-of c = let g = c .before .before .before .good in omega arith
 
 returns : tie.Need-returns Inv-loop μ-loop
 returns c =
-    sym (c .before .before .before .before .loop .inv .1 ∙ laid-cut _ _ _ (c .before .width-of .ensures) (c .before .before .before .loop-test .taken) (inl (c .if1 .taken)))
+    sym (c .before .before .before .before .loop .inv .1
+    ∙ laid-cut _ _ _ (c .before .width-of .ensures) (c .before .before .before .loop-test .taken)
+    (inl (c .if1 .taken)))
 
 returns-2 : tie.Need-returns-2 Inv-loop μ-loop
 returns-2 c =
     let head : tie.At-loop Inv-loop μ-loop = search in
     let turn : tie.In-loop Inv-loop μ-loop = search in
-    sym (head .loop .inv .1 ∙ laid-cut _ _ _ (c .before .before .width-of .ensures) (turn .loop-test .taken) (inr (c .if2 .taken)))
+    sym (head .loop .inv .1 ∙ laid-cut _ _ _ (c .before .before .width-of .ensures) (turn .loop-test .taken)
+    (inr (c .if2 .taken)))
 
 -- the places that the facts below look back to
 abbrev start : tie.Else2 Inv-loop μ-loop → tie.Start Inv-loop μ-loop
@@ -40,7 +43,8 @@ head c = search
 step : (c : tie.Else2 Inv-loop μ-loop)
     → Step (start c .args .journal .now) (head c .loop .at) (c .before .before .width-of .result)
 step c =
-    step-tested _ _ _ (c .before .before .width-of .ensures) (c .before .before .before .before .loop-test .taken) (c .before .if1 .left) (c .if2 .left)
+    step-tested _ _ _ (c .before .before .width-of .ensures) (c .before .before .before .before .loop-test .taken)
+    (c .before .if1 .left) (c .if2 .left)
 
 add-at : tie.Need-add-at Inv-loop μ-loop
 add-at c = let s = step c .fits in omega arith

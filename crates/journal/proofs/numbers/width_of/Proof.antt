@@ -23,7 +23,9 @@ returns-4 c = sym (width-withdraw _ (sym (c .before .before .before .before .num
 returns-5 : tie.Need-returns-5
 returns-5 c =
     let said = c .before .before .before .before .number-at .ensures in
-    sym (width-none _ (λ e. c .before .before .before .if1 .left (said ∙ e)) (λ e. c .before .before .if2 .left (said ∙ e)) (λ e. c .before .if3 .left (said ∙ e)) (λ e. c .if4 .left (said ∙ e)))
+    sym (width-none _ (λ e. c .before .before .before .if1 .left (said ∙ e))
+    (λ e. c .before .before .if2 .left (said ∙ e)) (λ e. c .before .if3 .left (said ∙ e))
+    (λ e. c .if4 .left (said ∙ e)))
 
 pub width-of-spec : {M : Type 1} → statement M
 width-of-spec =

@@ -30,14 +30,20 @@ of-powers s q h = s .pre .2 q h
 mul-result-3 : tie.Need-mul-result-3
 mul-result-3 c =
     let s = c .before .before .before in
-    record { fits = rw (of-b s, of-powers s (s .args .n / 1000) (omega arith)) (fits (s .args .n % 1000) (10 ^ (s .args .n / 1000)) (omega arith) (pow-le-pow-right (lit< tt) {j = 10} (omega arith))) }
+    record {
+      fits = rw (of-b s, of-powers s (s .args .n / 1000) (omega arith))
+          (fits (s .args .n % 1000) (10 ^ (s .args .n / 1000)) (omega arith)
+          (pow-le-pow-right (lit< tt) {j = 10} (omega arith)));
+    }
 
 mul-result-6 : tie.Need-mul-result-6
 mul-result-6 c =
     let s = c .before .before .before in
     record {
       fits =
-          rw (of-b s, of-powers s (s .args .n / 1000) (omega arith)) (fits (s .args .n % 1000) (10 ^ (s .args .n / 1000) / 1000) (omega arith) (thousandth-le (s .args .n / 1000) 10 (omega arith)));
+          rw (of-b s, of-powers s (s .args .n / 1000) (omega arith))
+          (fits (s .args .n % 1000) (10 ^ (s .args .n / 1000) / 1000) (omega arith)
+          (thousandth-le (s .args .n / 1000) 10 (omega arith)));
     }
 
 returns : tie.Need-returns
@@ -48,7 +54,8 @@ returns-2 : tie.Need-returns-2
 unfolding bound
 returns-2 c =
     let s = c .before .before .before in
-    rw (of-b s, of-powers s (s .args .n / 1000) (omega arith)) (sym (thousand-out (tableB (s .args .n % 1000)) (s .args .n / 1000) (omega arith)))
+    rw (of-b s, of-powers s (s .args .n / 1000) (omega arith))
+    (sym (thousand-out (tableB (s .args .n % 1000)) (s .args .n / 1000) (omega arith)))
 
 pub bound-at-spec : {M : Type 1} → statement M
 bound-at-spec =

@@ -12,4 +12,5 @@ returns c = rw (lt-ltb _ _ (c .if1 .taken))
 
 pub level-of-spec : {M : Type 1} → statement M
 level-of-spec =
-    tie.close (tie.spec returns (λ c κs. search needs) (λ c κs. search needs) (λ c κs. search needs) (λ c. search needs))
+    tie.close (tie.spec returns (λ c κs. search needs) (λ c κs. search needs) (λ c κs. search needs)
+    (λ c. search needs))

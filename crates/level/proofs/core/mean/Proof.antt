@@ -1,4 +1,5 @@
--- `level::core::mean` meets its contract: 1000·total / (86,400·days) is 5·total / 432 / days, and 5·total / 432 fits.
+-- `level::core::mean` meets its contract: 1000·total / (86,400·days) is 5·total / 432 / days, and 5·total / 432
+-- fits.
 -- Assumes nothing.
 use mathlib.Core.Path.{ap, _∙_}
 use Prim.Native.Nat.{ℕ, _/_}

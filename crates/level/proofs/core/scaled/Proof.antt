@@ -14,7 +14,8 @@ mul-rest c = record { fits = rest-fits (c .args .s) (c .args .n) (c .args .d) (c
 
 -- the sum of both parts
 sum : (c : tie.Start)
-    → c .args .s * c .args .n / c .args .d ≡ c .args .s / c .args .d * c .args .n + c .args .s % c .args .d * c .args .n / c .args .d
+    → c .args .s * c .args .n / c .args .d ≡ c .args .s / c .args .d * c .args .n + c .args .s % c .args .d * c
+    .args .n / c .args .d
 sum c = by-parts (c .args .s) (c .args .n) (c .args .d) (c .pre .0)
 
 mul-result : tie.Need-mul-result

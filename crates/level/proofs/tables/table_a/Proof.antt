@@ -13,7 +13,8 @@ use Rattle.level.proofs.tables.table_a.Lts as lts
 returns : tie.Need-returns
 unfolding tableA
 returns c =
-    λ k h. roots-at 25 40 (10 ^ 130) (lit< tt) (λ i. 10 ^ (800 + i)) (lts.m2 reads.Pre reads.Post (c .args) .0) (lit< tt) tt k h
+    λ k h. roots-at 25 40 (10 ^ 130) (lit< tt) (λ i. 10 ^ (800 + i)) (lts.m2 reads.Pre reads.Post (c .args) .0)
+    (lit< tt) tt k h
     ∙ ap (largestRoot 1000) (shift 800 5200 k)
 
 pub table-a-spec : {M : Type 1} → statement M

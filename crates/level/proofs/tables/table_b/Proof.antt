@@ -14,7 +14,8 @@ use Rattle.level.proofs.tables.table_b.Lts as lts
 returns : tie.Need-returns
 unfolding tableB
 returns c =
-    λ k h. roots-at 50 40 (10 ^ 280) (lit< tt) (λ i. 10 ^ (801 + 2 * i)) (lts.m2 reads.Pre reads.Post (c .args) .0) (lit< tt) tt k h
+    λ k h. roots-at 50 40 (10 ^ 280) (lit< tt) (λ i. 10 ^ (801 + 2 * i))
+    (lts.m2 reads.Pre reads.Post (c .args) .0) (lit< tt) tt k h
     ∙ ap (largestRoot 2000) (shift 801 11200 (2 * k) ∙ ap (λ (n : ℕ). 10 ^ n) (omega arith))
 
 pub table-b-spec : {M : Type 1} → statement M

@@ -21,12 +21,20 @@ add-scaled : tie.Need-add-scaled
 add-scaled c =
     let s = c .before .before .before in
     let g = s .args .c in
-    omega (arith, c .before .scaled-by .ensures, scaled-by-le (g .energy) (g .computed + g .missing) (g .computed) (scalable s), s .pre .scaled, s .pre .movements)
+    omega (
+      arith,
+      c .before .scaled-by .ensures,
+      scaled-by-le (g .energy) (g .computed + g .missing) (g .computed)
+          (scalable s),
+      s .pre .scaled,
+      s .pre .movements,
+    )
 
 returns : tie.Need-returns
 unfolding addedTo scaledEnergy known unknown
 returns c =
-    rw (c .before .before .before .before .scaled-by .ensures, eq-eqb _ _ (c .before .before .if1 .taken)) (simp add-zero)
+    rw (c .before .before .before .before .scaled-by .ensures, eq-eqb _ _ (c .before .before .if1 .taken))
+    (simp add-zero)
 
 returns-2 : tie.Need-returns-2
 unfolding addedTo scaledEnergy known unknown
@@ -34,4 +42,5 @@ returns-2 c = rw (c .before .before .before .scaled-by .ensures, ne-eqb _ _ (c .
 
 pub added-to-spec : {M : Type 1} → statement M
 added-to-spec =
-    tie.close (tie.spec (λ c. search needs) (λ c κs. search needs) add-scaled (λ c. search needs) returns (λ c. search needs) returns-2)
+    tie.close (tie.spec (λ c. search needs) (λ c κs. search needs) add-scaled (λ c. search needs) returns
+    (λ c. search needs) returns-2)

@@ -17,8 +17,14 @@ returns c =
 
 scaled-requires : tie.Need-scaled-requires
 scaled-requires c κs =
-    let a = c .before .args in
-    (omega arith, omega (arith, scaled-le (a .energy) (a .upper) (a .lower) maxEnergy (c .before .pre .energy), c .before .pre .movements))
+    let a = c .before .args in (
+      omega arith,
+      omega (
+        arith,
+        scaled-le (a .energy) (a .upper) (a .lower) maxEnergy (c .before .pre .energy),
+        c .before .pre .movements,
+      ),
+    )
 
 returns-2 : tie.Need-returns-2
 unfolding scaledBy

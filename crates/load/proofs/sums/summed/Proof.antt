@@ -24,12 +24,16 @@ loop-holds c = (omega arith, refl)
 added-to-requires : tie.Need-added-to-requires Inv-loop μ-loop
 added-to-requires c κs =
     rw (c .group-at .ensures, c .before .before .loop .inv .1)
-    (fits-next (c .before .before .before .args .groups) (c .before .before .before .pre) (c .before .before .loop .g) (omega arith))
+    (fits-next (c .before .before .before .args .groups) (c .before .before .before .pre)
+    (c .before .before .loop .g) (omega arith))
 
 loop-again : tie.Need-loop-again Inv-loop μ-loop
 unfolding sumsOf sumTo addedTo
-loop-again c =
-    (omega arith, rw (add-one, ← c .before .group-at .ensures) (c .added-to .ensures ∙ ap (λ t. addedTo t (c .before .group-at .result)) (c .before .before .before .loop .inv .1)))
+loop-again c = (
+  omega arith,
+  rw (add-one, ← c .before .group-at .ensures) (c .added-to .ensures
+      ∙ ap (λ t. addedTo t (c .before .group-at .result)) (c .before .before .before .loop .inv .1)),
+)
 
 returns : tie.Need-returns Inv-loop μ-loop
 returns c =

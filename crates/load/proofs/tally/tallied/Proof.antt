@@ -32,7 +32,8 @@ book s = bookNow (s .args .ids) (s .args .groups) (s .args .marks) (s .args .lev
 row : (c : tie.In-loop Inv-loop μ-loop)
     → Row (entry c .args .points) (entry c .args .point) (book (entry c)) (c .before .loop .i)
 row c =
-    row-at (entry c .args .points) (entry c .args .point) (book (entry c)) (entry c .pre .1 .0) (entry c .pre .1 .1) (c .before .loop .i) (c .loop-test .taken)
+    row-at (entry c .args .points) (entry c .args .point) (book (entry c)) (entry c .pre .1 .0) (entry c .pre .1 .1)
+    (c .before .loop .i) (c .loop-test .taken)
 
 loop-holds : tie.Need-loop-holds Inv-loop μ-loop
 unfolding sharesTo
@@ -66,8 +67,14 @@ with-row-requires : tie.Need-with-row-requires Inv-loop μ-loop
 unfolding groupAt
 with-row-requires c κs =
     let d : tie.In-loop Inv-loop μ-loop = search in
-    let g = getD (entry d .args .groups .now) (d .before .loop .i) 0 in
-    ((subst (λ cs. RoomForOne (groupAt cs g)) (sym (d .before .loop .inv .1)) (row d .room), row d .group<, row d .level≤), entry d .pre .0 .1)
+    let g = getD (entry d .args .groups .now) (d .before .loop .i) 0 in (
+      (
+        subst (λ cs. RoomForOne (groupAt cs g)) (sym (d .before .loop .inv .1)) (row d .room),
+        row d .group<,
+        row d .level≤,
+      ),
+      entry d .pre .0 .1,
+    )
 
 -- the turn that stores
 abbrev turn : tie.After-with-row Inv-loop μ-loop → tie.In-loop Inv-loop μ-loop
@@ -79,7 +86,9 @@ loop-again c =
     let d = turn c in
     let s = entry d in (
       omega arith,
-      row-next (s .args .points) (s .args .point) (book s) (s .pre .1 .0) (s .pre .1 .1) (d .before .loop .i) (d .loop-test .taken) (d .before .loop .cells) (c .with-row .result) (d .before .loop .inv .1) (c .with-row .ensures),
+      row-next (s .args .points) (s .args .point) (book s) (s .pre .1 .0) (s .pre .1 .1) (d .before .loop .i)
+          (d .loop-test .taken) (d .before .loop .cells) (c .with-row .result) (d .before .loop .inv .1)
+          (c .with-row .ensures),
     )
 
 returns : tie.Need-returns Inv-loop μ-loop

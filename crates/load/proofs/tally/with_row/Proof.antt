@@ -20,10 +20,12 @@ returns c =
 returns-2 : tie.Need-returns-2
 returns-2 c =
     let a = c .before .before .before .args in
-    row-missing (a .seen) (a .identity) (a .group) (a .mark) (a .level) (c .before .before .if1 .left) (c .before .if2 .taken)
+    row-missing (a .seen) (a .identity) (a .group) (a .mark) (a .level) (c .before .before .if1 .left)
+    (c .before .if2 .taken)
 
 -- the weighted level is in range
-weighted : (c : tie.After-group-weight) → c .before .before .before .args .level + c .group-weight .result ≤ maxWeighted
+weighted : (c : tie.After-group-weight)
+    → c .before .before .before .args .level + c .group-weight .result ≤ maxWeighted
 weighted c =
     let s = c .before .before .before in
     rw (c .group-weight .ensures) (weighted-le _ (s .args .level) (s .pre .0 .2))
@@ -35,7 +37,8 @@ energy-requires : tie.Need-energy-requires
 energy-requires c κs = let t = c .before .before .before .pre .1 in (weighted c, t .table-a, t .powers-of-ten)
 
 known-energy : (c : tie.After-energy)
-    → c .energy .result ≡ energyIn (c .before .before .before .before .args .group) (c .before .before .before .before .args .level)
+    → c .energy .result ≡ energyIn (c .before .before .before .before .args .group)
+    (c .before .before .before .before .args .level)
 unfolding energyIn
 known-energy c =
     c .energy .ensures
@@ -44,7 +47,13 @@ known-energy c =
 add-t13 : tie.Need-add-t13
 add-t13 c =
     let s : tie.Start = search in
-    omega (arith, known-energy (c .before .before), energy-in-small (s .args .group) (s .args .level) (s .pre .0 .2), s .pre .0 .0 .energy)
+    omega (
+      arith,
+      known-energy (c .before .before),
+      energy-in-small (s .args .group) (s .args .level)
+          (s .pre .0 .2),
+      s .pre .0 .0 .energy,
+    )
 
 returns-3 : tie.Need-returns-3
 returns-3 c =
@@ -52,7 +61,8 @@ returns-3 c =
     let left1 : tie.Else1 = search in
     let left2 : tie.Else2 = search in
     let a = start .args in
-    row-computed (a .seen) (a .identity) (a .group) (a .mark) (a .level) (c .before .before .energy .result) (left1 .if1 .left) (left2 .if2 .left) (known-energy (c .before .before))
+    row-computed (a .seen) (a .identity) (a .group) (a .mark) (a .level) (c .before .before .energy .result)
+    (left1 .if1 .left) (left2 .if2 .left) (known-energy (c .before .before))
 
 pub with-row-spec : {M : Type 1} → statement M
 with-row-spec =

@@ -33,7 +33,8 @@ level-requires-2 c κs =
 along-requires : tie.Need-along-requires
 along-requires c κs =
     let s = c .before .before .before .before .before .before in
-    let x = subst (λ (e : Edge). crossedEdge (now (s .args .levels)) (s .args .nx) (s .args .v) e ≡ true) (c .before .before .before .e .given .1) (s .pre .1 .1) in
+    let x = subst (λ (e : Edge). crossedEdge (now (s .args .levels)) (s .args .nx) (s .args .v) e ≡ true)
+    (c .before .before .before .e .given .1) (s .pre .1 .1) in
     rw (c .before .level .ensures, c .level2 .ensures) (astride (s .args .v) _ _ x)
 
 level-requires-3 : tie.Need-level-requires-3
@@ -57,14 +58,17 @@ level-requires-4 c κs =
 along-requires-2 : tie.Need-along-requires-2
 along-requires-2 c κs =
     let s = c .before .before .before .before .before .before in
-    let x = subst (λ (e : Edge). crossedEdge (now (s .args .levels)) (s .args .nx) (s .args .v) e ≡ true) (c .before .before .before .e2 .given .1) (s .pre .1 .1) in
+    let x = subst (λ (e : Edge). crossedEdge (now (s .args .levels)) (s .args .nx) (s .args .v) e ≡ true)
+    (c .before .before .before .e2 .given .1) (s .pre .1 .1) in
     rw (c .before .level3 .ensures, c .level4 .ensures) (astride (s .args .v) _ _ x)
 
 returns : tie.Need-returns
-returns c = rw (c .before .before .before .before .e .given .1) (ap AlongHorizontal (c .along .ensures ∙ rw (c .before .before .level .ensures, c .before .level2 .ensures)))
+returns c = rw (c .before .before .before .before .e .given .1)
+    (ap AlongHorizontal (c .along .ensures ∙ rw (c .before .before .level .ensures, c .before .level2 .ensures)))
 
 returns-2 : tie.Need-returns-2
-returns-2 c = rw (c .before .before .before .before .e2 .given .1) (ap AlongVertical (c .along2 .ensures ∙ rw (c .before .before .level3 .ensures, c .before .level4 .ensures)))
+returns-2 c = rw (c .before .before .before .before .e2 .given .1)
+    (ap AlongVertical (c .along2 .ensures ∙ rw (c .before .before .level3 .ensures, c .before .level4 .ensures)))
 
 pub along-edge-spec : {M : Type 1} → statement M
 along-edge-spec =

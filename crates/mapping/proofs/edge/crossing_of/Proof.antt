@@ -26,14 +26,21 @@ along-edge-requires c κs =
     let e = sym (c .edge-at .ensures) in (
       s .pre .sized,
       (
-        subst (WithinEdge (a .frame .columns) (a .frame .rows)) e (edge-within (a .frame .columns) (a .frame .rows) (s .pre .sized .sides .wide) (a .n) (inside (c .before .before .before))),
-        subst (λ (e : Edge). crossedEdge (now (a .levels)) (a .frame .columns) (a .v) e ≡ true) e (sym (c .before .before .crossed-at .ensures) ∙ c .before .if2 .taken),
+        subst (WithinEdge (a .frame .columns) (a .frame .rows)) e
+            (edge-within (a .frame .columns) (a .frame .rows) (s .pre .sized .sides .wide) (a .n)
+            (inside (c .before .before .before))),
+        subst (λ (e : Edge). crossedEdge (now (a .levels)) (a .frame .columns) (a .v) e ≡ true) e
+            (sym (c .before .before .crossed-at .ensures) ∙ c .before .if2 .taken),
       ),
     )
 
 returns : tie.Need-returns
 returns c =
-    rw (lt-ltb _ _ (inside (c .before .before .before .before)), sym (c .before .before .before .crossed-at .ensures) ∙ c .before .before .if2 .taken) (c .along-edge .ensures ∙ rw (c .before .edge-at .ensures))
+    rw (
+      lt-ltb _ _ (inside (c .before .before .before .before)),
+      sym (c .before .before .before .crossed-at .ensures) ∙ c .before .before .if2 .taken,
+    )
+    (c .along-edge .ensures ∙ rw (c .before .edge-at .ensures))
 
 returns-2 : tie.Need-returns-2
 returns-2 c = rw (lt-ltb _ _ (inside (c .before .before)), sym (c .before .crossed-at .ensures) ∙ c .if2 .left)
@@ -41,7 +48,8 @@ returns-2 c = rw (lt-ltb _ _ (inside (c .before .before)), sym (c .before .cross
 returns-3 : tie.Need-returns-3
 returns-3 c =
     let a = start (c .before) .args in
-    rw (le-ltb (a .n) (edges (a .frame .columns) (a .frame .rows)) (omega (arith, c .if1 .left, c .before .edge-count .ensures)))
+    rw (le-ltb (a .n) (edges (a .frame .columns) (a .frame .rows))
+    (omega (arith, c .if1 .left, c .before .edge-count .ensures)))
 
 pub crossing-of-spec : {M : Type 1} → statement M
 crossing-of-spec =

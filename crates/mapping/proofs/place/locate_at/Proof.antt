@@ -21,7 +21,8 @@ small c =
     let f = s .args .frame in
     ends-small (c .edge-at .result) (s .pre .sized .sides)
     (subst (WithinEdge (f .columns) (f .rows)) (sym (c .edge-at .ensures))
-    (edge-within (f .columns) (f .rows) (s .pre .sized .sides .wide) (s .args .n) (omega (arith, c .before .before .if1 .taken, c .before .before .before .edge-count .ensures))))
+    (edge-within (f .columns) (f .rows) (s .pre .sized .sides .wide) (s .args .n)
+    (omega (arith, c .before .before .if1 .taken, c .before .before .before .edge-count .ensures))))
 
 cast-row : tie.Need-cast-row
 cast-row c = omega (arith, c .row-of .ensures, small (c .before) .0)
@@ -31,17 +32,29 @@ cast-col c = omega (arith, c .col-of .ensures, small (c .before .before) .1)
 
 locate-crossing-requires : tie.Need-locate-crossing-requires
 locate-crossing-requires c κs =
-    let s = start (c .before .before .before .before .before) in
-    ((omega (arith, c .before .row-of .ensures, small (c .before .before) .0), omega (arith, c .col-of .ensures, small (c .before .before) .1)), (s .pre .near, (s .pre .west, s .pre .south)))
+    let s = start (c .before .before .before .before .before) in (
+      (
+        omega (arith, c .before .row-of .ensures, small (c .before .before) .0),
+        omega (arith, c .col-of .ensures, small (c .before .before) .1),
+      ),
+      (s .pre .near, (s .pre .west, s .pre .south)),
+    )
 
 returns : tie.Need-returns
 returns c =
-    c .locate-crossing .ensures ∙ rw (c .before .before .before .before .crossing-of .ensures, c .before .before .row-of .ensures, c .before .col-of .ensures, c .before .before .before .edge-at .ensures)
+    c .locate-crossing .ensures
+    ∙ rw (
+      c .before .before .before .before .crossing-of .ensures,
+      c .before .before .row-of .ensures,
+      c .before .col-of .ensures,
+      c .before .before .before .edge-at .ensures,
+    )
 
 returns-2 : tie.Need-returns-2
 returns-2 c =
     let a = start (c .before) .args in
-    rw (le-ltb (a .n) (edges (a .frame .columns) (a .frame .rows)) (omega (arith, c .if1 .left, c .before .edge-count .ensures)))
+    rw (le-ltb (a .n) (edges (a .frame .columns) (a .frame .rows))
+    (omega (arith, c .if1 .left, c .before .edge-count .ensures)))
 
 pub locate-at-spec : {M : Type 1} → statement M
 locate-at-spec =

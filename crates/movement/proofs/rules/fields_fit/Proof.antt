@@ -24,7 +24,12 @@ returns-3 c =
 returns-4 : tie.Need-returns-4
 unfolding fieldsFit
 returns-4 c =
-    simp (lt-ltb _ _ (c .before .before .before .if1 .left), lt-ltb _ _ (c .before .before .if2 .left), lt-ltb _ _ (c .before .if3 .left), lt-leb _ _ (c .if4 .taken))
+    simp (
+      lt-ltb _ _ (c .before .before .before .if1 .left),
+      lt-ltb _ _ (c .before .before .if2 .left),
+      lt-ltb _ _ (c .before .if3 .left),
+      lt-leb _ _ (c .if4 .taken),
+    )
 
 returns-5 : tie.Need-returns-5
 unfolding fieldsFit
@@ -32,7 +37,12 @@ returns-5 c =
     let e = c .before .before in
     c .takes .ensures
     ∙ rw (c .before .numbered .ensures)
-    (simp (lt-ltb _ _ (e .before .before .before .if1 .left), lt-ltb _ _ (e .before .before .if2 .left), lt-ltb _ _ (e .before .if3 .left), le-leb _ _ (e .if4 .left)))
+    (simp (
+      lt-ltb _ _ (e .before .before .before .if1 .left),
+      lt-ltb _ _ (e .before .before .if2 .left),
+      lt-ltb _ _ (e .before .if3 .left),
+      le-leb _ _ (e .if4 .left),
+    ))
 
 pub fields-fit-spec : {M : Type 1} → statement M
 fields-fit-spec =

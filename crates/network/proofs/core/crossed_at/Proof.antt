@@ -10,7 +10,8 @@ use Rattle.network.proofs.core.crossed_at.Tie as tie
 crossed-edge-requires : tie.Need-crossed-edge-requires
 crossed-edge-requires c κs =
     let s = c .before .before in
-    let w = subst (WithinEdge (s .args .nx) (s .args .ny)) (sym (c .edge-at .ensures)) (edge-within (s .args .nx) (s .args .ny) (s .pre .0 .sides .wide) (s .args .n) (s .pre .1)) in
+    let w = subst (WithinEdge (s .args .nx) (s .args .ny)) (sym (c .edge-at .ensures))
+    (edge-within (s .args .nx) (s .args .ny) (s .pre .0 .sides .wide) (s .args .n) (s .pre .1)) in
     (s .pre .0, w)
 
 returns : tie.Need-returns

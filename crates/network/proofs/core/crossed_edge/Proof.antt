@@ -41,10 +41,12 @@ inside-requires-4 c κs =
     (s .pre .0, subst (WithinEdge (s .args .nx) (s .args .ny)) (c .before .before .e2 .given .1) (s .pre .1))
 
 returns : tie.Need-returns
-returns c = rw (c .before .before .before .before .e .given .1) (c .differ .ensures ∙ rw (c .before .before .inside .ensures, c .before .inside2 .ensures))
+returns c = rw (c .before .before .before .before .e .given .1) (c .differ .ensures
+    ∙ rw (c .before .before .inside .ensures, c .before .inside2 .ensures))
 
 returns-2 : tie.Need-returns-2
-returns-2 c = rw (c .before .before .before .before .e2 .given .1) (c .differ2 .ensures ∙ rw (c .before .before .inside3 .ensures, c .before .inside4 .ensures))
+returns-2 c = rw (c .before .before .before .before .e2 .given .1) (c .differ2 .ensures
+    ∙ rw (c .before .before .inside3 .ensures, c .before .inside4 .ensures))
 
 pub crossed-edge-spec : {M : Type 1} → statement M
 crossed-edge-spec =

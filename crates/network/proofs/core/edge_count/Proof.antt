@@ -16,4 +16,5 @@ add-result c = omega (arith, edges-le (c .args .nx) (c .args .ny) (c .pre .narro
 
 pub edge-count-spec : {M : Type 1} → statement M
 edge-count-spec =
-    tie.close (tie.spec (λ c. search needs) mul-result (λ c. search needs) mul-result-2 add-result (λ c. search needs))
+    tie.close (tie.spec (λ c. search needs) mul-result (λ c. search needs) mul-result-2 add-result
+    (λ c. search needs))

@@ -10,15 +10,19 @@ use borrow.Author.Needs.{needs}
 use Rattle.network.proofs.core.number_of.Statement.{statement}
 use Rattle.network.proofs.core.number_of.Tie as tie
 
-small : (c : tie.After-known-told) → let a = c .before .before .before .args in numberOf (a .nx) (a .ny) (Horizontal (c .before .e .given .0 .0) (c .before .e .given .0 .1 .0)) < maxEdges
+small : (c : tie.After-known-told) → let a = c .before .before .before .args in
+    numberOf (a .nx) (a .ny) (Horizontal (c .before .e .given .0 .0) (c .before .e .given .0 .1 .0)) < maxEdges
 small c =
     let s = c .before .before .before in
-    number-small (Horizontal (c .before .e .given .0 .0) (c .before .e .given .0 .1 .0)) (s .pre .0) (subst (WithinEdge (s .args .nx) (s .args .ny)) (c .before .e .given .1) (s .pre .1))
+    number-small (Horizontal (c .before .e .given .0 .0) (c .before .e .given .0 .1 .0)) (s .pre .0)
+    (subst (WithinEdge (s .args .nx) (s .args .ny)) (c .before .e .given .1) (s .pre .1))
 
-small-2 : (c : tie.After-known-told2) → let a = c .before .before .before .args in numberOf (a .nx) (a .ny) (Vertical (c .before .e2 .given .0 .0) (c .before .e2 .given .0 .1 .0)) < maxEdges
+small-2 : (c : tie.After-known-told2) → let a = c .before .before .before .args in
+    numberOf (a .nx) (a .ny) (Vertical (c .before .e2 .given .0 .0) (c .before .e2 .given .0 .1 .0)) < maxEdges
 small-2 c =
     let s = c .before .before .before in
-    number-small (Vertical (c .before .e2 .given .0 .0) (c .before .e2 .given .0 .1 .0)) (s .pre .0) (subst (WithinEdge (s .args .nx) (s .args .ny)) (c .before .e2 .given .1) (s .pre .1))
+    number-small (Vertical (c .before .e2 .given .0 .0) (c .before .e2 .given .0 .1 .0)) (s .pre .0)
+    (subst (WithinEdge (s .args .nx) (s .args .ny)) (c .before .e2 .given .1) (s .pre .1))
 
 mul-result : tie.Need-mul-result
 mul-result c = omega (arith, small c)

@@ -18,10 +18,12 @@ start c = search
 
 -- the load of the book, and its numbers
 abbrev the-load : tie.Start → Load
-the-load s = bookLoad (s .args .points) (s .args .point) (bookNow (s .args .identities) (s .args .groups) (s .args .marks) (s .args .levels)) (s .args .days)
+the-load s = bookLoad (s .args .points) (s .args .point)
+    (bookNow (s .args .identities) (s .args .groups) (s .args .marks) (s .args .levels)) (s .args .days)
 
 long : (s : tie.Start) → length (loadNumbers (the-load s)) ≡ loadSize
-long s = length-load (s .args .points) (s .args .point) (bookNow (s .args .identities) (s .args .groups) (s .args .marks) (s .args .levels)) (s .args .days)
+long s = length-load (s .args .points) (s .args .point)
+    (bookNow (s .args .identities) (s .args .groups) (s .args .marks) (s .args .levels)) (s .args .days)
 
 -- past the first test it is not refused
 fine : (c : tie.Else1) → the-load (start (c .before)) .refused ≡ 0
@@ -48,7 +50,8 @@ returns-3 c =
     let tested = put .before .before .before in
     let s = start (tested .before .before) in
     write (fine (tested .before)) (omega (arith, long s, tested .if2 .left))
-    (put .put-numbers .ensures ∙ ap (λ (l : Load). front (loadNumbers l) (s .args .answer .now)) (tested .before .before .load-at .ensures))
+    (put .put-numbers .ensures
+    ∙ ap (λ (l : Load). front (loadNumbers l) (s .args .answer .now)) (tested .before .before .load-at .ensures))
 
 pub okubinrafo-load-spec : {M : Type 1} → statement M
 okubinrafo-load-spec =

@@ -12,7 +12,9 @@ use Rattle.okubinrafo.proofs.loads.okubinrafo_verdict.Tie as tie
 abbrev verdict : tie.After-verdict-at → Judged
 verdict c =
     let s : tie.Start = search in
-    bookVerdict (s .args .points) (s .args .point) (bookNow (s .args .identities) (s .args .groups) (s .args .marks) (s .args .levels)) (s .args .days) (s .args .limit)
+    bookVerdict (s .args .points) (s .args .point)
+    (bookNow (s .args .identities) (s .args .groups) (s .args .marks) (s .args .levels)) (s .args .days)
+    (s .args .limit)
 
 verdict-at-requires : tie.Need-verdict-at-requires
 verdict-at-requires c κs = search needs
@@ -43,7 +45,8 @@ returns-2 c =
     let number = put .before .before in
     let matched = number .before .before in
     let judged = matched .before .before in
-    judged-given (verdict judged) _ (sym (judged .verdict-at .ensures .answer) ∙ matched .judged2 .given .1) (number .number .ensures) (put .put-number .ensures)
+    judged-given (verdict judged) _ (sym (judged .verdict-at .ensures .answer) ∙ matched .judged2 .given .1)
+    (number .number .ensures) (put .put-number .ensures)
 
 pub okubinrafo-verdict-spec : {M : Type 1} → statement M
 okubinrafo-verdict-spec =

@@ -15,7 +15,8 @@ use Rattle.okubinrafo.proofs.loads.put_numbers.Tie as tie
 abbrev Inv-loop : tie.InvT-loop
 Inv-loop total level counts answer₀ k₀ answer k =
     (k ≤ loadSize)
-    × ((length answer ≡ length answer₀) × (answer ≡ take k (numbersFrom total level counts) ++ drop k answer₀))
+    × ((length answer ≡ length answer₀)
+    × (answer ≡ take k (numbersFrom total level counts) ++ drop k answer₀))
 
 abbrev μ-loop : tie.MeasureT-loop
 μ-loop total level counts answer₀ k₀ answer k = loadSize - k

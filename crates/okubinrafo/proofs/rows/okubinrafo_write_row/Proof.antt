@@ -1,4 +1,5 @@
--- `okubinrafo::rows::okubinrafo_write_row` meets its contract: not six fields, no room for the size, a refusal, or a row.
+-- `okubinrafo::rows::okubinrafo_write_row` meets its contract: not six fields, no room for the size, a refusal, or
+-- a row.
 -- Assumes nothing.
 use native.Mathlib.Omega.{arith}
 use Rattle.room.proofs.Answers.{fault-two, short-second}

@@ -15,7 +15,10 @@ returns-2 c =
     c .whole .ensures ∙ rw (c .before .before .enum-told2 .given .1, c .before .if1 .taken)
 
 returns-3 : tie.Need-returns-3
-returns-3 c = c .level .ensures ∙ rw (c .before .before .enum-told2 .given .1) (sym (cell-limit (c .before .before .before .before .before .args .k) (c .before .before .before .before .before .args .t .now) (c .before .if1 .left)))
+returns-3 c = c .level .ensures
+    ∙ rw (c .before .before .enum-told2 .given .1)
+    (sym (cell-limit (c .before .before .before .before .before .args .k)
+    (c .before .before .before .before .before .args .t .now) (c .before .if1 .left)))
 
 pub cell-spec : {M : Type 1} → statement M
 cell-spec =

@@ -6,7 +6,8 @@ use Rattle.register.proofs.cell.counted.Statement.{statement}
 use Rattle.register.proofs.cell.counted.Tie as tie
 
 returns : tie.Need-returns
-returns c = c .off-cells .ensures ∙ rw (ne-eqb (c .before .before .args .k) (c .before .before .args .count) (c .before .if1 .taken))
+returns c = c .off-cells .ensures
+    ∙ rw (ne-eqb (c .before .before .args .k) (c .before .before .args .count) (c .before .if1 .taken))
 
 returns-2 : tie.Need-returns-2
 returns-2 c = rw (eq-eqb (c .before .args .k) (c .before .args .count) (c .if1 .left))

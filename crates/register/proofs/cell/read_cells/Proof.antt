@@ -1,4 +1,5 @@
--- `register::cell::read_cells` meets its contract. The invariant: every field passed is on its layout, its value and the blank
+-- `register::cell::read_cells` meets its contract. The invariant: every field passed is on its layout, its value
+-- and the blank
 -- levels are noted, and here the next one starts. Assumes nothing.
 use Prim.Native.Nat.{_+_, _-_, _≤_, _<_}
 use mathlib.Core.Path.{_≡_, refl, sym, ap, _∙_}
@@ -21,7 +22,8 @@ use Rattle.register.proofs.cell.read_cells.Tie as tie
 
 abbrev Inv-loop : tie.InvT-loop
 Inv-loop s table count values₀ blanks₀ at₀ k₀ values blanks at k =
-    (every (gotAt table s) k ≡ true) × FieldAt 44 s at k × (values ≡ listing (valueAt table s) k ++ replicate (13 - k) 0)
+    (every (gotAt table s) k ≡ true) × FieldAt 44 s at k
+    × (values ≡ listing (valueAt table s) k ++ replicate (13 - k) 0)
     × (blanks ≡ many (blankAt s) (k - 5)) × (k < count)
 
 abbrev μ-loop : tie.MeasureT-loop
@@ -33,48 +35,81 @@ loop-holds c =
     (every-none _, at-start 44 _, refl, refl, omega (arith, c .before .pre .0))
 
 -- the field ends within the line
-within : (c : tie.After-field-end Inv-loop μ-loop) → c .field-end .result ≤ length (c .before .before .before .args .s .now)
+within : (c : tie.After-field-end Inv-loop μ-loop)
+    → c .field-end .result ≤ length (c .before .before .before .args .s .now)
 within c =
     let s = c .before .before .before .args .s .now in
-    omega (arith, up-length 44 (drop (c .before .loop .at) s), length-drop (c .before .loop .at) s, c .field-end .ensures, c .before .loop .inv .1 .within)
+    omega (
+      arith,
+      up-length 44 (drop (c .before .loop .at) s),
+      length-drop (c .before .loop .at) s,
+      c .field-end .ensures,
+      c .before .loop .inv .1 .within,
+    )
 
 part-cell-end : tie.Need-part-cell-end Inv-loop μ-loop
 part-cell-end c = within c
 
 -- what was answered is the cell of this column
-read : (c : tie.After-cell Inv-loop μ-loop) → c .cell .result ≡ cellAt (c .before .before .before .before .before .args .table) (c .before .before .before .before .before .args .s .now) (c .before .before .before .loop .k)
-read c = c .cell .ensures ∙ ap (cellOf (c .before .before .before .before .before .args .table) (c .before .before .before .loop .k)) (at-cut (c .before .before .before .loop .inv .1) (c .before .before .field-end .result) (c .before .before .field-end .ensures))
+read : (c : tie.After-cell Inv-loop μ-loop)
+    → c .cell .result ≡ cellAt (c .before .before .before .before .before .args .table)
+    (c .before .before .before .before .before .args .s .now) (c .before .before .before .loop .k)
+read c = c .cell .ensures
+    ∙ ap (cellOf (c .before .before .before .before .before .args .table) (c .before .before .before .loop .k))
+    (at-cut (c .before .before .before .loop .inv .1) (c .before .before .field-end .result)
+    (c .before .before .field-end .ensures))
 
 returns : tie.Need-returns Inv-loop μ-loop
 returns c =
     let a = c .before .before .before .before .before .before .before .before .args in
-    let off : cellAt (a .table) (a .s .now) (c .before .before .before .before .before .before .loop .k) ≡ Off = sym (read (c .before .before .before)) ∙ c .before .enum-told .given .1 in
+    let off : cellAt (a .table) (a .s .now) (c .before .before .before .before .before .before .loop .k) ≡ Off =
+    sym (read (c .before .before .before)) ∙ c .before .enum-told .given .1 in
     c .off-cells .ensures
-    ∙ sym (cells-off (a .table) (a .s .now) (a .count) (every-fails (gotAt (a .table) (a .s .now)) (c .before .before .before .before .before .before .loop .k) (a .count) (c .before .before .before .before .before .before .loop .inv .4) (ap isGot off)))
+    ∙ sym (cells-off (a .table) (a .s .now) (a .count)
+    (every-fails (gotAt (a .table) (a .s .now)) (c .before .before .before .before .before .before .loop .k)
+    (a .count) (c .before .before .before .before .before .before .loop .inv .4) (ap isGot off)))
 
 mul-values : tie.Need-mul-values Inv-loop μ-loop
-mul-values c = omega (arith, c .before .before .before .before .before .before .loop .inv .4, c .before .before .before .before .before .before .before .before .pre .1)
+mul-values c = omega (
+  arith,
+  c .before .before .before .before .before .before .loop .inv .4,
+  c .before .before .before .before .before .before .before .before .pre .1,
+)
 
 array-write-values : tie.Need-array-write-values Inv-loop μ-loop
-array-write-values c = omega (arith, c .before .before .before .before .before .before .loop .inv .4, c .before .before .before .before .before .before .before .before .pre .1)
+array-write-values c = omega (
+  arith,
+  c .before .before .before .before .before .before .loop .inv .4,
+  c .before .before .before .before .before .before .before .before .pre .1,
+)
 
 part-blank-level-end : tie.Need-part-blank-level-end Inv-loop μ-loop
 part-blank-level-end c = within (c .before .before .before .before .before)
 
 -- the value of this column, and whether it is a blank level
-got : (c : tie.After-blank-level Inv-loop μ-loop) → let at-loop = c .before .before .before .before .before .before .before .before in let start = at-loop .before .before in
-    cellAt (start .args .table) (start .args .s .now) (at-loop .loop .k) ≡ Got (c .before .before .before .v .given .0 .0)
+got : (c : tie.After-blank-level Inv-loop μ-loop) → let at-loop =
+    c .before .before .before .before .before .before .before .before in let start = at-loop .before .before in
+    cellAt (start .args .table) (start .args .s .now) (at-loop .loop .k)
+    ≡ Got (c .before .before .before .v .given .0 .0)
 got c = sym (read (c .before .before .before .before .before)) ∙ c .before .before .before .v .given .1
 
-blank : (c : tie.After-blank-level Inv-loop μ-loop) → let at-loop = c .before .before .before .before .before .before .before .before in let start = at-loop .before .before in
-    c .blank-level .result ≡ cond (blankCell (at-loop .loop .k) (fieldOf 44 (at-loop .loop .k) (start .args .s .now))) 1 0
-blank c = c .blank-level .ensures ∙ ap (λ t. cond (blankCell (c .before .before .before .before .before .before .before .before .loop .k) t) 1 0) (at-cut (c .before .before .before .before .before .before .before .before .loop .inv .1) (c .before .before .before .before .before .before .before .field-end .result) (c .before .before .before .before .before .before .before .field-end .ensures))
+blank : (c : tie.After-blank-level Inv-loop μ-loop) → let at-loop =
+    c .before .before .before .before .before .before .before .before in let start = at-loop .before .before in
+    c .blank-level .result ≡ cond
+    (blankCell (at-loop .loop .k) (fieldOf 44 (at-loop .loop .k) (start .args .s .now))) 1 0
+blank c = c .blank-level .ensures
+    ∙ ap (λ t. cond (blankCell (c .before .before .before .before .before .before .before .before .loop .k) t) 1
+    0) (at-cut (c .before .before .before .before .before .before .before .before .loop .inv .1)
+    (c .before .before .before .before .before .before .before .field-end .result)
+    (c .before .before .before .before .before .before .before .field-end .ensures))
 
 -- one column more
-more : (c : tie.After-blank-level Inv-loop μ-loop) → let at-loop = c .before .before .before .before .before .before .before .before in let start = at-loop .before .before in
+more : (c : tie.After-blank-level Inv-loop μ-loop) → let at-loop =
+    c .before .before .before .before .before .before .before .before in let start = at-loop .before .before in
     let a = start .args in let l = at-loop .loop in
     (every (gotAt (a .table) (a .s .now)) (l .k + 1) ≡ true)
-    × (set (l .values) (l .k) (c .before .before .before .v .given .0 .0) ≡ listing (valueAt (a .table) (a .s .now)) (l .k + 1) ++ replicate (13 - (l .k + 1)) 0)
+    × (set (l .values) (l .k) (c .before .before .before .v .given .0 .0)
+    ≡ listing (valueAt (a .table) (a .s .now)) (l .k + 1) ++ replicate (13 - (l .k + 1)) 0)
     × (l .blanks + c .blank-level .result ≡ many (blankAt (a .s .now)) (l .k + 1 - 5))
 more c =
     let at-loop = c .before .before .before .before .before .before .before .before in
@@ -82,7 +117,8 @@ more c =
     let a = start .args in
     let l = at-loop .loop in (
       every-more (gotAt (a .table) (a .s .now)) (l .k) (l .inv .0) (ap isGot (got c)),
-      rw (l .inv .2, ← ap valueOf (got c)) (store-more (valueAt (a .table) (a .s .now)) (l .k) 13 (omega (arith, l .inv .4, start .pre .1))),
+      rw (l .inv .2, ← ap valueOf (got c))
+          (store-more (valueAt (a .table) (a .s .now)) (l .k) 13 (omega (arith, l .inv .4, start .pre .1))),
       rw (l .inv .3, blank c) (blanks-next (a .s .now) (l .k)),
     )
 
@@ -91,7 +127,15 @@ add-blanks c =
     let at-loop = c .before .before .before .before .before .before .before .before in
     let start = at-loop .before .before in
     let s = start .args .s .now in
-    omega (arith, many-most (blankAt s) (at-loop .loop .k - 5), at-loop .loop .inv .3, at-loop .loop .inv .4, start .pre .1, blank c, mark-most (blankCell (at-loop .loop .k) (fieldOf 44 (at-loop .loop .k) s)))
+    omega (
+      arith,
+      many-most (blankAt s) (at-loop .loop .k - 5),
+      at-loop .loop .inv .3,
+      at-loop .loop .inv .4,
+      start .pre .1,
+      blank c,
+      mark-most (blankCell (at-loop .loop .k) (fieldOf 44 (at-loop .loop .k) s)),
+    )
 
 add-k : tie.Need-add-k Inv-loop μ-loop
 add-k c =
@@ -108,7 +152,8 @@ returns-2 c =
     let a = start .args in
     let l = at-loop .loop in
     let m = more at-blank-level in
-    let last = at-last (l .inv .1) (at-field-end .field-end .result) (at-field-end .field-end .ensures) (c .before .if1 .taken) in
+    let last = at-last (l .inv .1) (at-field-end .field-end .result) (at-field-end .field-end .ensures)
+    (c .before .if1 .taken) in
     let n : countOf 44 (a .s .now) + 1 ≡ l .k + 1 = omega arith in
     c .counted .ensures ∙ rw (m .1, m .2) (sym (cells-counted (a .table) (a .s .now) (a .count) (l .k + 1) n (m .0)))
 
@@ -119,8 +164,10 @@ returns-3 c =
     let at-loop = at-field-end .before in
     let start = at-loop .before .before in
     let a = start .args in
-    let next = at-next (at-loop .loop .inv .1) (at-field-end .field-end .result) (at-field-end .field-end .ensures) (at-if1 .if1 .left) in
-    c .off-cells2 .ensures ∙ sym (cells-other (a .table) (a .s .now) (a .count) (λ e. omega (arith, next .count, c .before .if2 .taken)))
+    let next = at-next (at-loop .loop .inv .1) (at-field-end .field-end .result) (at-field-end .field-end .ensures)
+    (at-if1 .if1 .left) in
+    c .off-cells2 .ensures ∙ sym
+    (cells-other (a .table) (a .s .now) (a .count) (λ e. omega (arith, next .count, c .before .if2 .taken)))
 
 add-at : tie.Need-add-at Inv-loop μ-loop
 add-at c = omega arith
@@ -136,8 +183,14 @@ loop-again c =
     let at-blank-level = c .before .before in
     let at-field-end = at-blank-level .before .before .before .before .before .before .before in
     let at-loop = at-field-end .before in
-    let m = more at-blank-level in
-    (m .0, at-next (at-loop .loop .inv .1) (at-field-end .field-end .result) (at-field-end .field-end .ensures) (c .before .if1 .left), m .1, m .2, omega (arith, c .if2 .left))
+    let m = more at-blank-level in (
+      m .0,
+      at-next (at-loop .loop .inv .1) (at-field-end .field-end .result) (at-field-end .field-end .ensures)
+          (c .before .if1 .left),
+      m .1,
+      m .2,
+      omega (arith, c .if2 .left),
+    )
 
 pub read-cells-spec : {M : Type 1} → statement M
 read-cells-spec =

@@ -33,7 +33,9 @@ returns-5 c =
     c .time .ensures ∙ rw (c .before .if5 .taken)
 
 returns-6 : tie.Need-returns-6
-returns-6 c = c .level-or-blank .ensures ∙ sym (cell-level (c .before .before .before .before .before .before .before .args .k) (omega arith) (c .before .before .before .before .before .before .before .args .t .now))
+returns-6 c = c .level-or-blank .ensures
+    ∙ sym (cell-level (c .before .before .before .before .before .before .before .args .k) (omega arith)
+    (c .before .before .before .before .before .before .before .args .t .now))
 
 pub row-cell-spec : {M : Type 1} → statement M
 row-cell-spec =

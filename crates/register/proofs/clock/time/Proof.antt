@@ -25,14 +25,23 @@ returns-3 : tie.Need-returns-3
 unfolding timeOf
 returns-3 c =
     let s = c .before .before .before .before .before .before .args .s .now in
-    simp (eq-eqb (length s) 8 (c .before .before .before .before .if1 .left), eq-eqb (getD s 2 0) 58 (c .before .before .if2 .left), ne-eqb (getD s 5 0) 58 (c .if3 .taken))
+    simp (
+      eq-eqb (length s) 8 (c .before .before .before .before .if1 .left),
+      eq-eqb (getD s 2 0) 58 (c .before .before .if2 .left),
+      ne-eqb (getD s 5 0) 58 (c .if3 .taken),
+    )
 
 -- past the tests only the three numbers are left
-opened : (c : tie.Else3) → let s = c .before .before .before .before .before .before .args .s .now in timeOf s ≡ clock (twoAt s 0 24) (twoAt s 3 60) (twoAt s 6 60)
+opened : (c : tie.Else3) → let s = c .before .before .before .before .before .before .args .s .now in
+    timeOf s ≡ clock (twoAt s 0 24) (twoAt s 3 60) (twoAt s 6 60)
 unfolding timeOf
 opened c =
     let s = c .before .before .before .before .before .before .args .s .now in
-    simp (eq-eqb (length s) 8 (c .before .before .before .before .if1 .left), eq-eqb (getD s 2 0) 58 (c .before .before .if2 .left), eq-eqb (getD s 5 0) 58 (c .if3 .left))
+    simp (
+      eq-eqb (length s) 8 (c .before .before .before .before .if1 .left),
+      eq-eqb (getD s 2 0) 58 (c .before .before .if2 .left),
+      eq-eqb (getD s 5 0) 58 (c .if3 .left),
+    )
 
 returns-4 : tie.Need-returns-4
 returns-4 c =
@@ -63,12 +72,17 @@ returns-6 c =
     sym (opened at-3 ∙ rw (h, m, z))
 
 -- the three numbers are read, and are small
-three : (c : tie.After-known-told3) → let at-minute = c .before .before .before .before .before in let at-hour = at-minute .before .before .before .before in let earlier = at-hour .before .before .before .before in let start = earlier .before .before .before .before .before in
+three : (c : tie.After-known-told3) → let at-minute = c .before .before .before .before .before in
+    let at-hour = at-minute .before .before .before .before in
+    let earlier = at-hour .before .before .before .before in
+    let start = earlier .before .before .before .before .before in
     let s = start .args .s .now in
-    (twoAt s 0 24 ≡ Got (at-hour .hour .given .0 .0)) × (twoAt s 3 60 ≡ Got (at-minute .minute .given .0 .0)) × (twoAt s 6 60 ≡ Got (c .before .second .given .0 .0))
+    (twoAt s 0 24 ≡ Got (at-hour .hour .given .0 .0)) × (twoAt s 3 60 ≡ Got (at-minute .minute .given .0 .0))
+    × (twoAt s 6 60 ≡ Got (c .before .second .given .0 .0))
 three c = (cc, cc, cc)
 
-small : (c : tie.After-known-told3) → let at-minute = c .before .before .before .before .before in let at-hour = at-minute .before .before .before .before in
+small : (c : tie.After-known-told3) → let at-minute = c .before .before .before .before .before in
+    let at-hour = at-minute .before .before .before .before in
     (at-hour .hour .given .0 .0 < 24) × (at-minute .minute .given .0 .0 < 60) × (c .before .second .given .0 .0 < 60)
 small c = (two-under _ 0 24 _ (three c .0), two-under _ 3 60 _ (three c .1), two-under _ 6 60 _ (three c .2))
 

@@ -11,7 +11,9 @@ use Rattle.register.proofs.clock.two_at.Statement.{statement}
 use Rattle.register.proofs.clock.two_at.Tie as tie
 
 -- the part that is read is two bytes
-two-of : (c : tie.After-digits) → c .digits .result ≡ digitsOf 0 (take 2 (drop (c .before .before .before .args .at) (c .before .before .before .args .s .now)))
+two-of : (c : tie.After-digits)
+    → c .digits .result ≡ digitsOf 0
+    (take 2 (drop (c .before .before .before .args .at) (c .before .before .before .args .s .now)))
 two-of c = let a = c .before .before .before .args in
     let e : a .at + 2 - a .at ≡ 2 = omega arith in
     c .digits .ensures ∙ rw e
@@ -24,13 +26,21 @@ returns-2 : tie.Need-returns-2
 unfolding twoAt
 returns-2 c =
     let e = sym (two-of (c .before .before .before .before)) ∙ c .before .before .n .given .1 in
-    rw (e, lt-ltb (c .before .before .n .given .0 .0) (c .before .before .before .before .before .before .before .args .bound) (c .if1 .taken))
+    rw (
+      e,
+      lt-ltb (c .before .before .n .given .0 .0)
+          (c .before .before .before .before .before .before .before .args .bound) (c .if1 .taken),
+    )
 
 returns-3 : tie.Need-returns-3
 unfolding twoAt
 returns-3 c =
     let e = sym (two-of (c .before .before .before .before)) ∙ c .before .before .n .given .1 in
-    rw (e, le-ltb (c .before .before .n .given .0 .0) (c .before .before .before .before .before .before .before .args .bound) (c .if1 .left))
+    rw (
+      e,
+      le-ltb (c .before .before .n .given .0 .0)
+          (c .before .before .before .before .before .before .before .args .bound) (c .if1 .left),
+    )
 
 pub two-at-spec : {M : Type 1} → statement M
 two-at-spec =

@@ -1,4 +1,5 @@
--- `register::header::header_points` meets its contract: each test on the way settles one of `headerOf`'s. Assumes nothing.
+-- `register::header::header_points` meets its contract: each test on the way settles one of `headerOf`'s. Assumes
+-- nothing.
 use Prim.Native.Nat.{_-_, _/_, _%_}
 use mathlib.Core.Path.{sym, _∙_}
 use borrow.Author.Tests.{lt-ltb, le-ltb, le-leb, lt-leb, eq-eqb, ne-eqb}

@@ -1,4 +1,5 @@
--- `register::letter::letter` meets its contract. The invariant: the letter's place is among the letters still to come. Assumes nothing.
+-- `register::letter::letter` meets its contract. The invariant: the letter's place is among the letters still to
+-- come. Assumes nothing.
 use Prim.Native.Nat.{_-_, _≤_}
 use mathlib.Core.Path.{_≡_, sym, _∙_}
 use native.Mathlib.Omega.{arith}
@@ -27,10 +28,15 @@ loop-holds c =
     (rw (eq-eqb (length (c .before .before .args .t .now)) 1 (c .before .if1 .left)) (moved-none _), omega arith)
 
 returns-2 : tie.Need-returns-2 Inv-loop μ-loop
-returns-2 c = sym (c .before .before .before .loop .inv .0 ∙ place-hit _ _ _ (c .before .before .loop-test .taken) (c .if2 .taken))
+returns-2 c = sym (c .before .before .before .loop .inv .0
+    ∙ place-hit _ _ _ (c .before .before .loop-test .taken) (c .if2 .taken))
 
 loop-again : tie.Need-loop-again Inv-loop μ-loop
-loop-again c = (c .before .before .before .loop .inv .0 ∙ place-miss _ _ _ (c .before .before .loop-test .taken) (c .if2 .left), omega arith)
+loop-again c = (
+  c .before .before .before .loop .inv .0
+      ∙ place-miss _ _ _ (c .before .before .loop-test .taken) (c .if2 .left),
+  omega arith,
+)
 
 returns-3 : tie.Need-returns-3 Inv-loop μ-loop
 returns-3 c = sym (c .before .loop .inv .0 ∙ place-end _ _ _ (c .loop-test .left))

@@ -23,20 +23,32 @@ returns-2 c =
     c .refused-limits2 .ensures ∙ rw (le-leb 1 days (omega arith), lt-leb days 366 (omega arith))
 
 -- the limits that were judged
-judged : (c : tie.After-all-within) → c .all-within .result ≡ allWithin 12000 (eightFrom 1 (c .before .before .before .before .before .args .t1))
+judged : (c : tie.After-all-within)
+    → c .all-within .result ≡ allWithin 12000 (eightFrom 1 (c .before .before .before .before .before .args .t1))
 judged c = c .all-within .ensures ∙ ap (allWithin 12000) (c .before .before .eight-from .ensures)
 
 returns-3 : tie.Need-returns-3
 unfolding judgedLimits
 returns-3 c =
     let days = getD (c .before .before .before .before .before .before .before .args .t1) 0 0 in
-    c .refused-limits3 .ensures ∙ rw (le-leb 1 days (omega arith), le-leb days 366 (omega arith), failed (judged (c .before .before)) (c .before .if3 .taken))
+    c .refused-limits3 .ensures
+    ∙ rw (
+      le-leb 1 days (omega arith),
+      le-leb days 366 (omega arith),
+      failed (judged (c .before .before))
+          (c .before .if3 .taken),
+    )
 
 returns-4 : tie.Need-returns-4
 unfolding judgedLimits
 returns-4 c =
     let days = getD (c .before .before .before .before .before .before .args .t1) 0 0 in
-    rw (le-leb 1 days (omega arith), le-leb days 366 (omega arith), passed (judged (c .before)) (c .if3 .left), c .before .before .before .eight-from .ensures)
+    rw (
+      le-leb 1 days (omega arith),
+      le-leb days 366 (omega arith),
+      passed (judged (c .before)) (c .if3 .left),
+      c .before .before .before .eight-from .ensures,
+    )
 
 pub judged-limits-spec : {M : Type 1} → statement M
 judged-limits-spec =

@@ -27,11 +27,14 @@ slice-aggregate-limits-points : tie.Need-slice-aggregate-limits-points
 slice-aggregate-limits-points c = sym (length-take-le _ _ (within (c .before)))
 
 -- its points are those of the first line's header
-points : (c : tie.After-limits-points) → c .limits-points .result ≡ headerOf limitsHeader 4 (getD (linesOf (c .before .before .before .before .args .s .now)) 0 [])
+points : (c : tie.After-limits-points)
+    → c .limits-points .result ≡ headerOf limitsHeader 4
+    (getD (linesOf (c .before .before .before .before .args .s .now)) 0 [])
 points c =
     let s = c .before .before .before .before .args .s .now in
     c .limits-points .ensures
-    ∙ ap (headerOf limitsHeader 4) (ap (λ n. take n s) (end (c .before .before)) ∙ line-take s ∙ sym (lines-first s))
+    ∙ ap (headerOf limitsHeader 4) (ap (λ n. take n s) (end (c .before .before)) ∙ line-take s
+    ∙ sym (lines-first s))
 
 returns : tie.Need-returns
 unfolding limitsOf
@@ -42,18 +45,25 @@ sub-if1 : tie.Need-sub-if1
 sub-if1 c = within (c .before .before .before .before .before)
 
 -- the header was read, so there is a line
-headed : (c : tie.After-known-told) → let s = c .before .before .before .before .before .before .before .args .s .now in headerOf limitsHeader 4 (getD (linesOf s) 0 []) ≡ Got (c .before .points .given .0 .0)
+headed : (c : tie.After-known-told)
+    → let s = c .before .before .before .before .before .before .before .args .s .now in
+    headerOf limitsHeader 4 (getD (linesOf s) 0 []) ≡ Got (c .before .points .given .0 .0)
 headed c = sym (points (c .before .before .before)) ∙ c .before .points .given .1
 
-range : (c : tie.After-known-told) → let s = c .before .before .before .before .before .before .before .args .s .now in (1 ≤ c .before .points .given .0 .0) × (c .before .points .given .0 .0 ≤ 8) × (1 ≤ length s)
+range : (c : tie.After-known-told)
+    → let s = c .before .before .before .before .before .before .before .args .s .now in
+    (1 ≤ c .before .points .given .0 .0) × (c .before .points .given .0 .0 ≤ 8) × (1 ≤ length s)
 range c =
     let s = c .before .before .before .before .before .before .before .args .s .now in
     let r = header-range limitsHeader 4 (getD (linesOf s) 0 []) (c .before .points .given .0 .0) (headed c) in
     (r .0, r .1, omega (arith, r .2, ap length (lines-first s), line-length s))
 
 -- the second line, and how many there are
-second : (c : tie.After-known-told) → let s = c .before .before .before .before .before .before .before .args .s .now in
-    (getD (linesOf s) 1 [] ≡ firstLine (drop (c .before .before .before .before .before .line-end .result + 2) s)) × (length (linesOf s) ≡ 1 + length (linesOf (drop (c .before .before .before .before .before .line-end .result + 2) s)))
+second : (c : tie.After-known-told)
+    → let s = c .before .before .before .before .before .before .before .args .s .now in
+    (getD (linesOf s) 1 [] ≡ firstLine (drop (c .before .before .before .before .before .line-end .result + 2) s))
+    × (length (linesOf s) ≡ 1 + length
+    (linesOf (drop (c .before .before .before .before .before .line-end .result + 2) s)))
 second c =
     let s = c .before .before .before .before .before .before .before .args .s .now in
     let some = range c .2 in
@@ -67,12 +77,22 @@ returns-2 c =
     let start = at-line-end .before .before in
     let s = start .args .s .now in
     let n = c .before .before .before .points .given .0 .0 in
-    let empty : firstLine (drop (at-line-end .line-end .result + 2) s) ≡ [] = line-none s (at-line-end .line-end .result + 2) (omega (arith, c .before .if1 .taken, within at-line-end)) in
+    let empty : firstLine (drop (at-line-end .line-end .result + 2) s) ≡ [] =
+    line-none s (at-line-end .line-end .result + 2) (omega (arith, c .before .if1 .taken, within at-line-end)) in
     c .refused-limits2 .ensures
-    ∙ rw (headed (c .before .before), second (c .before .before) .0 ∙ empty, cells-empty LimitsFile (1 + n) (omega (arith, range (c .before .before) .0)))
+    ∙ rw (
+      headed (c .before .before),
+      second (c .before .before) .0
+          ∙ empty,
+      cells-empty LimitsFile (1 + n) (omega (arith, range (c .before .before) .0)),
+    )
 
 second-limits-requires : tie.Need-second-limits-requires
-second-limits-requires c κs = (omega (arith, c .if1 .left, within (c .before .before .before .before .before .before)), range (c .before) .0, range (c .before) .1)
+second-limits-requires c κs = (
+  omega (arith, c .if1 .left, within (c .before .before .before .before .before .before)),
+  range (c .before) .0,
+  range (c .before) .1,
+)
 
 returns-3 : tie.Need-returns-3
 unfolding limitsOf

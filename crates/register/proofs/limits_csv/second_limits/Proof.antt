@@ -17,23 +17,35 @@ use Rattle.register.proofs.limits_csv.second_limits.Tie as tie
 within : (c : tie.After-line-end) → c .line-end .result ≤ length (c .before .before .args .s .now)
 within c =
     let a = c .before .before .args in
-    omega (arith, line-length (drop (a .start) (a .s .now)), length-drop (a .start) (a .s .now), c .line-end .ensures, c .before .before .pre .0)
+    omega (
+      arith,
+      line-length (drop (a .start) (a .s .now)),
+      length-drop (a .start) (a .s .now),
+      c .line-end .ensures,
+      c .before .before .pre .0,
+    )
 
 part-read-cells-end : tie.Need-part-read-cells-end
 part-read-cells-end c = within c
 
 -- the cells are those of the second line
-second : (c : tie.After-read-cells) → let a = c .before .before .before .before .args in c .read-cells .result ≡ cellsOf LimitsFile (1 + a .points) (firstLine (drop (a .start) (a .s .now)))
+second : (c : tie.After-read-cells) → let a = c .before .before .before .before .args in
+    c .read-cells .result ≡ cellsOf LimitsFile (1 + a .points) (firstLine (drop (a .start) (a .s .now)))
 second c =
     let a = c .before .before .before .before .args in
     let t = drop (a .start) (a .s .now) in
-    let n : c .before .before .line-end .result - a .start ≡ length (firstLine t) = omega (arith, c .before .before .line-end .ensures) in
+    let n : c .before .before .line-end .result - a .start ≡ length (firstLine t) =
+    omega (arith, c .before .before .line-end .ensures) in
     c .read-cells .ensures ∙ ap (cellsOf LimitsFile (1 + a .points)) (ap (λ k. take k t) n ∙ line-take t)
 
 returns : tie.Need-returns
 unfolding secondLimits
 returns c =
-    c .refused-limits .ensures ∙ rw (← second (c .before .before .before .before), not-true (c .before .before .before .before .read-cells .result .read) (c .before .if1 .taken))
+    c .refused-limits .ensures
+    ∙ rw (
+      ← second (c .before .before .before .before),
+      not-true (c .before .before .before .before .read-cells .result .read) (c .before .if1 .taken),
+    )
 
 sub-if2 : tie.Need-sub-if2
 sub-if2 c = within (c .before .before .before .before .before)
@@ -47,7 +59,14 @@ returns-2 c =
     let a = start .args in
     let t = drop (a .start) (a .s .now) in
     c .refused-limits2 .ensures
-    ∙ rw (← second at-read-cells, not-false (at-read-cells .read-cells .result .read) (c .before .before .if1 .left), lines-one t, lt-leb (length t) (length (firstLine t) + 2) (omega (arith, length-drop (a .start) (a .s .now), at-line-end .line-end .ensures, c .before .if2 .taken)))
+    ∙ rw (
+      ← second at-read-cells,
+      not-false (at-read-cells .read-cells .result .read)
+          (c .before .before .if1 .left),
+      lines-one t,
+      lt-leb (length t) (length (firstLine t) + 2)
+          (omega (arith, length-drop (a .start) (a .s .now), at-line-end .line-end .ensures, c .before .if2 .taken)),
+    )
 
 returns-3 : tie.Need-returns-3
 unfolding secondLimits
@@ -58,7 +77,20 @@ returns-3 c =
     let a = start .args in
     let t = drop (a .start) (a .s .now) in
     c .judged-limits .ensures
-    ∙ rw (← second at-read-cells, not-false (at-read-cells .read-cells .result .read) (c .before .before .if1 .left), lines-one t, le-leb (length t) (length (firstLine t) + 2) (omega (arith, length-drop (a .start) (a .s .now), at-line-end .line-end .ensures, c .before .if2 .left, within at-line-end)))
+    ∙ rw (
+      ← second at-read-cells,
+      not-false (at-read-cells .read-cells .result .read)
+          (c .before .before .if1 .left),
+      lines-one t,
+      le-leb (length t) (length (firstLine t) + 2)
+          (omega (
+            arith,
+            length-drop (a .start) (a .s .now),
+            at-line-end .line-end .ensures,
+            c .before .if2 .left,
+            within at-line-end,
+          )),
+    )
 
 pub second-limits-spec : {M : Type 1} → statement M
 second-limits-spec =

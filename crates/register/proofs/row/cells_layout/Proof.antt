@@ -14,17 +14,36 @@ returns c =
 returns-2 : tie.Need-returns-2
 unfolding cellsLayout
 returns-2 c =
-    c .row-layout .ensures ∙ rw (not-false (c .before .before .before .before .before .args .c .read) (c .before .before .if1 .left), eq-eqb (c .before .before .before .before .before .args .c .blanks) 0 (c .before .if2 .taken))
+    c .row-layout .ensures ∙ rw (
+      not-false (c .before .before .before .before .before .args .c .read)
+          (c .before .before .if1 .left),
+      eq-eqb (c .before .before .before .before .before .args .c .blanks) 0
+          (c .before .if2 .taken),
+    )
 
 returns-3 : tie.Need-returns-3
 unfolding cellsLayout
 returns-3 c =
-    c .row-layout2 .ensures ∙ rw (not-false (c .before .before .before .before .before .before .args .c .read) (c .before .before .before .if1 .left), ne-eqb (c .before .before .before .before .before .before .args .c .blanks) 0 (c .before .before .if2 .left), eq-eqb (c .before .before .before .before .before .before .args .c .blanks) (c .before .before .before .before .before .before .args .points) (c .before .if3 .taken))
+    c .row-layout2 .ensures ∙ rw (
+      not-false (c .before .before .before .before .before .before .args .c .read)
+          (c .before .before .before .if1 .left),
+      ne-eqb (c .before .before .before .before .before .before .args .c .blanks) 0
+          (c .before .before .if2 .left),
+      eq-eqb (c .before .before .before .before .before .before .args .c .blanks)
+          (c .before .before .before .before .before .before .args .points) (c .before .if3 .taken),
+    )
 
 returns-4 : tie.Need-returns-4
 unfolding cellsLayout
 returns-4 c =
-    c .off-layout2 .ensures ∙ rw (not-false (c .before .before .before .before .before .before .args .c .read) (c .before .before .before .if1 .left), ne-eqb (c .before .before .before .before .before .before .args .c .blanks) 0 (c .before .before .if2 .left), ne-eqb (c .before .before .before .before .before .before .args .c .blanks) (c .before .before .before .before .before .before .args .points) (c .before .if3 .left))
+    c .off-layout2 .ensures ∙ rw (
+      not-false (c .before .before .before .before .before .before .args .c .read)
+          (c .before .before .before .if1 .left),
+      ne-eqb (c .before .before .before .before .before .before .args .c .blanks) 0
+          (c .before .before .if2 .left),
+      ne-eqb (c .before .before .before .before .before .before .args .c .blanks)
+          (c .before .before .before .before .before .before .args .points) (c .before .if3 .left),
+    )
 
 pub cells-layout-spec : {M : Type 1} → statement M
 cells-layout-spec =

@@ -12,7 +12,8 @@ use Rattle.register.proofs.row.eight_from.Statement.{statement}
 use Rattle.register.proofs.row.eight_from.Tie as tie
 
 abbrev Inv-loop : tie.InvT-loop
-Inv-loop k values eight₀ i₀ eight i = (eight ≡ listing (λ j. getD values (k + j) 0) i ++ replicate (8 - i) 0) × (i ≤ 8)
+Inv-loop k values eight₀ i₀ eight i = (eight ≡ listing (λ j. getD values (k + j) 0) i ++ replicate (8 - i) 0)
+    × (i ≤ 8)
 
 abbrev μ-loop : tie.MeasureT-loop
 μ-loop k values eight₀ i₀ eight i = 8 - i
@@ -23,7 +24,12 @@ loop-holds c =
     (refl, omega arith)
 
 loop-again : tie.Need-loop-again Inv-loop μ-loop
-loop-again c = (rw (c .before .loop .inv .0) (store-more (λ j. getD (c .before .before .args .t1) (c .before .before .args .k + j) 0) (c .before .loop .i) 8 (c .loop-test .taken)), omega arith)
+loop-again c = (
+  rw (c .before .loop .inv .0)
+      (store-more (λ j. getD (c .before .before .args .t1) (c .before .before .args .k + j) 0) (c .before .loop .i) 8
+      (c .loop-test .taken)),
+  omega arith,
+)
 
 returns : tie.Need-returns Inv-loop μ-loop
 unfolding eightFrom

@@ -13,17 +13,28 @@ returns c =
 returns-2 : tie.Need-returns-2
 unfolding faultOf
 returns-2 c =
-    rw (passed (c .before .before .before .fields-fit .ensures) (c .before .before .if1 .left), failed (c .before .identity-fits .ensures) (c .if2 .taken))
+    rw (
+      passed (c .before .before .before .fields-fit .ensures) (c .before .before .if1 .left),
+      failed (c .before .identity-fits .ensures) (c .if2 .taken),
+    )
 
 returns-3 : tie.Need-returns-3
 unfolding faultOf
 returns-3 c =
-    rw (passed (c .before .before .before .before .fields-fit .ensures) (c .before .before .before .if1 .left), passed (c .before .before .identity-fits .ensures) (c .before .if2 .left), c .if3 .taken)
+    rw (
+      passed (c .before .before .before .before .fields-fit .ensures) (c .before .before .before .if1 .left),
+      passed (c .before .before .identity-fits .ensures) (c .before .if2 .left),
+      c .if3 .taken,
+    )
 
 returns-4 : tie.Need-returns-4
 unfolding faultOf
 returns-4 c =
-    rw (passed (c .before .before .before .before .fields-fit .ensures) (c .before .before .before .if1 .left), passed (c .before .before .identity-fits .ensures) (c .before .if2 .left), c .if3 .left)
+    rw (
+      passed (c .before .before .before .before .fields-fit .ensures) (c .before .before .before .if1 .left),
+      passed (c .before .before .identity-fits .ensures) (c .before .if2 .left),
+      c .if3 .left,
+    )
 
 pub fault-spec : {M : Type 1} → statement M
 fault-spec =

@@ -11,7 +11,8 @@ use Rattle.register.proofs.row.put_levels.Statement.{statement}
 use Rattle.register.proofs.row.put_levels.Tie as tie
 
 abbrev Inv-loop : tie.InvT-loop
-Inv-loop out₀ n levels i₀ out i = (out ≡ put out₀ 0 (take i levels)) × (i ≤ n) × (length out ≡ length out₀)
+Inv-loop out₀ n levels i₀ out i =
+    (out ≡ put out₀ 0 (take i levels)) × (i ≤ n) × (length out ≡ length out₀)
 
 abbrev μ-loop : tie.MeasureT-loop
 μ-loop out₀ n levels i₀ out i = n - i

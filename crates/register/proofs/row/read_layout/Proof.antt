@@ -22,14 +22,21 @@ returns c =
 returns-2 : tie.Need-returns-2
 unfolding layoutOf
 returns-2 c =
-    c .off-layout2 .ensures ∙ rw (le-leb 1 (c .before .before .before .before .args .points) (omega arith), lt-leb (c .before .before .before .before .args .points) 8 (omega arith))
+    c .off-layout2 .ensures ∙ rw (
+      le-leb 1 (c .before .before .before .before .args .points) (omega arith),
+      lt-leb (c .before .before .before .before .args .points) 8 (omega arith),
+    )
 
 -- the line without its end is a front of the text
-within : (c : tie.After-bare-length) → c .bare-length .result ≤ length (c .before .before .before .before .args .s .now)
+within : (c : tie.After-bare-length)
+    → c .bare-length .result ≤ length (c .before .before .before .before .args .s .now)
 within c = omega (arith, c .bare-length .ensures, bare-most (c .before .before .before .before .args .s .now))
 
-line : (c : tie.After-bare-length) → take (c .bare-length .result) (c .before .before .before .before .args .s .now) ≡ bareLine (c .before .before .before .before .args .s .now)
-line c = ap (λ n. take n (c .before .before .before .before .args .s .now)) (c .bare-length .ensures) ∙ bare-take (c .before .before .before .before .args .s .now)
+line : (c : tie.After-bare-length)
+    → take (c .bare-length .result) (c .before .before .before .before .args .s .now)
+    ≡ bareLine (c .before .before .before .before .args .s .now)
+line c = ap (λ n. take n (c .before .before .before .before .args .s .now)) (c .bare-length .ensures)
+    ∙ bare-take (c .before .before .before .before .args .s .now)
 
 slice-aggregate-read-cells : tie.Need-slice-aggregate-read-cells
 slice-aggregate-read-cells c = sym (length-take-le _ _ (within (c .before)))
@@ -39,7 +46,8 @@ unfolding layoutOf
 returns-3 c =
     let n = c .before .before .before .before .before .before .before .args .points in
     c .cells-layout .ensures
-    ∙ ap (cellsLayout n) (c .before .read-cells .ensures ∙ ap (cellsOf Register (5 + n)) (line (c .before .before .before)))
+    ∙ ap (cellsLayout n) (c .before .read-cells .ensures
+    ∙ ap (cellsOf Register (5 + n)) (line (c .before .before .before)))
     ∙ rw (le-leb 1 n (omega arith), le-leb n 8 (omega arith))
 
 pub read-layout-spec : {M : Type 1} → statement M

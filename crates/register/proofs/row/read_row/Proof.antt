@@ -1,4 +1,5 @@
--- `register::row::read_row` meets its contract: the layout, then the rules and the room, and then the levels. Assumes nothing.
+-- `register::row::read_row` meets its contract: the layout, then the rules and the room, and then the levels.
+-- Assumes nothing.
 use mathlib.Core.Path.{_≡_, sym, ap, _∙_}
 use borrow.Author.Tests.{eq-eqb, ne-eqb}
 use lib.ListN.{length, take}
@@ -10,8 +11,10 @@ use Rattle.register.proofs.row.read_row.Statement.{statement}
 use Rattle.register.proofs.row.read_row.Tie as tie
 
 -- what was found is the refusal of the row
-found : (c : tie.After-row-refusal) → let a = c .before .before .before .before .args in c .row-refusal .result ≡ rowRefusal (a .points) (layoutOf (a .points) (a .s .now)) (length (a .levels .now))
-found c = let a = c .before .before .before .before .args in c .row-refusal .ensures ∙ ap (λ l. rowRefusal (a .points) l (length (a .levels .now))) (c .before .read-layout .ensures)
+found : (c : tie.After-row-refusal) → let a = c .before .before .before .before .args in
+    c .row-refusal .result ≡ rowRefusal (a .points) (layoutOf (a .points) (a .s .now)) (length (a .levels .now))
+found c = let a = c .before .before .before .before .args in c .row-refusal .ensures
+    ∙ ap (λ l. rowRefusal (a .points) l (length (a .levels .now))) (c .before .read-layout .ensures)
 
 returns : tie.Need-returns
 returns c =
@@ -22,7 +25,8 @@ returns c =
 put-levels-requires : tie.Need-put-levels-requires
 put-levels-requires c κs =
     let a = c .before .before .before .before .before .before .before .before .args in
-    let none = row-none (a .points) (layoutOf (a .points) (a .s .now)) (length (a .levels .now)) (sym (found (c .before .before .before .before)) ∙ c .before .before .before .if1 .left) in
+    let none = row-none (a .points) (layoutOf (a .points) (a .s .now)) (length (a .levels .now))
+    (sym (found (c .before .before .before .before)) ∙ c .before .before .before .if1 .left) in
     (layout-points (a .points) (a .s .now) (none .0) .1, none .2)
 
 returns-2 : tie.Need-returns-2
@@ -38,7 +42,8 @@ returns-2 c =
     record {
       number = sym (at-if1 .if1 .left) ∙ e;
       values = rw (← e, fine) (ap (λ r. fieldList (r .fields)) l);
-      levels = rw (← e, fine) (c .before .before .put-levels .ensures ∙ ap (λ r. front (take (a .points) (r .levels)) (a .levels .now)) l);
+      levels = rw (← e, fine) (c .before .before .put-levels .ensures
+          ∙ ap (λ r. front (take (a .points) (r .levels)) (a .levels .now)) l);
     }
 
 pub read-row-spec : {M : Type 1} → statement M

@@ -13,27 +13,46 @@ returns c =
     rw (ne-eqb (c .before .before .args .l .refusal) 0 (c .if1 .taken))
 
 -- the rule that was found
-fault-of : (c : tie.After-fault) → c .fault .result ≡ faultOf (c .before .before .before .before .before .before .before .args .l .fields) (allWithin 12000 (c .before .before .before .before .before .before .before .args .l .levels))
-fault-of c = c .fault .ensures ∙ ap (faultOf (c .before .before .before .before .before .before .before .args .l .fields)) (c .before .all-within .ensures)
+fault-of : (c : tie.After-fault)
+    → c .fault .result ≡ faultOf (c .before .before .before .before .before .before .before .args .l .fields)
+    (allWithin 12000 (c .before .before .before .before .before .before .before .args .l .levels))
+fault-of c = c .fault .ensures
+    ∙ ap (faultOf (c .before .before .before .before .before .before .before .args .l .fields))
+    (c .before .all-within .ensures)
 
 returns-2 : tie.Need-returns-2
 unfolding rowRefusal
 returns-2 c =
-    rw (eq-eqb (c .before .before .before .before .before .before .before .before .args .l .refusal) 0 (c .before .before .before .before .before .before .if1 .left), ← fault-of (c .before), ne-eqb (c .before .fault .result) 0 (c .if2 .taken))
+    rw (
+      eq-eqb (c .before .before .before .before .before .before .before .before .args .l .refusal) 0
+          (c .before .before .before .before .before .before .if1 .left),
+      ← fault-of (c .before),
+      ne-eqb (c .before .fault .result) 0 (c .if2 .taken),
+    )
 
 returns-3 : tie.Need-returns-3
 unfolding rowRefusal
 returns-3 c =
     let at-if1 = c .before .before .before .before .before .before .before in
     let start = at-if1 .before .before in
-    rw (eq-eqb (start .args .l .refusal) 0 (at-if1 .if1 .left), ← fault-of (c .before .before), eq-eqb (c .before .before .fault .result) 0 (c .before .if2 .left), le-leb (start .args .points) (start .args .room) (c .if3 .taken))
+    rw (
+      eq-eqb (start .args .l .refusal) 0 (at-if1 .if1 .left),
+      ← fault-of (c .before .before),
+      eq-eqb (c .before .before .fault .result) 0 (c .before .if2 .left),
+      le-leb (start .args .points) (start .args .room) (c .if3 .taken),
+    )
 
 returns-4 : tie.Need-returns-4
 unfolding rowRefusal
 returns-4 c =
     let at-if1 = c .before .before .before .before .before .before .before in
     let start = at-if1 .before .before in
-    rw (eq-eqb (start .args .l .refusal) 0 (at-if1 .if1 .left), ← fault-of (c .before .before), eq-eqb (c .before .before .fault .result) 0 (c .before .if2 .left), lt-leb (start .args .points) (start .args .room) (c .if3 .left))
+    rw (
+      eq-eqb (start .args .l .refusal) 0 (at-if1 .if1 .left),
+      ← fault-of (c .before .before),
+      eq-eqb (c .before .before .fault .result) 0 (c .before .if2 .left),
+      lt-leb (start .args .points) (start .args .room) (c .if3 .left),
+    )
 
 pub row-refusal-spec : {M : Type 1} → statement M
 row-refusal-spec =

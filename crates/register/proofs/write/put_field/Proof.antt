@@ -8,7 +8,8 @@ use Rattle.register.proofs.write.put_field.Statement.{statement}
 use Rattle.register.proofs.write.put_field.Tie as tie
 
 returns : tie.Need-returns
-returns c = rw (eq-eqb (c .before .before .before .before .before .before .args .k) 0 (c .before .before .before .before .if1 .taken)) (c .before .before .put-cell .ensures)
+returns c = rw (eq-eqb (c .before .before .before .before .before .before .args .k) 0
+    (c .before .before .before .before .if1 .taken)) (c .before .before .put-cell .ensures)
 
 returns-2 : tie.Need-returns-2
 returns-2 c =
@@ -18,7 +19,8 @@ returns-2 c =
     let a = start .args in
     let p = start .pre in
     rw (ne-eqb (a .k) 0 (at-if1 .if1 .left))
-    (wrote-then (omega (arith, p .1, text-most (a .mark) (a .k) (a .v) (p .0))) (at-put-byte .put-byte .ensures) (c .before .before .put-cell2 .ensures))
+    (wrote-then (omega (arith, p .1, text-most (a .mark) (a .k) (a .v) (p .0))) (at-put-byte .put-byte .ensures)
+    (c .before .before .put-cell2 .ensures))
 
 pub put-field-spec : {M : Type 1} → statement M
 put-field-spec =

@@ -11,7 +11,9 @@ slice-aggregate-put-text : tie.Need-slice-aggregate-put-text
 slice-aggregate-put-text c = sym (length-take-le _ _ (c .before .before .before .before .pre .0))
 
 put-text-requires : tie.Need-put-text-requires
-put-text-requires c κs = rw (length-take-le (c .before .before .before .before .args .n) (c .before .before .before .before .args .text .now) (c .before .before .before .before .pre .0)) (omega (arith, c .before .before .before .before .pre .1))
+put-text-requires c κs = rw (length-take-le (c .before .before .before .before .args .n)
+    (c .before .before .before .before .args .text .now) (c .before .before .before .before .pre .0))
+    (omega (arith, c .before .before .before .before .pre .1))
 
 returns : tie.Need-returns
 returns c = wrote-leaves (c .before .before .put-text .ensures)

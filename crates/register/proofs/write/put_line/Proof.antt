@@ -1,4 +1,5 @@
--- `register::write::put_line` meets its contract. The invariant: the columns passed stand at the front. Assumes nothing.
+-- `register::write::put_line` meets its contract. The invariant: the columns passed stand at the front. Assumes
+-- nothing.
 use Prim.Native.Nat.{_+_, _-_, _*_, _≤_, _<_}
 use mathlib.Core.Path.{_≡_, refl, _∙_}
 use mathlib.Core.List.{_++_}
@@ -20,7 +21,8 @@ use Rattle.register.proofs.write.put_line.Tie as tie
 
 abbrev Inv-loop : tie.InvT-loop
 Inv-loop out₀ f levels mark at₀ k₀ out at k =
-    Wrote out₀ 0 (joinedBy 44 (listing (textAt f levels) k)) out at × (at ≤ 9 * k) × (k ≤ 5 + length levels) × (length out ≡ length out₀)
+    Wrote out₀ 0 (joinedBy 44 (listing (textAt f levels) k)) out at × (at ≤ 9 * k) × (k ≤ 5 + length levels)
+    × (length out ≡ length out₀)
 
 abbrev μ-loop : tie.MeasureT-loop
 μ-loop out₀ f levels mark at₀ k₀ out at k = 5 + length levels - k
@@ -32,12 +34,23 @@ loop-holds c =
 
 -- the value of this column has a text
 below : (c : tie.After-value-at Inv-loop μ-loop) → c .value-at .result < topOf (c .before .before .loop .k)
-below c = rw (c .value-at .ensures) (c .before .before .before .before .before .pre .0 .below (c .before .before .loop .k) (c .before .loop-test .taken))
+below c = rw (c .value-at .ensures)
+    (c .before .before .before .before .before .pre .0 .below (c .before .before .loop .k)
+    (c .before .loop-test .taken))
 
 put-field-requires : tie.Need-put-field-requires Inv-loop μ-loop
 put-field-requires c κs =
-    let l = c .before .before .before .loop .inv in
-    (below (c .before), omega (arith, l .1, l .3, c .before .before .before .before .before .before .pre .0 .few, c .before .before .before .before .before .before .pre .1, c .before .before .loop-test .taken))
+    let l = c .before .before .before .loop .inv in (
+      below (c .before),
+      omega (
+        arith,
+        l .1,
+        l .3,
+        c .before .before .before .before .before .before .pre .0 .few,
+        c .before .before .before .before .before .before .pre .1,
+        c .before .before .loop-test .taken,
+      ),
+    )
 
 loop-again : tie.Need-loop-again Inv-loop μ-loop
 loop-again c =
@@ -56,7 +69,9 @@ loop-again c =
     let text = joinedBy 44 (listing (textAt (a .f) (a .levels .now)) (l .k)) in
     let here = l .inv .0 .place in
     let all = length-append text (commaAt (l .k) ++ cellText (a .f .computed) (l .k) (v .result)) in (
-      rw (more, ← v .ensures) (wrote-then (omega (arith, l .inv .1, l .inv .3, start .pre .1, at-loop-test .loop-test .taken)) (l .inv .0) (p .ensures)),
+      rw (more, ← v .ensures) (wrote-then
+          (omega (arith, l .inv .1, l .inv .3, start .pre .1, at-loop-test .loop-test .taken)) (l .inv .0)
+          (p .ensures)),
       omega (arith, p .ensures .place, l .inv .1),
       omega (arith, at-loop-test .loop-test .taken),
       p .kept .0 ∙ l .inv .3,
@@ -66,7 +81,8 @@ returns : tie.Need-returns Inv-loop μ-loop
 unfolding showLine
 returns c =
     let l = c .before .loop in
-    let e : l .k ≡ 5 + length (c .before .before .before .before .args .levels .now) = omega (arith, l .inv .2, c .loop-test .left) in
+    let e : l .k ≡ 5 + length (c .before .before .before .before .args .levels .now) =
+    omega (arith, l .inv .2, c .loop-test .left) in
     (rw e at (l .inv .0), omega (arith, l .inv .1, l .inv .2, c .before .before .before .before .pre .0 .few))
 
 pub put-line-spec : {M : Type 1} → statement M

@@ -15,12 +15,20 @@ returns c =
 returns-2 : tie.Need-returns-2
 unfolding rowLevelsFit
 returns-2 c =
-    c .all-within .ensures ∙ rw (passed (c .before .before .before .levels-fit .ensures) (c .before .before .if1 .left), eq-eqb (c .before .before .before .before .before .args .mark) 0 (c .before .if2 .taken))
+    c .all-within .ensures ∙ rw (
+      passed (c .before .before .before .levels-fit .ensures)
+          (c .before .before .if1 .left),
+      eq-eqb (c .before .before .before .before .before .args .mark) 0
+          (c .before .if2 .taken),
+    )
 
 returns-3 : tie.Need-returns-3
 unfolding rowLevelsFit
 returns-3 c =
-    rw (passed (c .before .before .levels-fit .ensures) (c .before .if1 .left), ne-eqb (c .before .before .before .before .args .mark) 0 (c .if2 .left))
+    rw (
+      passed (c .before .before .levels-fit .ensures) (c .before .if1 .left),
+      ne-eqb (c .before .before .before .before .args .mark) 0 (c .if2 .left),
+    )
 
 pub row-levels-fit-spec : {M : Type 1} → statement M
 row-levels-fit-spec =

@@ -7,7 +7,8 @@ use Rattle.register.proofs.write.value_at.Statement.{statement}
 use Rattle.register.proofs.write.value_at.Tie as tie
 
 returns-6 : tie.Need-returns-6
-returns-6 c = let a = c .before .before .before .before .before .before .args in sym (column-level (a .f) (a .levels .now) (a .k) (omega arith))
+returns-6 c = let a = c .before .before .before .before .before .before .args in
+    sym (column-level (a .f) (a .levels .now) (a .k) (omega arith))
 
 pub value-at-spec : {M : Type 1} → statement M
 value-at-spec =

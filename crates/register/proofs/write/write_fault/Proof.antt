@@ -15,7 +15,10 @@ returns c =
 returns-2 : tie.Need-returns-2
 unfolding writeFault
 returns-2 c =
-    rw (le-leb 1 (c .before .before .before .args .points) (omega arith), lt-leb (c .before .before .before .args .points) 8 (omega arith))
+    rw (
+      le-leb 1 (c .before .before .before .args .points) (omega arith),
+      lt-leb (c .before .before .before .args .points) 8 (omega arith),
+    )
 
 returns-3 : tie.Need-returns-3
 unfolding writeFault
@@ -27,7 +30,12 @@ returns-4 : tie.Need-returns-4
 unfolding writeFault
 returns-4 c =
     let a = c .before .before .before .before .before .before .before .args in
-    c .fault .ensures ∙ rw (le-leb 1 (a .points) (omega arith), le-leb (a .points) 8 (omega arith), le-leb (a .f .computed) 1 (omega arith), c .before .row-levels-fit .ensures)
+    c .fault .ensures ∙ rw (
+      le-leb 1 (a .points) (omega arith),
+      le-leb (a .points) 8 (omega arith),
+      le-leb (a .f .computed) 1 (omega arith),
+      c .before .row-levels-fit .ensures,
+    )
 
 pub write-fault-spec : {M : Type 1} → statement M
 write-fault-spec =

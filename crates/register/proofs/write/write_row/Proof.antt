@@ -1,4 +1,5 @@
--- `register::write::write_row` meets its contract: a fault, too little room, or the text that was put together. Assumes nothing.
+-- `register::write::write_row` meets its contract: a fault, too little room, or the text that was put together.
+-- Assumes nothing.
 use mathlib.Core.Path.{_≡_, sym, ap, _∙_}
 use mathlib.Core.List.{[], _∷_}
 use native.Mathlib.Omega.{arith}
@@ -17,10 +18,16 @@ unfolding writeRefusal
 returns c =
     let f = c .before .write-fault in
     let bad = ne-eqb (f .result) 0 (c .if1 .taken) in
-    record { number = rw (← f .ensures, bad); values = rw (← f .ensures, bad, bad); bytes = rw (← f .ensures, bad, bad) }
+    record {
+      number = rw (← f .ensures, bad);
+      values = rw (← f .ensures, bad, bad);
+      bytes =
+          rw (← f .ensures, bad, bad);
+    }
 
 -- past the first test there is no fault
-fine : (c : tie.Else1) → let a = c .before .before .before .before .args in writeFault (a .points) (a .f) (a .levels .now) ≡ 0
+fine : (c : tie.Else1) → let a = c .before .before .before .before .args in
+    writeFault (a .points) (a .f) (a .levels .now) ≡ 0
 fine c = sym (c .before .write-fault .ensures) ∙ c .if1 .left
 
 put-row-requires : tie.Need-put-row-requires
@@ -31,11 +38,13 @@ unfolding writeRefusal
 returns-2 c =
     let a = c .before .before .before .before .before .before .before .before .args in
     let none = eq-eqb _ 0 (fine (c .before .before .before .before)) in
-    let short = lt-leb (length (showRow (a .f) (a .levels .now))) (length (a .out .now)) (omega (arith, c .before .before .put-row .ensures .0 .place, c .if2 .taken)) in
+    let short = lt-leb (length (showRow (a .f) (a .levels .now))) (length (a .out .now))
+    (omega (arith, c .before .before .put-row .ensures .0 .place, c .if2 .taken)) in
     record { number = rw (none, short); values = rw (none, short); bytes = rw (none, short) }
 
 put-front-requires : tie.Need-put-front-requires
-put-front-requires c κs = (wrote-fits (c .before .before .before .before .put-row .ensures .0), c .before .before .if2 .left)
+put-front-requires c κs =
+    (wrote-fits (c .before .before .before .before .put-row .ensures .0), c .before .before .if2 .left)
 
 cast-t17 : tie.Need-cast-t17
 cast-t17 c = omega (arith, c .before .before .before .before .before .before .before .put-row .ensures .1)
@@ -51,11 +60,13 @@ returns-3 c =
     let p = at-put-row .put-row in
     let none = eq-eqb _ 0 (fine at-1) in
     let n : p .result ≡ length (showRow (a .f) (a .levels .now)) = omega (arith, p .ensures .0 .place) in
-    let room = le-leb (length (showRow (a .f) (a .levels .now))) (length (a .out .now)) (omega (arith, at-if2 .if2 .left)) in
+    let room = le-leb (length (showRow (a .f) (a .levels .now))) (length (a .out .now))
+    (omega (arith, at-if2 .if2 .left)) in
     record {
       number = rw (none, room);
       values = rw (none, room) (ap (λ k. k ∷ []) n);
-      bytes = rw (none, room) (c .before .before .put-front .ensures ∙ ap (λ t. front t (a .out .now)) (wrote-front (p .ensures .0)));
+      bytes = rw (none, room) (c .before .before .put-front .ensures
+          ∙ ap (λ t. front t (a .out .now)) (wrote-front (p .ensures .0)));
     }
 
 pub write-row-spec : {M : Type 1} → statement M

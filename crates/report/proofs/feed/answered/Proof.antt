@@ -41,11 +41,13 @@ is w =
     let rest = drop (s .args .left) (s .args .bytes .now) in
     let e : length (take (room s) rest) ≡ room s =
     length-take-le (room s) rest (omega (arith, length-drop (s .args .left) (s .args .bytes .now))) in
-    subst (λ (z : ℤ). w .what-came .result ≡ arrivedOf z (room s)) (toZ-ofZ w64 (s .args .answer) (s .fits .answer))
+    subst (λ (z : ℤ). w .what-came .result ≡ arrivedOf z (room s))
+    (toZ-ofZ w64 (s .args .answer) (s .fits .answer))
     (subst (λ (k : ℕ). w .what-came .result ≡ arrivedOf (toZ w64 (ofZ w64 (s .args .answer))) k) e
     (w .what-came .ensures))
 
-counted : (c : tie.After-n) → let s = start (counted-from c) in c .n .given .0 .0 ≡ clamped (s .args .answer) (room s)
+counted : (c : tie.After-n) → let s = start (counted-from c) in
+    c .n .given .0 .0 ≡ clamped (s .args .answer) (room s)
 counted c =
     let w = counted-from c in
     let s = start w in

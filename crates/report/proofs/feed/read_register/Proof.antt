@@ -9,13 +9,15 @@ use Rattle.report.proofs.feed.read_register.Statement.{statement}
 use Rattle.report.proofs.feed.read_register.Tie as tie
 
 abbrev Inv-loop : tie.InvT-loop
-Inv-loop ids₀ groups₀ marks₀ levels₀ points bytes₀ left₀ line₀ turns₀ ids groups marks levels bytes left line turns =
+Inv-loop ids₀ groups₀ marks₀ levels₀ points bytes₀ left₀ line₀ turns₀ ids groups marks levels bytes
+    left line turns =
     (Come points (bookOf ids₀ groups₀ marks₀ levels₀) bytes left line (bookOf ids groups marks levels))
     × (length ids ≡ length ids₀) × (length groups ≡ length groups₀) × (length marks ≡ length marks₀)
     × (length levels ≡ length levels₀) × (length bytes ≡ length bytes₀)
 
 abbrev μ-loop : tie.MeasureT-loop
-μ-loop ids₀ groups₀ marks₀ levels₀ points bytes₀ left₀ line₀ turns₀ ids groups marks levels bytes left line turns =
+μ-loop ids₀ groups₀ marks₀ levels₀ points bytes₀ left₀ line₀ turns₀ ids groups marks levels bytes
+    left line turns =
     turns
 
 -- places on the way: the turn that was read once its columns and its buffer are back, and the loop

@@ -18,7 +18,8 @@ use Rattle.report_text.proofs.totals.added_up.Tie as tie
 abbrev to : (Counts → ℕ) → List Counts → ℕ → ℕ
 to f counts g = sumTo (λ k. f (countsIn counts k)) g
 
-more : (f : Counts → ℕ) (counts : List Counts) (g : ℕ) → to f counts (g + 1) ≡ to f counts g + f (countsIn counts g)
+more : (f : Counts → ℕ) (counts : List Counts) (g : ℕ)
+    → to f counts (g + 1) ≡ to f counts g + f (countsIn counts g)
 unfolding sumTo
 more f counts g = ap (to f counts) (add-one g)
 
@@ -52,8 +53,11 @@ unfolding allComputed allMissing
 returns c =
     let l = c .before in
     let counts = l .before .args .t1 in
-    let last : l .loop .g ≡ groupCount = omega arith in
-    (l .loop .inv .1 ∙ ap (to (λ k. k .computed) counts) last, l .loop .inv .2 ∙ ap (to (λ k. k .missing) counts) last)
+    let last : l .loop .g ≡ groupCount = omega arith in (
+      l .loop .inv .1 ∙ ap (to (λ k. k .computed) counts) last,
+      l .loop .inv .2
+          ∙ ap (to (λ k. k .missing) counts) last,
+    )
 
 pub added-up-spec : {M : Type 1} → statement M
 added-up-spec =

@@ -51,7 +51,8 @@ put-number-put-byte-requires : (t : ℕ) → put-number-lts.Need-put-byte-requir
   put-number-below t,
   put-number.Post,
 ) (put-number-at t) put-number.Post
-put-number-put-byte-requires t c κs = let a = c .before .before .before .args in omega (arith, ap length (shown-last 19 (a .n) (c .before .if1 .taken)), c .before .before .before .pre)
+put-number-put-byte-requires t c κs = let a = c .before .before .before .args in
+    omega (arith, ap length (shown-last 19 (a .n) (c .before .if1 .taken)), c .before .before .before .pre)
 
 put-number-same-length : (t : ℕ) → put-number-lts.Need-same-length (
   put-byte-reads.Asked,
@@ -67,7 +68,8 @@ put-number-returns : (t : ℕ) → put-number-lts.Need-returns (
   put-number-below t,
   put-number.Post,
 ) (put-number-at t) put-number.Post
-put-number-returns t c = rw (shown-last 19 (c .before .before .before .before .before .before .args .n) (c .before .before .before .before .if1 .taken)) (c .before .before .put-byte .ensures)
+put-number-returns t c = rw (shown-last 19 (c .before .before .before .before .before .before .args .n)
+    (c .before .before .before .before .if1 .taken)) (c .before .before .put-byte .ensures)
 
 put-number-put-number-requires : (t : ℕ) → put-number-lts.Need-put-number-requires (
   put-byte-reads.Asked,
@@ -86,8 +88,14 @@ put-number-put-byte-requires-2 : (t : ℕ) → put-number-lts.Need-put-byte-requ
   put-number.Post,
 ) (put-number-at t) put-number.Post
 put-number-put-byte-requires-2 t c κs = let a = c .before .before .before .before .before .before .before .args in
-    let l = shown-longer 18 (a .n) (c .before .before .before .before .before .if1 .left) (small (a .n) (omega arith)) in
-    omega (arith, c .before .before .before .before .before .before .before .pre, c .before .before .before .put-number .ensures .place, c .before .before .before .put-number .kept .0)
+    let l = shown-longer 18 (a .n) (c .before .before .before .before .before .if1 .left)
+    (small (a .n) (omega arith)) in
+    omega (
+      arith,
+      c .before .before .before .before .before .before .before .pre,
+      c .before .before .before .put-number .ensures .place,
+      c .before .before .before .put-number .kept .0,
+    )
 
 put-number-same-length-2 : (t : ℕ) → put-number-lts.Need-same-length-2 (
   put-byte-reads.Asked,
@@ -95,7 +103,8 @@ put-number-same-length-2 : (t : ℕ) → put-number-lts.Need-same-length-2 (
   put-number-below t,
   put-number.Post,
 ) (put-number-at t) put-number.Post
-put-number-same-length-2 t c = c .before .before .put-byte2 .kept .0 ∙ c .before .before .before .before .before .before .put-number .kept .0
+put-number-same-length-2 t c = c .before .before .put-byte2 .kept .0
+    ∙ c .before .before .before .before .before .before .put-number .kept .0
 
 put-number-returns-2 : (t : ℕ) → put-number-lts.Need-returns-2 (
   put-byte-reads.Asked,

@@ -1,4 +1,5 @@
--- `text::core::digits` meets its contract. The loop's invariant: what is left, read after the value so far, is what the whole
+-- `text::core::digits` meets its contract. The loop's invariant: what is left, read after the value so far, is what
+-- the whole
 -- reads as; the value has as many digits as were passed. Assumes nothing.
 use Prim.Native.Nat.{_≤_, _<_, _-_, _^_}
 use mathlib.Core.Path.{_≡_, refl, sym, _∙_}
@@ -23,7 +24,8 @@ loop-holds c = (refl, omega arith, omega arith)
 
 -- under the loop's test the value has at most six digits
 small : (c : tie.In-loop Inv-loop μ-loop) → c .before .loop .value < 1000000
-small c = million (c .before .loop .value) (c .before .loop .i) (c .before .loop .inv .2) (omega (arith, c .before .before .pre))
+small c = million (c .before .loop .value) (c .before .loop .i) (c .before .loop .inv .2)
+    (omega (arith, c .before .before .pre))
 
 returns : tie.Need-returns Inv-loop μ-loop
 returns c =

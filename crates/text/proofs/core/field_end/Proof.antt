@@ -1,4 +1,5 @@
--- `text::core::field_end` meets its contract. The invariant: from each byte passed the field ends at the same place. Assumes nothing.
+-- `text::core::field_end` meets its contract. The invariant: from each byte passed the field ends at the same
+-- place. Assumes nothing.
 use Prim.Native.Nat.{_+_, _-_, _≤_}
 use mathlib.Core.Path.{_≡_, ap}
 use native.Mathlib.Omega.{arith}
@@ -20,7 +21,11 @@ abbrev μ-loop : tie.MeasureT-loop
 returns : tie.Need-returns Inv-loop μ-loop
 returns c =
     let a = c .before .before .before .before .args in
-    omega (arith, ap length (up-hit (a .s .now) (a .d) (c .before .before .before .loop .i) (omega arith) (c .if1 .taken)))
+    omega (
+      arith,
+      ap length (up-hit (a .s .now) (a .d) (c .before .before .before .loop .i) (omega arith)
+          (c .if1 .taken)),
+    )
 
 loop-again : tie.Need-loop-again Inv-loop μ-loop
 loop-again c =

@@ -1,4 +1,5 @@
--- `text::core::line_end` meets its contract. The invariant: from each byte passed the line ends at the same place. Assumes nothing.
+-- `text::core::line_end` meets its contract. The invariant: from each byte passed the line ends at the same place.
+-- Assumes nothing.
 use Prim.Native.Nat.{_+_, _-_, _≤_}
 use mathlib.Core.Path.{_≡_, sym, ap, _∙_}
 use native.Mathlib.Omega.{arith}
@@ -19,13 +20,21 @@ returns : tie.Need-returns Inv-loop μ-loop
 returns c =
     let s = c .before .before .before .before .before .args .s .now in
     let i = c .before .before .before .loop .i in
-    omega (arith, ap length (line-hit s i (c .before .before .loop-test .taken) (sym (c .before .ends-line .ensures) ∙ c .if1 .taken)))
+    omega (
+      arith,
+      ap length (line-hit s i (c .before .before .loop-test .taken) (sym (c .before .ends-line .ensures)
+          ∙ c .if1 .taken)),
+    )
 
 loop-again : tie.Need-loop-again Inv-loop μ-loop
 loop-again c =
     let s = c .before .before .before .before .before .args .s .now in
     let i = c .before .before .before .loop .i in
-    omega (arith, line-miss s i (c .before .before .loop-test .taken) (sym (c .before .ends-line .ensures) ∙ c .if1 .left))
+    omega (
+      arith,
+      line-miss s i (c .before .before .loop-test .taken) (sym (c .before .ends-line .ensures)
+          ∙ c .if1 .left),
+    )
 
 returns-2 : tie.Need-returns-2 Inv-loop μ-loop
 returns-2 c =

@@ -17,7 +17,8 @@ units : (c : tie.After-power) → c .before .before .args .n / c .power .result 
 units c =
     let s = c .before .before in
     let d = s .args .d in
-    rw (c .power .ensures) (div-lt-iff-lt-mul {k = 10 ^ d} {x = s .args .n} {y = 10000000} (parts-some d) .1 (s .pre .1))
+    rw (c .power .ensures) (div-lt-iff-lt-mul {k = 10 ^ d} {x = s .args .n} {y = 10000000} (parts-some d) .1
+    (s .pre .1))
 
 room : (c : tie.After-power) → let a = c .before .before .args in
     a .at + length (showWhole (a .n / c .power .result)) + 1 + a .d ≤ length (a .out .now)

@@ -11,7 +11,8 @@ use Rattle.text.proofs.core.put_text.Statement.{statement}
 use Rattle.text.proofs.core.put_text.Tie as tie
 
 abbrev Inv-loop : tie.InvT-loop
-Inv-loop out₀ at text i₀ out i = (out ≡ put out₀ at (take i text)) × (i ≤ length text) × (length out ≡ length out₀)
+Inv-loop out₀ at text i₀ out i =
+    (out ≡ put out₀ at (take i text)) × (i ≤ length text) × (length out ≡ length out₀)
 
 abbrev μ-loop : tie.MeasureT-loop
 μ-loop out₀ at text i₀ out i = length text - i

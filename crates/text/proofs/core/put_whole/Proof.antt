@@ -9,7 +9,8 @@ put-number-requires : tie.Need-put-number-requires
 put-number-requires c κs = let s = c .before .before in rw (whole-number (s .args .n) (s .pre .0)) (s .pre .1)
 
 returns : tie.Need-returns
-returns c = let s = c .before .before .before .before .before in rw (whole-number (s .args .n) (s .pre .0)) at (c .before .before .put-number .ensures)
+returns c = let s = c .before .before .before .before .before in
+    rw (whole-number (s .args .n) (s .pre .0)) at (c .before .before .put-number .ensures)
 
 pub put-whole-spec : {M : Type 1} → statement M
 put-whole-spec = tie.close (tie.spec put-number-requires (λ c. search needs) returns)

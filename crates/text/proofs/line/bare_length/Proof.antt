@@ -27,14 +27,24 @@ unfolding bareLine
 returns-3 c =
     let s = c .before .before .before .before .before .args .s .now in
     let last : length s - 2 + 1 ≡ length s - 1 = omega arith in
-    rw (le-leb 2 (length s) (omega arith), eq-eqb (getD s (length s - 2) 0) 13 (c .before .before .if2 .left), last, ne-eqb (getD s (length s - 1) 0) 10 (c .if3 .taken))
+    rw (
+      le-leb 2 (length s) (omega arith),
+      eq-eqb (getD s (length s - 2) 0) 13 (c .before .before .if2 .left),
+      last,
+      ne-eqb (getD s (length s - 1) 0) 10 (c .if3 .taken),
+    )
 
 returns-4 : tie.Need-returns-4
 unfolding bareLine
 returns-4 c =
     let s = c .before .before .before .before .before .args .s .now in
     let last : length s - 2 + 1 ≡ length s - 1 = omega arith in
-    rw (le-leb 2 (length s) (omega arith), eq-eqb (getD s (length s - 2) 0) 13 (c .before .before .if2 .left), last, eq-eqb (getD s (length s - 1) 0) 10 (c .if3 .left)) (sym (length-take-le (length s - 2) s (omega arith)))
+    rw (
+      le-leb 2 (length s) (omega arith),
+      eq-eqb (getD s (length s - 2) 0) 13 (c .before .before .if2 .left),
+      last,
+      eq-eqb (getD s (length s - 1) 0) 10 (c .if3 .left),
+    ) (sym (length-take-le (length s - 2) s (omega arith)))
 
 pub bare-length-spec : {M : Type 1} → statement M
 bare-length-spec =

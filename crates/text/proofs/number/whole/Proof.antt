@@ -26,7 +26,12 @@ returns-3 : tie.Need-returns-3
 unfolding wholeOf
 returns-3 c =
     let s = c .before .before .before .before .before .before .args .s .now in
-    simp (le-leb 1 (length s) (omega arith), le-leb (length s) 7 (omega arith), lt-ltb 1 (length s) (omega arith), eq-eqb (getD s 0 0) 48 (c .if4 .taken))
+    simp (
+      le-leb 1 (length s) (omega arith),
+      le-leb (length s) 7 (omega arith),
+      lt-ltb 1 (length s) (omega arith),
+      eq-eqb (getD s 0 0) 48 (c .if4 .taken),
+    )
 
 returns-4 : tie.Need-returns-4
 unfolding wholeOf
@@ -34,8 +39,17 @@ returns-4 c =
     let s = c .before .before .before .before .before .args .s .now in
     c .digits .ensures
     ∙ ⊎-elim
-    (λ w. simp (le-leb 1 (length s) (omega arith), le-leb (length s) 7 (omega arith), lt-ltb 1 (length s) (omega arith), ne-eqb (getD s 0 0) 48 (w .2 .left)))
-    (λ w. simp (le-leb 1 (length s) (omega arith), le-leb (length s) 7 (omega arith), le-ltb 1 (length s) (omega arith)))
+    (λ w. simp (
+      le-leb 1 (length s) (omega arith),
+      le-leb (length s) 7 (omega arith),
+      lt-ltb 1 (length s) (omega arith),
+      ne-eqb (getD s 0 0) 48 (w .2 .left),
+    ))
+    (λ w. simp (
+      le-leb 1 (length s) (omega arith),
+      le-leb (length s) 7 (omega arith),
+      le-ltb 1 (length s) (omega arith),
+    ))
     (c .before .if3 .came)
 
 pub whole-spec : {M : Type 1} → statement M

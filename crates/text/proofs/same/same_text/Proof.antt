@@ -1,4 +1,5 @@
--- `text::same::same_text` meets its contract. The invariant: the rests are the same exactly where the texts are. Assumes nothing.
+-- `text::same::same_text` meets its contract. The invariant: the rests are the same exactly where the texts are.
+-- Assumes nothing.
 use Prim.Native.Nat.{_-_, _≤_}
 use mathlib.Core.Path.{_≡_, refl, sym, _∙_}
 use native.Mathlib.Omega.{arith}

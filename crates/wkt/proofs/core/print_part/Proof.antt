@@ -19,7 +19,8 @@ use Rattle.wkt.proofs.core.print_part.Statement.{statement}
 use Rattle.wkt.proofs.core.print_part.Tie as tie
 
 abbrev Inv-loop : tie.InvT-loop
-Inv-loop levels frame v edges counts closed room₀ piece₀ at₀ size₀ room piece at size = Come levels frame v edges counts closed at₀ room₀ room piece at size
+Inv-loop levels frame v edges counts closed room₀ piece₀ at₀ size₀ room piece at size =
+    Come levels frame v edges counts closed at₀ room₀ room piece at size
 
 abbrev μ-loop : tie.MeasureT-loop
 μ-loop levels frame v edges counts closed room₀ piece₀ at₀ size₀ room piece at size = ahead edges counts at
@@ -37,7 +38,8 @@ stepped c =
     let s = at-loop .before .before .before .before .before .before in
     let a = s .args in
     let l = at-loop .loop in
-    subst (λ (n : Cursor). Goes (now (a .levels)) (a .frame) (a .v) (now (a .edges)) (now (a .counts)) (now (a .closed))
+    subst (λ (n : Cursor). Goes (now (a .levels)) (a .frame) (a .v) (now (a .edges)) (now (a .counts))
+    (now (a .closed))
     (l .at) n (pieceOf (now (a .levels)) (a .frame) (a .v) (now (a .edges)) (now (a .counts)) (now (a .closed))
     (l .at))) (sym (c .put-step .ensures .0)) (goes (now (a .levels)) (a .frame) (a .v) (now (a .edges))
     (now (a .counts)) (now (a .closed)) (s .pre .0) (l .at) (l .inv .reached) (c .before .before .if1 .taken))
@@ -69,7 +71,11 @@ put-step-requires c κs =
     ((start .pre .0, at-loop .loop .inv .reached), (c .before .if1 .taken, omega (arith, at-loop .loop .inv .whole)))
 
 sub-if2 : tie.Need-sub-if2 Inv-loop μ-loop
-sub-if2 c = omega (arith, c .before .before .before .before .before .loop .inv .fits, c .before .before .before .before .before .loop .inv .long)
+sub-if2 c = omega (
+  arith,
+  c .before .before .before .before .before .loop .inv .fits,
+  c .before .before .before .before .before .loop .inv .long,
+)
 
 returns : tie.Need-returns Inv-loop μ-loop
 returns c =

@@ -38,7 +38,8 @@ stepped c =
     let s = at-loop .before .before .before .before .before .before in
     let a = s .args in
     let l = at-loop .loop in
-    subst (λ (n : Cursor). Goes (now (a .levels)) (a .frame) (a .v) (now (a .edges)) (now (a .counts)) (now (a .closed))
+    subst (λ (n : Cursor). Goes (now (a .levels)) (a .frame) (a .v) (now (a .edges)) (now (a .counts))
+    (now (a .closed))
     (l .at) n (pieceOf (now (a .levels)) (a .frame) (a .v) (now (a .edges)) (now (a .counts)) (now (a .closed))
     (l .at))) (sym (c .put-step .ensures .0)) (goes (now (a .levels)) (a .frame) (a .v) (now (a .edges))
     (now (a .counts)) (now (a .closed)) (s .pre) (l .at) (l .inv .1 .0) (c .before .before .if1 .taken))
@@ -131,13 +132,17 @@ loop-again c =
     (at-loop .loop .at)) ≡ length (pieceOf (now (a .levels)) (a .frame) (a .v) (now (a .edges)) (now (a .counts))
     (now (a .closed)) (at-loop .loop .at)) + length (leftOf (now (a .levels)) (a .frame) (a .v) (now (a .edges))
     (now (a .counts)) (now (a .closed)) n) =
-    ap length (g .text) ∙ length-append (pieceOf (now (a .levels)) (a .frame) (a .v) (now (a .edges)) (now (a .counts))
+    ap length (g .text) ∙ length-append
+    (pieceOf (now (a .levels)) (a .frame) (a .v) (now (a .edges)) (now (a .counts))
     (now (a .closed)) (at-loop .loop .at)) (leftOf (now (a .levels)) (a .frame) (a .v) (now (a .edges))
     (now (a .counts)) (now (a .closed)) n) in (
       whole at-put-step,
       (
         g .reached,
-        (omega (arith, i .1 .1 .0, e, at-put-step .put-step .ensures .1 .place), omega (arith, i .1 .1 .1, g .nearer, short at-put-step)),
+        (
+          omega (arith, i .1 .1 .0, e, at-put-step .put-step .ensures .1 .place),
+          omega (arith, i .1 .1 .1, g .nearer, short at-put-step),
+        ),
       ),
     )
 

@@ -8,7 +8,8 @@ use Rattle.wkt.proofs.place.offset.Statement.{statement}
 use Rattle.wkt.proofs.place.offset.Tie as tie
 
 product : (c : tie.Start) → 1000 * c .args .spacing * c .args .num ≤ 2147483647500000
-product c = let n : c .args .num ≤ 4294967295 = search needs in product-small (c .args .spacing) (c .args .num) (c .pre .0) n
+product c = let n : c .args .num ≤ 4294967295 = search needs in
+    product-small (c .args .spacing) (c .args .num) (c .pre .0) n
 
 mul-result : tie.Need-mul-result
 mul-result c = omega (arith, product c)
@@ -21,7 +22,8 @@ add-result c = omega (arith, product c)
 
 cast-result : tie.Need-cast-result
 cast-result c =
-    let small : offsetOf (c .args .spacing) (c .args .num) (c .args .den) ≤ 1000 * c .args .spacing = offset-small (c .args .spacing) (c .args .num) (c .args .den) (c .pre .1 .0) (c .pre .1 .1) in
+    let small : offsetOf (c .args .spacing) (c .args .num) (c .args .den) ≤ 1000 * c .args .spacing =
+    offset-small (c .args .spacing) (c .args .num) (c .args .den) (c .pre .1 .0) (c .pre .1 .1) in
     omega arith
 
 pub offset-spec : {M : Type 1} → statement M

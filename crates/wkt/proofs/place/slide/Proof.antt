@@ -7,8 +7,11 @@ use Rattle.wkt.proofs.place.slide.Tie as tie
 
 offset-requires : tie.Need-offset-requires
 offset-requires c κs =
-    let s = c .before .before in
-    (s .pre .1, rw (c .before .apart .ensures, c .apart2 .ensures) (num-den (s .args .v) (s .args .a) (s .args .b) (s .pre .0)))
+    let s = c .before .before in (
+      s .pre .1,
+      rw (c .before .apart .ensures, c .apart2 .ensures)
+          (num-den (s .args .v) (s .args .a) (s .args .b) (s .pre .0)),
+    )
 
 returns : tie.Need-returns
 returns c = c .offset .ensures ∙ rw (c .before .before .apart .ensures, c .before .apart2 .ensures)

@@ -5,13 +5,20 @@ use Rattle.wkt.proofs.put.put_before.Statement.{statement}
 use Rattle.wkt.proofs.put.put_before.Tie as tie
 
 returns : tie.Need-returns
-returns c = rw (eq-eqb _ _ (c .before .before .before .before .before .before .if1 .taken), eq-eqb _ _ (c .before .before .before .before .before .if2 .taken)) (c .before .before .put-text .ensures)
+returns c = rw (
+  eq-eqb _ _ (c .before .before .before .before .before .before .if1 .taken),
+  eq-eqb _ _ (c .before .before .before .before .before .if2 .taken),
+) (c .before .before .put-text .ensures)
 
 returns-2 : tie.Need-returns-2
-returns-2 c = rw (eq-eqb _ _ (c .before .before .before .before .before .before .if1 .taken), ne-eqb _ _ (c .before .before .before .before .before .if2 .left)) (c .before .before .put-text2 .ensures)
+returns-2 c = rw (
+  eq-eqb _ _ (c .before .before .before .before .before .before .if1 .taken),
+  ne-eqb _ _ (c .before .before .before .before .before .if2 .left),
+) (c .before .before .put-text2 .ensures)
 
 returns-3 : tie.Need-returns-3
-returns-3 c = rw (ne-eqb _ _ (c .before .before .before .before .before .if1 .left)) (c .before .before .put-text3 .ensures)
+returns-3 c = rw (ne-eqb _ _ (c .before .before .before .before .before .if1 .left))
+    (c .before .before .put-text3 .ensures)
 
 pub put-before-spec : {M : Type 1} → statement M
 put-before-spec =

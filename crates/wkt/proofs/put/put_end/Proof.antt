@@ -5,7 +5,8 @@ use Rattle.wkt.proofs.put.put_end.Statement.{statement}
 use Rattle.wkt.proofs.put.put_end.Tie as tie
 
 returns : tie.Need-returns
-returns c = rw (eq-eqb _ _ (c .before .before .before .before .before .if1 .taken)) (c .before .before .put-text .ensures)
+returns c = rw (eq-eqb _ _ (c .before .before .before .before .before .if1 .taken))
+    (c .before .before .put-text .ensures)
 
 returns-2 : tie.Need-returns-2
 returns-2 c = rw (ne-eqb _ _ (c .before .before .before .before .if1 .left)) (c .before .before .put-byte .ensures)

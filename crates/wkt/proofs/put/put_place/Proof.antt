@@ -16,15 +16,25 @@ abbrev start : tie.After-edge-at → tie.Start
 start c = c .before .before .before .before .before
 
 -- the place found is that of the number's edge
-spot : (c : tie.After-spot-of) → let a = start (c .before .before) .args in showSpot (c .spot-of .result) ≡ placeText (now (a .levels)) (a .frame) (a .v) (a .n)
+spot : (c : tie.After-spot-of) → let a = start (c .before .before) .args in
+    showSpot (c .spot-of .result) ≡ placeText (now (a .levels)) (a .frame) (a .v) (a .n)
 unfolding placeText
-spot c = let a = start (c .before .before) .args in ap showSpot (c .spot-of .ensures ∙ ap (spotOf (now (a .levels)) (a .frame) (a .v)) (c .before .before .edge-at .ensures))
+spot c = let a = start (c .before .before) .args in
+    ap showSpot (c .spot-of .ensures
+    ∙ ap (spotOf (now (a .levels)) (a .frame) (a .v)) (c .before .before .edge-at .ensures))
 
 spot-of-requires : tie.Need-spot-of-requires
 spot-of-requires c κs =
     let s = start (c .before) in
-    let f = s .args .frame in
-    (s .pre .0, subst (λ (e : Edge). WithinEdge (f .columns) (f .rows) e × (crossedEdge (now (s .args .levels)) (f .columns) (s .args .v) e ≡ true)) (sym (c .before .edge-at .ensures)) (edge-within (f .columns) (f .rows) (s .pre .0 .sized .sides .wide) (s .args .n) (s .pre .1 .0 .0), s .pre .1 .0 .1))
+    let f = s .args .frame in (
+      s .pre .0,
+      subst (λ (e : Edge). WithinEdge (f .columns) (f .rows) e
+          × (crossedEdge (now (s .args .levels)) (f .columns) (s .args .v) e ≡ true))
+          (sym (c .before .edge-at .ensures)) (
+            edge-within (f .columns) (f .rows) (s .pre .0 .sized .sides .wide) (s .args .n) (s .pre .1 .0 .0),
+            s .pre .1 .0 .1,
+          ),
+    )
 
 put-spot-requires : tie.Need-put-spot-requires
 put-spot-requires c κs = rw (spot c) (start (c .before .before) .pre .1 .1)

@@ -11,7 +11,8 @@ use Rattle.wkt.proofs.put.put_spot.Tie as tie
 
 -- the room, part by part
 room : (c : tie.Start)
-    → c .args .at + length (showMetres (c .args .spot .x)) + 1 + length (showMetres (c .args .spot .y)) ≤ length (c .args .out .now)
+    → c .args .at + length (showMetres (c .args .spot .x)) + 1 + length (showMetres (c .args .spot .y)) ≤ length
+    (c .args .out .now)
 room c = omega (arith, c .pre, length-append (showMetres (c .args .spot .x)) (32 ∷ showMetres (c .args .spot .y)))
 
 put-decimal-requires : tie.Need-put-decimal-requires
@@ -27,8 +28,18 @@ put-decimal-requires-2 c κs =
     let space = c .before .before .before .put-byte in
     let after-east = c .before .before .before .before .before .before .before in
     let east = after-east .put-decimal in
-    let start = after-east .before .before .before in
-    (omega arith, omega arith, omega (arith, room start, east .ensures .place, east .kept .0, space .ensures .place, space .kept .0))
+    let start = after-east .before .before .before in (
+      omega arith,
+      omega arith,
+      omega (
+        arith,
+        room start,
+        east .ensures .place,
+        east .kept .0,
+        space .ensures .place,
+        space .kept .0,
+      ),
+    )
 
 same-length : tie.Need-same-length
 same-length c = search needs
@@ -40,7 +51,8 @@ returns c =
     let east = after-east .put-decimal in
     let start = after-east .before .before .before in
     wrote-then (start .pre) (east .ensures)
-    (wrote-then (omega (arith, room start, east .ensures .place, east .kept .0)) (after-space .put-byte .ensures) (c .before .before .put-decimal2 .ensures))
+    (wrote-then (omega (arith, room start, east .ensures .place, east .kept .0)) (after-space .put-byte .ensures)
+    (c .before .before .put-decimal2 .ensures))
 
 pub put-spot-spec : {M : Type 1} → statement M
 put-spot-spec =

@@ -56,7 +56,8 @@ few c =
 
 -- the listed edge that the point prints
 within : (c : tie.After-around)
-    → begun (c .before .before .before .before) .args .at .start + c .around .result < length (now (begun (c .before .before .before .before) .args .listed))
+    → begun (c .before .before .before .before) .args .at .start + c .around .result < length
+    (now (begun (c .before .before .before .before) .args .listed))
 within c =
     let s = begun (c .before .before .before .before) in
     let a = s .args in
@@ -107,7 +108,13 @@ cast-if2 c = omega (
 )
 
 add-if2 : tie.Need-add-if2
-add-if2 c = omega (arith, few (c .before .before), enough (c .before .before), c .before .before .before .before .before .before .before .before .pre .0 .0 .marks (c .before .before .before .before .before .before .before .before .args .at .line))
+add-if2 c = omega (
+  arith,
+  few (c .before .before),
+  enough (c .before .before),
+  c .before .before .before .before .before .before .before .before .pre .0 .0 .marks
+      (c .before .before .before .before .before .before .before .before .args .at .line),
+)
 
 add-t28 : tie.Need-add-t28
 add-t28 c = omega (arith, few (c .before .before .before), enough (c .before .before .before))
@@ -158,7 +165,15 @@ put-place-requires c κs =
       s .pre .0 .0 .checked,
       (
         s .pre .0 .0 .crossing (a .at .start + at-around .around .result) (within at-around),
-        omega (arith, at-put-before .put-before .ensures .place, at-put-before .put-before .kept .0, s .pre .1 .1, before-short (a .at .line) (a .at .point), place-short (now (a .levels)) (a .frame) (a .v) (getD (now (a .listed)) (a .at .start + at-around .around .result) 0)),
+        omega (
+          arith,
+          at-put-before .put-before .ensures .place,
+          at-put-before .put-before .kept .0,
+          s .pre .1 .1,
+          before-short (a .at .line) (a .at .point),
+          place-short (now (a .levels)) (a .frame) (a .v)
+              (getD (now (a .listed)) (a .at .start + at-around .around .result) 0),
+        ),
       ),
     )
 

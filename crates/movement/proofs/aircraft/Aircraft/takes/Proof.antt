@@ -10,4 +10,5 @@ small c = rw (c .enum-told2 .given .1)
 pub takes-spec : {M : Type 1} → statement M
 takes-spec =
     tie.close
-    (tie.spec (λ c. search needs) (λ c. search needs) (λ c. search needs) (λ c. search needs) small (λ c. search needs))
+    (tie.spec (λ c. search needs) (λ c. search needs) (λ c. search needs) (λ c. search needs) small
+    (λ c. search needs))

@@ -7,19 +7,22 @@ use lib.ListN.{length}
 use borrow.Author.Needs.{needs}
 use Rattle.book_rules.specs.Columns.{bookOf}
 use Rattle.report_steps.specs.Reading.{readingAt}
-use Rattle.report_steps.proofs.Takings.{Taking, taking-inside, taking-none, taking-next, taking-refused, taking-done}
+use Rattle.report_steps.proofs.Takings.{Taking, taking-inside, taking-none, taking-next, taking-refused}
+use Rattle.report_steps.proofs.Takings.{taking-done}
 use Rattle.report_steps.proofs.core.feeding.take_lines.Statement.{statement}
 use Rattle.report_steps.proofs.core.feeding.take_lines.Tie as tie
 
 abbrev Inv-loop : tie.InvT-loop
-Inv-loop ids₀ groups₀ marks₀ levels₀ points bytes line at₀ number₀ end₀ ids groups marks levels at number end =
+Inv-loop ids₀ groups₀ marks₀ levels₀ points bytes line at₀ number₀ end₀ ids groups marks levels
+    at number end =
     (Taking points (readingAt 0 line (bookOf ids₀ groups₀ marks₀ levels₀)) bytes at number
     (bookOf ids groups marks levels) end)
     × (length ids ≡ length ids₀) × (length groups ≡ length groups₀) × (length marks ≡ length marks₀)
     × (length levels ≡ length levels₀)
 
 abbrev μ-loop : tie.MeasureT-loop
-μ-loop ids₀ groups₀ marks₀ levels₀ points bytes line at₀ number₀ end₀ ids groups marks levels at number end =
+μ-loop ids₀ groups₀ marks₀ levels₀ points bytes line at₀ number₀ end₀ ids groups marks levels
+    at number end =
     length bytes - at
 
 -- places on the way: the start, the loop, and the line that was taken once its columns are back
