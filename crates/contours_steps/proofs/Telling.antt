@@ -44,7 +44,6 @@ use Rattle.contours_steps.proofs.Levels.{word-range}
 use Rattle.contours_steps.proofs.Drawings.{fine-both, words-fine}
 
 -- ---- no text of contours has a CR
-
 metres-free : (n : ℕ) → countOf 13 (showMetres n) ≡ 0
 metres-free n = decimal-free 13 (omega arith) 3 n
 

@@ -13,7 +13,8 @@ use Rattle.room.specs.Room.{front}
 use Rattle.journal.specs.Journal.{laidOut, callsOf, callsFor}
 
 -- the replay of the journal j on the book b, with a room for answers, was answered r and left b′ and room′
-pub record ReplayHolds (p : ℕ) (b : Book) (j room : List ℕ) (r : ℕ) (b′ : Book) (room′ : List ℕ) : Type 0 where
+pub record ReplayHolds (p : ℕ) (b : Book) (j room : List ℕ) (r : ℕ) (b′ : Book) (room′ : List ℕ)
+    : Type 0 where
   -- 16 for numbers off the layout, then 9, and 14 last
   pub order : Given r 16 (laidOut j ≡ false)
       (Given r 9 (SoundBook p b → ⊥)

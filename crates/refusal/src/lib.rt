@@ -1,5 +1,5 @@
-// What calls share when they refuse: RULES, "Refusal numbers". The order of refusals stands in specs/Refuse.antt; a function that refuses
-// returns its number itself.
+// What calls share when they refuse: RULES, "Refusal numbers". The order of refusals stands in specs/Refuse.antt; a
+// function that refuses returns its number itself.
 ghost use mathlib.Core.Path.{_≡_};
 ghost use Rattle.refusal.specs.Range.{allWithin};
 

@@ -26,7 +26,8 @@ pub record Spells (p : ℕ) (row : List ℕ) (f : Fields) (levels : List ℕ) : 
   pub kind : column row 3 ≡ getD (bytes "SL") (f .kind) 0 ∷ []
   pub kind< : f .kind < 2
   pub time : column row 4
-      ≡ showDigits 2 (f .time / 3600) ++ (58 ∷ showDigits 2 (f .time / 60 % 60)) ++ (58 ∷ showDigits 2 (f .time % 60))
+      ≡ showDigits 2 (f .time / 3600) ++ (58 ∷ showDigits 2 (f .time / 60 % 60))
+      ++ (58 ∷ showDigits 2 (f .time % 60))
   pub time< : f .time < 86400
   -- levels for all points, or all blank
   pub mark : f .computed ≤ 1

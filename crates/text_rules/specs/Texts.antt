@@ -19,7 +19,8 @@ Unbroken s = (i : ℕ) → (getD s i 0 ≡ 13) × (getD s (suc i) 0 ≡ 10) → 
 -- a CRLF ends a line and nothing else does; the last one may be missing; a text of no bytes has no line
 pub record LinesAre : Type 0 where
   pub none : linesOf [] ≡ []
-  pub ended : (line rest : List ℕ) → Unbroken line → linesOf (line ++ (13 ∷ 10 ∷ rest)) ≡ line ∷ linesOf rest
+  pub ended : (line rest : List ℕ) → Unbroken line
+      → linesOf (line ++ (13 ∷ 10 ∷ rest)) ≡ line ∷ linesOf rest
   pub last : (line : List ℕ) → Unbroken line → 1 ≤ length line → linesOf line ≡ line ∷ []
 
 -- Fields
@@ -53,7 +54,8 @@ pub record NumbersAre : Type 0 where
   -- two digits
   pub two : (n : ℕ) → n < 100 → showDigits 2 n ≡ (48 + n / 10) ∷ ((48 + n % 10) ∷ [])
   -- a level: the whole dB, a point, 46, tenths and hundredths
-  pub level : (n : ℕ) → showLevel n ≡ showWhole (n / 100) ++ (46 ∷ ((48 + n / 10 % 10) ∷ ((48 + n % 10) ∷ [])))
+  pub level : (n : ℕ)
+      → showLevel n ≡ showWhole (n / 100) ++ (46 ∷ ((48 + n / 10 % 10) ∷ ((48 + n % 10) ∷ [])))
   -- a text is read as a number exactly if it is how the number is spelled: up to seven digits, up to 999.99
   pub whole-read : (s : List ℕ) (n : ℕ) → wholeOf s ≡ Got n ↔ (n < 10 ^ 7) × (s ≡ showWhole n)
   pub level-read : (s : List ℕ) (n : ℕ) → levelOf s ≡ Got n ↔ (n < 100000) × (s ≡ showLevel n)
