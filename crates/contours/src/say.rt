@@ -1,12 +1,13 @@
 // What a person reads on standard error when something is refused.
 use libc::STDERR_FILENO;
-use sentence::MAX_SENTENCE;
+use said::in_general;
+use said::rule;
 
 // The network is refused: the line at fault is named where there is one.
 pub(crate) fn of_network(number: u32, line: u64) {
     if number == 17 {
         io::write_all(STDERR_FILENO, b"network, line ");
-        io::print_decimal(STDERR_FILENO, line);
+        said::number(line);
         io::write_all(
             STDERR_FILENO,
             b": the line is off its layout, or its line end is LF where CRLF is expected",
@@ -17,17 +18,10 @@ pub(crate) fn of_network(number: u32, line: u64) {
     rule(number);
 }
 
-// The sentence of a refusal's number.
-fn in_general(number: u32) {
-    let mut room = [0u8; MAX_SENTENCE];
-    let n = sentence::put_sentence(&mut room, number);
-    io::write_all(STDERR_FILENO, &room[..n]);
-}
-
 // The network's bytes can't be read on.
 pub(crate) fn of_read_error(line: u64) {
     io::write_all(STDERR_FILENO, b"network, line ");
-    io::print_decimal(STDERR_FILENO, line);
+    said::number(line);
     io::write_all(STDERR_FILENO, b": standard input can't be read on");
     rule(17);
 }
@@ -52,10 +46,4 @@ pub(crate) fn of_levels(number: u32) {
         );
     }
     rule(number);
-}
-
-fn rule(number: u32) {
-    io::write_all(STDERR_FILENO, b" (");
-    io::print_decimal(STDERR_FILENO, number as u64);
-    io::write_all(STDERR_FILENO, b")\n");
 }

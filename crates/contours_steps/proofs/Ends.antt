@@ -8,7 +8,8 @@ use Rattle.network.specs.declared.Frame.{Frame}
 use Rattle.wkt.specs.Calls.{networkText}
 use Rattle.grid.specs.Read.{textFrame, textLevels}
 use Rattle.contours_steps.specs.Words.{levelsIn}
-use Rattle.contours_steps.specs.Sheet.{lineEnd, lineStart, heading, levelLine, levelLines, sheetOf, showCount}
+use Rattle.text.specs.Number.{showNumber}
+use Rattle.contours_steps.specs.Sheet.{lineEnd, lineStart, heading, levelLine, levelLines, sheetOf}
 use Rattle.contours_steps.specs.Sheet.{refusedLine, refusalOf, refusedAt, writtenOf, lineBegun, overlongLine}
 use Rattle.contours_steps.specs.Sheet.{overlongOf}
 use Rattle.contours_steps.specs.Ends.{Ended, Ends}
@@ -32,9 +33,9 @@ refused-ends : (number line : ℕ) → Ended (refusedLine number line)
 unfolding refusedLine
 refused-ends number line =
     behind (114 ∷ 101 ∷ 102 ∷ 117 ∷ 115 ∷ 101 ∷ 100 ∷ 44 ∷ [])
-    (showCount number ++ ((44 ∷ []) ++ (showCount line ++ lineEnd)))
-    (behind (showCount number) ((44 ∷ []) ++ (showCount line ++ lineEnd))
-    (behind (44 ∷ []) (showCount line ++ lineEnd) (behind (showCount line) lineEnd end-itself)))
+    (showNumber number ++ ((44 ∷ []) ++ (showNumber line ++ lineEnd)))
+    (behind (showNumber number) ((44 ∷ []) ++ (showNumber line ++ lineEnd))
+    (behind (44 ∷ []) (showNumber line ++ lineEnd) (behind (showNumber line) lineEnd end-itself)))
 
 module _ (levels : List ℕ) (f : Frame) where
   line-ends : (v : ℕ) → Ended (levelLine levels f v)

@@ -1,4 +1,3 @@
-pub mod Counts
 pub mod Begun
 pub mod Dues
 pub mod Turns

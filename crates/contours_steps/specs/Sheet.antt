@@ -5,7 +5,7 @@ use mathlib.Core.Bool.{cond}
 use mathlib.Core.List.{List, [], _∷_, _++_}
 use lib.ListN.{length}
 use lib.Dec.{eqb, leb, ltb}
-use Rattle.text.specs.Number.{shown, showLevel}
+use Rattle.text.specs.Number.{showNumber, showLevel}
 use Rattle.text.specs.Spelled.{bytes}
 use Rattle.text.specs.Line.{linesOf}
 use Rattle.network.specs.declared.Frame.{Frame}
@@ -36,14 +36,10 @@ levelLines levels f (v ∷ vs) = levelLine levels f v ++ levelLines levels f vs
 unfoldable pub sheetOf : List ℕ → Frame → List ℕ → List ℕ
 sheetOf levels f vs = heading ++ levelLines levels f vs
 
--- a count in as many digits as it needs
-abbrev pub showCount : ℕ → List ℕ
-showCount n = shown 20 n
-
 -- `refused,number,line`
 unfoldable pub refusedLine : (number line : ℕ) → List ℕ
 refusedLine number line =
-    bytes "refused," ++ (showCount number ++ (bytes "," ++ (showCount line ++ lineEnd)))
+    bytes "refused," ++ (showNumber number ++ (bytes "," ++ (showNumber line ++ lineEnd)))
 
 -- the network is judged whole, 17, 12 and 13, and then the words
 abbrev pub maxPointsDrawn : ℕ

@@ -1,37 +1,14 @@
 // What a person reads on standard error when something is refused.
 use libc::STDERR_FILENO;
-use sentence::MAX_SENTENCE;
-use text::core::put_number;
+use said::in_general;
+use said::rule;
 
-// The most digits that a number has.
-const MAX_DIGITS: usize = 20;
-
-// A number, as the report's own text has it.
-fn print_number(n: u64) {
-    let mut digits = [0u8; MAX_DIGITS];
-    let size = put_number(&mut digits, 0, n);
-    io::write_all(STDERR_FILENO, &digits[..size]);
-}
-
-// `file, line N: ` before a sentence, and ` (number)` after it.
+// `file, line N: ` before a sentence.
 fn place(file: &[u8], line: u64) {
     io::write_all(STDERR_FILENO, file);
     io::write_all(STDERR_FILENO, b", line ");
-    print_number(line);
+    said::number(line);
     io::write_all(STDERR_FILENO, b": ");
-}
-
-fn rule(number: u32) {
-    io::write_all(STDERR_FILENO, b" (");
-    print_number(number as u64);
-    io::write_all(STDERR_FILENO, b")\n");
-}
-
-// The sentence of a refusal's number.
-fn in_general(number: u32) {
-    let mut room = [0u8; MAX_SENTENCE];
-    let n = sentence::put_sentence(&mut room, number);
-    io::write_all(STDERR_FILENO, &room[..n]);
 }
 
 // Whether a line feed stands in the bytes of one line: then its file doesn't end its lines by CRLF.
@@ -128,7 +105,7 @@ fn of_rule(number: u32, identity: u32) {
         return;
     }
     io::write_all(STDERR_FILENO, b"identity ");
-    print_number(identity as u64);
+    said::number(identity as u64);
     if number == 3 {
         io::write_all(STDERR_FILENO, b" is not from 1 to 99,999");
     } else if number == 4 {

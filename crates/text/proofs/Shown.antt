@@ -98,6 +98,18 @@ shown-digits (suc k) n h =
     rw no (digits-snoc (shown k (n / 10)) 0 (n / 10) (n % 10) (omega arith) (shown-digits k (n / 10) (tenth k n h))
     ∙ ap Got w))
 
+-- no more digits than allowed
+pub shown-short : (k n : ℕ) → length (shown k n) ≤ k
+unfolding shown
+shown-short zero n = omega arith
+shown-short (suc k) n =
+    either (ltb n 10)
+    (λ yes. rw yes (omega arith))
+    (λ no. rw no (omega (arith, length-append (shown k (n / 10)) ((48 + n % 10) ∷ []), shown-short k (n / 10))))
+
+pub number-short : (n : ℕ) → length (showNumber n) ≤ 20
+number-short n = shown-short 20 n
+
 -- a number under 10 to the w has at most w digits
 pub shown-width : (k w n : ℕ) → n < 10 ^ suc w → length (shown k n) ≤ suc w
 unfolding shown

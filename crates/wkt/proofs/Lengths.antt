@@ -7,7 +7,7 @@ use native.Mathlib.Omega.{arith}
 use lib.Dec.{ltb, eqb}
 use lib.ListN.{length, getD, length-append}
 use Rattle.text.specs.Number.{shown}
-use Rattle.text.proofs.Shown.{decimal-long}
+use Rattle.text.proofs.Shown.{shown-short, decimal-long}
 use Rattle.network.specs.declared.Frame.{Frame}
 use Rattle.network.specs.Edges.{edgeAt}
 use Rattle.network.proofs.Numbers.{by-cond}
@@ -16,18 +16,6 @@ use Rattle.wkt.specs.declared.Spot.{Spot}
 use Rattle.wkt.specs.Places.{spotOf}
 use Rattle.wkt.specs.Text.{showMetres, showSpot, placeText, comma, multilinestring, empty}
 use Rattle.wkt.specs.InnerParts.{lineAt, pointsAt, endText, beforeText, pieceOf}
-
-shown-short : (k n : ℕ) → length (shown k n) ≤ k
-unfolding shown
-shown-short zero n = omega arith
-shown-short (suc k) n =
-    by-cond (λ (l : List ℕ). length l ≤ suc k) (ltb n 10) ((48 + n) ∷ [])
-    (shown k (n / 10) ++ ((48 + n % 10) ∷ []))
-    (λ _. one-short)
-    (λ _. omega (arith, length-append (shown k (n / 10)) ((48 + n % 10) ∷ []), shown-short k (n / 10)))
-  where
-    one-short : 1 ≤ suc k
-    one-short = omega arith
 
 metres-short : (n : ℕ) → length (showMetres n) ≤ 11
 metres-short n = omega (arith, decimal-long 3 n, shown-short 7 (n / 1000))

@@ -2,11 +2,12 @@
 // answers the place past its text.
 use text::core::put_byte;
 use text::core::put_level;
+use text::core::put_number;
 use text::core::put_text;
 ghost use Prim.Native.Nat.{_+_, _≤_, _<_};
 ghost use lib.ListN.{length};
 ghost use Rattle.room.specs.Room.{Wrote};
-ghost use Rattle.contours_steps.specs.Sheet.{lineStart, showCount, refusedLine};
+ghost use Rattle.contours_steps.specs.Sheet.{lineStart, refusedLine};
 
 // A level and its semicolon.
 pub fn put_start(out: &mut [u8], v: u32) -> usize
@@ -17,24 +18,14 @@ pub fn put_start(out: &mut [u8], v: u32) -> usize
     put_byte(out, next, b';')
 }
 
-// A count.
-fn put_count(out: &mut [u8], at: usize, n: u64) -> usize
-    requires { ⌜ at + 20 ≤ length (now out) ⌝ }
-    ensures { λ r. ⌜ Wrote (now (out .entry)) at (showCount n) (now (out .exit)) r ⌝ }
-{
-    let mut digits = [0u8; 20];
-    let k = io::decimal(n, &mut digits);
-    put_text(out, at, &digits[..k])
-}
-
 // The line of a refusal.
 pub fn put_refused(out: &mut [u8], number: u32, line: u64) -> usize
     requires { ⌜ 51 ≤ length (now out) ⌝ }
     ensures { λ r. ⌜ Wrote (now (out .entry)) 0 (refusedLine number line) (now (out .exit)) r ⌝ }
 {
     let word = put_text(out, 0, b"refused,");
-    let first = put_count(out, word, number as u64);
+    let first = put_number(out, word, number as u64);
     let comma = put_byte(out, first, b',');
-    let second = put_count(out, comma, line);
+    let second = put_number(out, comma, line);
     put_text(out, second, b"\r\n")
 }

@@ -1,7 +1,7 @@
 -- `contours_steps::core::put::put_refused` meets its contract: five texts, one past the other. Assumes nothing.
 use native.Mathlib.Omega.{arith}
 use Rattle.contours_steps.specs.Sheet.{refusedLine}
-use Rattle.contours_steps.proofs.Counts.{count-short}
+use Rattle.text.proofs.Shown.{number-short}
 use Rattle.contours_steps.proofs.Writes.{wrote-five}
 use borrow.Author.Needs.{needs}
 use Rattle.contours_steps.proofs.core.put.put_refused.Statement.{statement}
@@ -13,8 +13,11 @@ slice-aggregate-put-text c = search needs
 put-text-requires : tie.Need-put-text-requires
 put-text-requires c κs = search needs
 
-put-count-requires : tie.Need-put-count-requires
-put-count-requires c κs = search needs
+put-number-requires : tie.Need-put-number-requires
+put-number-requires c κs =
+    let word = c .before .before in
+    let s = word .before .before .before .before in
+    omega (arith, s .pre, word .put-text .ensures .place, word .put-text .kept .0, number-short (s .args .number))
 
 put-byte-requires : tie.Need-put-byte-requires
 put-byte-requires c κs =
@@ -22,17 +25,17 @@ put-byte-requires c κs =
     let word = first .before .before .before .before in
     let s = word .before .before .before .before in
     let a = word .put-text in
-    let b = first .put-count in
-    omega (arith, s .pre, a .ensures .place, a .kept .0, b .ensures .place, b .kept .0, count-short (s .args .number))
+    let b = first .put-number in
+    omega (arith, s .pre, a .ensures .place, a .kept .0, b .ensures .place, b .kept .0, number-short (s .args .number))
 
-put-count-requires-2 : tie.Need-put-count-requires-2
-put-count-requires-2 c κs =
+put-number-requires-2 : tie.Need-put-number-requires-2
+put-number-requires-2 c κs =
     let comma = c .before .before .before in
     let first = comma .before .before .before .before in
     let word = first .before .before .before .before in
     let s = word .before .before .before .before in
     let a = word .put-text in
-    let b = first .put-count in
+    let b = first .put-number in
     let d = comma .put-byte in
     omega (
       arith,
@@ -43,7 +46,8 @@ put-count-requires-2 c κs =
       b .kept .0,
       d .ensures .place,
       d .kept .0,
-      count-short (s .args .number),
+      number-short (s .args .number),
+      number-short (s .args .line),
     )
 
 slice-aggregate-put-text-2 : tie.Need-slice-aggregate-put-text-2
@@ -57,9 +61,9 @@ put-text-requires-2 c κs =
     let word = first .before .before .before .before in
     let s = word .before .before .before .before in
     let a = word .put-text in
-    let b = first .put-count in
+    let b = first .put-number in
     let d = comma .put-byte in
-    let e = second .put-count2 in
+    let e = second .put-number2 in
     omega (
       arith,
       s .pre,
@@ -71,8 +75,8 @@ put-text-requires-2 c κs =
       d .kept .0,
       e .ensures .place,
       e .kept .0,
-      count-short (s .args .number),
-      count-short (s .args .line),
+      number-short (s .args .number),
+      number-short (s .args .line),
     )
 
 same-length : tie.Need-same-length
@@ -87,11 +91,11 @@ returns c =
     let first = comma .before .before .before .before in
     let word = first .before .before .before .before in
     let s = word .before .before .before .before in
-    wrote-five (omega (arith, s .pre, count-short (s .args .number), count-short (s .args .line)))
+    wrote-five (omega (arith, s .pre, number-short (s .args .number), number-short (s .args .line)))
     (word .put-text .ensures)
-    (first .put-count .ensures)
+    (first .put-number .ensures)
     (comma .put-byte .ensures)
-    (second .put-count2 .ensures)
+    (second .put-number2 .ensures)
     (end .put-text2 .ensures)
 
 pub put-refused-spec : {M : Type 1} → statement M
@@ -100,9 +104,9 @@ put-refused-spec =
     (tie.spec
     slice-aggregate-put-text
     put-text-requires
-    put-count-requires
+    put-number-requires
     put-byte-requires
-    put-count-requires-2
+    put-number-requires-2
     slice-aggregate-put-text-2
     put-text-requires-2
     same-length

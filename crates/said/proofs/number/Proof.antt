@@ -1,4 +1,4 @@
--- `report::say::print_number` is safe: a number has at most 20 digits. Assumes nothing.
+-- `said::number` is safe: a number has at most 20 digits. Assumes nothing.
 use mathlib.Core.Path.{sym}
 use Prim.Native.Nat.{_≤_}
 use native.Mathlib.Omega.{arith}
@@ -7,13 +7,12 @@ use lib.Seq.{length-take-le}
 use borrow.Author.Needs.{needs}
 use Rattle.room.proofs.Laws.{wrote-fits}
 use Rattle.text.specs.Number.{showNumber}
-use Rattle.report_text.specs.InnerRoom.{longestNumber}
-use Rattle.report_text.proofs.Writes.{number-most}
-use Rattle.report.proofs.say.print_number.Statement.{statement}
-use Rattle.report.proofs.say.print_number.Tie as tie
+use Rattle.text.proofs.Shown.{number-short}
+use Rattle.said.proofs.number.Statement.{statement}
+use Rattle.said.proofs.number.Tie as tie
 
-few : (s : tie.Start) → length (showNumber (s .args .n)) ≤ longestNumber
-few s = number-most (s .args .n) (s .fits .n .fits)
+few : (s : tie.Start) → length (showNumber (s .args .n)) ≤ 20
+few s = number-short (s .args .n)
 
 put-number-requires : tie.Need-put-number-requires
 put-number-requires c κs = omega (arith, few (c .before))
@@ -26,8 +25,8 @@ array-share-prefix c =
 slice-aggregate : tie.Need-slice-aggregate-write-all
 slice-aggregate c = sym (length-take-le _ _ (wrote-fits (c .before .before .put-number .ensures)))
 
-pub print-number-spec : {M : Type 1} → statement M
-print-number-spec =
+pub number-spec : {M : Type 1} → statement M
+number-spec =
     tie.close
     (tie.spec
     (λ c. search needs)

@@ -1,10 +1,10 @@
--- `report::say::in_general`: the sentence stands at the front of its room. Assumes nothing.
+-- `said::in_general`: the sentence stands at the front of its room. Assumes nothing.
 use mathlib.Core.Path.{sym}
 use lib.Seq.{length-take-le}
 use Rattle.room.proofs.Laws.{wrote-fits}
 use borrow.Author.Needs.{needs}
-use Rattle.report.proofs.say.in_general.Statement.{statement}
-use Rattle.report.proofs.say.in_general.Tie as tie
+use Rattle.said.proofs.in_general.Statement.{statement}
+use Rattle.said.proofs.in_general.Tie as tie
 
 array-share-prefix-room : tie.Need-array-share-prefix-room
 array-share-prefix-room c = wrote-fits (c .put-sentence .ensures .0)
