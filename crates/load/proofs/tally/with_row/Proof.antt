@@ -7,7 +7,8 @@ use native.Mathlib.Omega.{arith}
 use Rattle.level.specs.Limits.{maxWeighted}
 use Rattle.level.specs.Energy.{energyOf}
 use Rattle.load_rules.specs.Shares.{energyIn}
-use Rattle.load.proofs.RowLaws.{row-unused, row-missing, row-computed, weighted-le, energy-in-small}
+use Rattle.load.proofs.MoreRows.{row-unused, row-missing, row-computed}
+use Rattle.load.proofs.RowLaws.{weighted-le, energy-in-small}
 use borrow.Author.Needs.{needs}
 use Rattle.load.proofs.tally.with_row.Statement.{statement}
 use Rattle.load.proofs.tally.with_row.Tie as tie

@@ -15,8 +15,8 @@ put-text-requires c κs = search needs
 
 put-number-requires : tie.Need-put-number-requires
 put-number-requires c κs =
-    let word = c .before .before in
-    let s = word .before .before .before .before in
+    let word : tie.After-put-text = search in
+    let s : tie.Start = search in
     omega (arith, s .pre, word .put-text .ensures .place, word .put-text .kept .0, number-short (s .args .number))
 
 put-byte-requires : tie.Need-put-byte-requires
