@@ -13,18 +13,19 @@ use Rattle.text.specs.Line.{bareLine}
 use Rattle.text.specs.Field.{countOf, fieldOf}
 use Rattle.text.specs.Index.{every, many, listing}
 use Rattle.text.specs.Number.{isGot, showLevel}
-use Rattle.text.proofs.Digits.{either}
+use Rattle.text.proofs.Digits.{either, got-value}
 use Rattle.text.proofs.Indices.{every-each, every-all, many-no, many-all}
 use Rattle.text.proofs.Shown.{level-least}
-use Rattle.register.specs.Cell.{levelOrBlank, rowCell, cellAt, gotAt, valueAt, blankAt, blankCell, gotCells, cellsOf}
-use Rattle.register.specs.Cell.{shownCell, topOf}
+use Rattle.register.specs.Cell.{levelOrBlank, rowCell, cellAt, gotAt, valueAt, blankAt, gotCells, cellsOf}
+use Rattle.register.specs.Cell.{shownCell}
+use Rattle.register.specs.InnerCell.{blankCell, topOf}
 use Rattle.register.specs.Row.{pointsFit, offLayout, rowLayout, cellsLayout, layoutOf}
 use Rattle.register.specs.declared.cell.Cells.{Cells}
 use Rattle.register.specs.declared.cell.Table.the-variants.{Register}
 use Rattle.register.specs.declared.row.Fields.{Fields}
 use Rattle.register.proofs.Columns.{cell-level, cell-exact, shown-back, shown-level, top-level}
 use Rattle.register.proofs.Rows.{layout-points}
-use Rattle.register.proofs.Converse.{got-value, marked}
+use Rattle.register.proofs.Converse.{marked}
 use Rattle.report_rules.specs.Spelled.{column, RowSpelled}
 use Rattle.report_rules.specs.RowExact.{Spells, RowExactly}
 use Rattle.report_rules.proofs.Spelling.{row-spelled, value-below, level-below}

@@ -95,9 +95,9 @@ headed-days : (r : Number) (second : List ℕ) (lines : ℕ) → headedLimits r 
 unfolding secondLimits
 headed-days Off second lines z = absurd (omega arith)
 headed-days (Got n) second lines z =
-    either (cellsOf table.Limits (1 + n) second .read)
+    either (cellsOf table.LimitsFile (1 + n) second .read)
     (λ on. either (leb lines 2)
-    (λ two. rw (on, two) (judged-days n (cellsOf table.Limits (1 + n) second .values) (rw (on, two) at z)))
+    (λ two. rw (on, two) (judged-days n (cellsOf table.LimitsFile (1 + n) second .values) (rw (on, two) at z)))
     (λ more. absurd (omega (arith, rw (on, more) at z))))
     (λ off. absurd (omega (arith, rw off at z)))
 
