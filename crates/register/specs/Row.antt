@@ -73,7 +73,7 @@ unfoldable pub rowRefusal : ℕ → Layout → ℕ → ℕ
 rowRefusal n l room =
     refuse 16 (eqb (l .refusal) 0) (thenRoom (faultOf (l .fields) (allWithin maxLevel (l .levels))) (leb n room))
 
--- the paper's number of an answer, and its values
+-- the rules' number of an answer, and its values
 abbrev pub answerNumber : Answer → ℕ
 answerNumber (Row f) = 0
 answerNumber (Refused n) = n

@@ -49,7 +49,7 @@ writeFault n f levels = refuse 9 (pointsFit n && leb (f .computed) 1) (faultOf f
 unfoldable pub writeRefusal : (n : ℕ) (f : Fields) (levels : List ℕ) (room : ℕ) → ℕ
 writeRefusal n f levels room = thenRoom (writeFault n f levels) (leb (length (showRow f levels)) room)
 
--- the paper's number of an answer, and its value
+-- the rules' number of an answer, and its value
 abbrev pub writtenNumber : Written → ℕ
 writtenNumber (Size k) = 0
 writtenNumber (Refused n) = n

@@ -12,7 +12,7 @@ use Rattle.register.specs.Row.{layoutOf}
 use Rattle.report_steps.specs.declared.Taken.{Taken}
 use Rattle.report_steps.specs.declared.Taken.the-variants.{Entered, PassedOver, Refused}
 
--- the paper's number of what was done: a refusal's, 0 for none
+-- the rules' number of what was done: a refusal's, 0 for none
 abbrev pub takenNumber : Taken → ℕ
 takenNumber Entered = 0
 takenNumber PassedOver = 0
