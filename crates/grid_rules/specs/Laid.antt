@@ -7,7 +7,7 @@ use lib.ListN.{length, getD, take, drop}
 use Rattle.text.specs.Line.{linesOf}
 use Rattle.text.specs.Field.{countOf, fieldOf}
 use Rattle.text.specs.Number.{showWhole, showLevel}
-use Rattle.text.specs.Spelled.{bytes, byte}
+use Rattle.text.specs.Spelled.{bytes}
 use Rattle.network.specs.declared.Frame.{Frame}
 
 -- line k of a text, counted from 0
@@ -16,7 +16,7 @@ line text k = getD (linesOf text) k []
 
 -- the value at a place of a line, west to east from 0: one space parts values
 abbrev pub valueAt : List ℕ → ℕ → List ℕ
-valueAt row place = fieldOf (byte " ") place row
+valueAt row place = fieldOf 32 place row
 
 -- the keys in this order and spelling, one space, a whole number
 pub record Headed (text : List ℕ) (f : Frame) : Type 0 where
@@ -29,7 +29,7 @@ pub record Headed (text : List ℕ) (f : Frame) : Type 0 where
 -- as many rows as the header says and no line more, and as many values in each
 pub record Sized (text : List ℕ) (f : Frame) (first : ℕ) : Type 0 where
   pub height : length (linesOf text) ≡ first + f .rows
-  pub width : (k : ℕ) → k < f .rows → countOf (byte " ") (line text (first + k)) + 1 ≡ f .columns
+  pub width : (k : ℕ) → k < f .rows → countOf 32 (line text (first + k)) + 1 ≡ f .columns
 
 -- row r counted from the south: the rows run from north to south, the first of them in line `first`
 abbrev pub rowFromSouth : (text : List ℕ) (first : ℕ) (f : Frame) (r : ℕ) → List ℕ

@@ -8,7 +8,7 @@ use lib.ListN.{length, getD}
 use Rattle.text.specs.Line.{linesOf}
 use Rattle.text.specs.Field.{countOf}
 use Rattle.text.specs.Number.{showWhole, showLevel}
-use Rattle.text.specs.Spelled.{bytes, byte}
+use Rattle.text.specs.Spelled.{bytes}
 use Rattle.network.specs.declared.Frame.{Frame}
 use Rattle.grid_rules.specs.Laid.{line, valueAt, Headed, Sized}
 
@@ -41,7 +41,7 @@ pub record Naming (l : List ℕ) : Type 0 where
 
 -- a row: each value is a level or spelled as no data is
 abbrev pub RowOn : (nodata l : List ℕ) → Type 0
-RowOn nodata l = (c : ℕ) → c ≤ countOf (byte " ") l → (valueAt l c ≡ nodata → ⊥) → Level (valueAt l c)
+RowOn nodata l = (c : ℕ) → c ≤ countOf 32 l → (valueAt l c ≡ nodata → ⊥) → Level (valueAt l c)
 
 -- line k of a text whose rows start in line `first`; a missing header line counts as an empty one
 pub record LineOn (text : List ℕ) (first : ℕ) (nodata : List ℕ) (k : ℕ) : Type 0 where
@@ -74,7 +74,7 @@ pub record Given (nodata t : List ℕ) : Type 0 where
 
 abbrev pub AllGiven : (text : List ℕ) (first : ℕ) (nodata : List ℕ) → Type 0
 AllGiven text first nodata =
-    (k c : ℕ) → first ≤ k → k < length (linesOf text) → c ≤ countOf (byte " ") (line text k)
+    (k c : ℕ) → first ≤ k → k < length (linesOf text) → c ≤ countOf 32 (line text k)
     → Given nodata (valueAt (line text k) c)
 
 -- n is the refusal of a text whose header says the frame f, or 0; room is lent for so many header numbers and levels
@@ -98,5 +98,5 @@ pub record Refused (text : List ℕ) (headers room n : ℕ) (f : Frame) (first :
 abbrev pub NoDataRefused : (text : List ℕ) (n : ℕ) (f : Frame) (first : ℕ) (nodata : List ℕ) → Type 0
 NoDataRefused text n f first nodata =
     ((k : ℕ) → LineOn text first nodata k) → Sized text f first → InRange f
-    → (k c : ℕ) → first ≤ k → k < length (linesOf text) → c ≤ countOf (byte " ") (line text k)
+    → (k c : ℕ) → first ≤ k → k < length (linesOf text) → c ≤ countOf 32 (line text k)
     → valueAt (line text k) c ≡ nodata → n ≡ 13
