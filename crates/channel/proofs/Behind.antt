@@ -1,0 +1,81 @@
+-- Bytes that are read behind those that stand at the front of a buffer. Assumes nothing.
+use mathlib.Core.Path.{_≡_, sym, ap, subst, _∙_}
+use mathlib.Core.List.{List, _++_}
+use Prim.Native.Nat.{ℕ, _+_, _≤_}
+use native.Mathlib.Omega.{arith}
+use lib.ListN.{length, take, length-append}
+use lib.Seq.{take-append-add, take-append-le, length-take-le}
+use borrow.Rule.Slice.PartMut.{putMid, postOf, take-put}
+use Rattle.channel.specs.declared.input.Arrived.{Arrived}
+use Rattle.channel.specs.declared.input.Arrived.the-variants.{Bytes, End, Failed}
+use Rattle.channel.specs.Input.{Came, Gave, Reads, Fills, full, complete, failed}
+
+-- the first bytes of a buffer once a part from n on is replaced: the n before it, and the part's
+pub front-behind : (n m k : ℕ) (xs ys : List ℕ) → n ≤ length xs → k ≤ length ys
+    → take (n + k) (putMid n m xs ys) ≡ take n xs ++ take k ys
+front-behind n m k xs ys h f =
+    let rest = ys ++ postOf n m xs in
+    ap (λ (j : ℕ). take (j + k) (take n xs ++ rest)) (sym (length-take-le n xs h))
+    ∙ take-append-add (take n xs) rest k
+    ∙ ap (λ (t : List ℕ). take n xs ++ t) (take-append-le k ys (postOf n m xs) f)
+
+-- the part's bytes lie within the buffer
+pub behind-fits : (n m k : ℕ) (xs ys : List ℕ) → n ≤ length xs → k ≤ length ys → n + k ≤ length (putMid n m xs ys)
+behind-fits n m k xs ys h f =
+    let rest = ys ++ postOf n m xs in
+    omega (
+      arith,
+      length-append (take n xs) rest,
+      length-append ys (postOf n m xs),
+      length-take-le n xs h,
+    )
+
+-- What a read behind the first n bytes gave, said of the buffer
+
+module _ {origin taken taken′ : ℕ} {room : List ℕ} {r : Arrived} (reads : Reads origin taken r taken′ room)
+    (n m : ℕ) (text : List ℕ) (h : n ≤ length text) (came : Came origin taken (take n text)) where
+  pub read-more : (k : ℕ) → r ≡ Bytes k → (1 ≤ k) × (n + k ≤ length (putMid n m text room))
+      × Came origin taken′ (take (n + k) (putMid n m text room))
+  read-more k e =
+      let more : Gave origin taken (Bytes k) taken′ room = subst (λ a. Gave origin taken a taken′ room) e (reads .gave) in (
+        more .0,
+        behind-fits n m k text room h (more .1),
+        rw (front-behind n m k text room h (more .1)) (more .2 (take n text) came),
+      )
+
+  pub read-end : r ≡ End → Fills origin (record { size = n; state = complete }) (putMid n m text room)
+  read-end e =
+      let last : Gave origin taken End taken′ room = subst (λ a. Gave origin taken a taken′ room) e (reads .gave) in
+      record {
+        within = omega (arith, behind-fits n m 0 text room h (omega arith));
+        first = rw (take-put n m text room h) (came .first);
+        ends = λ _. rw (take-put n m text room h) (last .1 (take n text) came);
+        fails = λ e. absurd (omega (arith, e));
+        fills = λ e. absurd (omega (arith, e));
+        known = omega arith;
+      }
+
+  pub read-broken : r ≡ Failed → Fills origin (record { size = n; state = failed }) (putMid n m text room)
+  read-broken e =
+      let last : Gave origin taken Failed taken′ room = subst (λ a. Gave origin taken a taken′ room) e (reads .gave) in
+      record {
+        within = omega (arith, behind-fits n m 0 text room h (omega arith));
+        first = rw (take-put n m text room h) (came .first);
+        ends = λ e. absurd (omega (arith, e));
+        fails = λ _. rw (take-put n m text room h) (last .1 (take n text) came);
+        fills = λ e. absurd (omega (arith, e));
+        known = omega arith;
+      }
+
+-- the buffer is full
+pub filled-up : {origin taken : ℕ} (n : ℕ) (text : List ℕ) → n ≤ length text → length text ≤ n
+    → Came origin taken (take n text) → Fills origin (record { size = n; state = full }) text
+filled-up n text h f came =
+    record {
+      within = h;
+      first = came .first;
+      ends = λ e. absurd (omega (arith, e));
+      fails = λ e. absurd (omega (arith, e));
+      fills = λ _. omega arith;
+      known = omega arith;
+    }

@@ -1,0 +1,53 @@
+-- Bytes as they come: from standard input, or from a file. Assumes nothing.
+use Prim.Native.Nat.{ℕ, _+_, _≤_}
+use mathlib.Core.Path.{_≡_}
+use mathlib.Core.List.{List, _++_}
+use lib.ListN.{length, take}
+use Rattle.channel.specs.declared.input.Arrived.{Arrived}
+use Rattle.channel.specs.declared.input.Arrived.the-variants.{Bytes, End, Failed}
+use Rattle.channel.specs.declared.whole.Filled.{Filled}
+use Rattle.channel.specs.System.{First, Whole, Broken}
+
+-- where bytes come from: standard input, or the file that a program opens
+abbrev pub input : ℕ
+input = 0
+
+abbrev pub file : ℕ
+file = 1
+
+-- `taken` bytes came, and they are these
+pub record Came (origin taken : ℕ) (bytes : List ℕ) : Type 0 where
+  pub first : First origin bytes
+  pub long : length bytes ≡ taken
+
+-- One read: bytes came behind those before, and stand at the front of the room; there are no more; or it failed
+abbrev pub Gave : (origin taken : ℕ) (r : Arrived) (taken′ : ℕ) (room : List ℕ) → Type 0
+Gave origin taken (Bytes n) taken′ room =
+    (1 ≤ n) × (n ≤ length room)
+    × ((old : List ℕ) → Came origin taken old → Came origin taken′ (old ++ take n room))
+Gave origin taken End taken′ room =
+    (taken′ ≡ taken) × ((old : List ℕ) → Came origin taken old → Whole origin old)
+Gave origin taken Failed taken′ room =
+    (taken′ ≡ taken) × ((old : List ℕ) → Came origin taken old → Broken origin old)
+
+pub record Reads (origin taken : ℕ) (r : Arrived) (taken′ : ℕ) (room : List ℕ) : Type 0 where
+  pub gave : Gave origin taken r taken′ room
+
+-- All reads into a buffer: to the end, up to a read that failed, or until the buffer is full
+
+abbrev pub full : ℕ
+full = 0
+
+abbrev pub complete : ℕ
+complete = 1
+
+abbrev pub failed : ℕ
+failed = 2
+
+pub record Fills (origin : ℕ) (r : Filled) (text : List ℕ) : Type 0 where
+  pub within : r .size ≤ length text
+  pub first : First origin (take (r .size) text)
+  pub ends : r .state ≡ complete → Whole origin (take (r .size) text)
+  pub fails : r .state ≡ failed → Broken origin (take (r .size) text)
+  pub fills : r .state ≡ full → r .size ≡ length text
+  pub known : r .state ≤ failed

@@ -1,0 +1,4 @@
+pub mod System
+pub mod Input
+pub mod Output
+pub mod Words

@@ -1,0 +1,45 @@
+// One read.
+use libc::STDIN_FILENO;
+ghost use Rattle.channel.specs.Input.{Reads, input};
+
+// What a read answered: so many bytes, none is left to come, or it failed.
+pub enum Arrived {
+    Bytes(usize),
+    End,
+    Failed,
+}
+
+// Where bytes come from: standard input, or the file that a program opens.
+pub(crate) const INPUT: u32 = 0;
+
+pub(crate) const FILE: u32 = 1;
+
+// Reads behind the `taken` bytes that came before, into the front of the room. Without room it fails: then nothing can
+// come, and that is no end.
+pub(crate) fn read_from(origin: u32, fd: i32, taken: &mut u64, room: &mut [u8]) -> Arrived
+    ensures { λ r. ⌜ Reads origin (now (taken .entry)) r (now (taken .exit)) (now (room .exit)) ⌝ }
+{
+    if room.len() == 0 {
+        return Arrived::Failed;
+    }
+    if u64::MAX - *taken < room.len() as u64 {
+        return Arrived::Failed;
+    }
+    let got = libc::read(fd, room);
+    if got < 0 {
+        return Arrived::Failed;
+    }
+    let n = io::count(got, room);
+    if n == 0 {
+        return Arrived::End;
+    }
+    *taken = *taken + n as u64;
+    Arrived::Bytes(n)
+}
+
+// The same from standard input.
+pub fn read_input(taken: &mut u64, room: &mut [u8]) -> Arrived
+    ensures { λ r. ⌜ Reads input (now (taken .entry)) r (now (taken .exit)) (now (room .exit)) ⌝ }
+{
+    read_from(INPUT, STDIN_FILENO, taken, room)
+}

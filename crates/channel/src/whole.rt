@@ -1,0 +1,68 @@
+// All that comes, into one buffer.
+use crate::input::Arrived;
+use crate::input::FILE;
+use crate::input::INPUT;
+use crate::input::read_from;
+use libc::STDIN_FILENO;
+ghost use Rattle.channel.specs.Input.{Fills, input, file};
+
+// How a buffer was filled: `size` bytes stand at its front, and `state` says why no more.
+pub struct Filled {
+    pub size: usize,
+    pub state: u32,
+}
+
+// No room is left, all came, or a read failed.
+pub const FULL: u32 = 0;
+
+pub const COMPLETE: u32 = 1;
+
+pub const FAILED: u32 = 2;
+
+// Standard input, in whatever pieces it comes.
+pub fn read_all(text: &mut [u8]) -> Filled
+    ensures { λ r. ⌜ Fills input r (now (text .exit)) ⌝ }
+{
+    fill(INPUT, STDIN_FILENO, text)
+}
+
+// A file. One that can't be opened can't be read.
+pub fn read_file(path: &[u8], text: &mut [u8]) -> Filled
+    ensures { λ r. ⌜ Fills file r (now (text .exit)) ⌝ }
+{
+    let fd = os::open_read(path);
+    let read = fill(FILE, fd, text);
+    libc::close(fd);
+    read
+}
+
+// A read that fails is never an end.
+fn fill(origin: u32, fd: i32, text: &mut [u8]) -> Filled
+    ensures { λ r. ⌜ Fills origin r (now (text .exit)) ⌝ }
+{
+    let mut taken = 0;
+    let mut n = 0;
+    while n < text.len() {
+        match read_from(origin, fd, &mut taken, &mut text[n..]) {
+            Arrived::Bytes(k) => {
+                n += k;
+            }
+            Arrived::End => {
+                return Filled {
+                    size: n,
+                    state: COMPLETE,
+                };
+            }
+            Arrived::Failed => {
+                return Filled {
+                    size: n,
+                    state: FAILED,
+                };
+            }
+        }
+    }
+    Filled {
+        size: n,
+        state: FULL,
+    }
+}
