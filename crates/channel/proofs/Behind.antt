@@ -3,7 +3,12 @@ use mathlib.Core.Path.{_≡_, sym, ap, subst, _∙_}
 use mathlib.Core.List.{List, _++_}
 use Prim.Native.Nat.{ℕ, _+_, _≤_}
 use native.Mathlib.Omega.{arith}
+use mathlib.Core.Bool.{true, false}
+use lib.IntN.{ℤ, pos, negsuc}
+use lib.Signed.{ltZ}
 use lib.ListN.{length, take, length-append}
+use Rattle.libc.specs.Io.{Moved}
+use Rattle.io.specs.Counts.{clamped}
 use lib.Seq.{take-append-add, take-append-le, length-take-le}
 use borrow.Rule.Slice.PartMut.{putMid, postOf, take-put}
 use Rattle.channel.specs.declared.input.Arrived.{Arrived}
@@ -30,6 +35,11 @@ behind-fits n m k xs ys h f =
       length-take-le n xs h,
     )
 
+-- a read that answered no less than 0 answered the bytes that are counted
+pub answered-count : (z : ℤ) (room n : ℕ) → ltZ z (pos 0) ≡ false → n ≡ clamped z room → Moved room z → z ≡ pos n
+answered-count (pos k) room n e q h = let is : k ≡ n = omega (arith, q, h) in ap pos is
+answered-count (negsuc k) room n e q h = let never : _≡_ {A = ℕ} 0 1 = cc in absurd (omega arith)
+
 -- What a read behind the first n bytes gave, said of the buffer
 
 module _ {origin taken taken′ : ℕ} {room : List ℕ} {r : Arrived} (reads : Reads origin taken r taken′ room)
@@ -40,7 +50,7 @@ module _ {origin taken taken′ : ℕ} {room : List ℕ} {r : Arrived} (reads : 
       let more : Gave origin taken (Bytes k) taken′ room = subst (λ a. Gave origin taken a taken′ room) e (reads .gave) in (
         more .0,
         behind-fits n m k text room h (more .1),
-        rw (front-behind n m k text room h (more .1)) (more .2 (take n text) came),
+        rw (front-behind n m k text room h (more .1)) (more .4 (take n text) came),
       )
 
   pub read-end : r ≡ End → Fills origin (record { size = n; state = complete }) (putMid n m text room)

@@ -1,5 +1,5 @@
 -- Bytes as they come: from standard input, or from a file. Assumes nothing.
-use Prim.Native.Nat.{ℕ, _+_, _≤_}
+use Prim.Native.Nat.{ℕ, _+_, _^_, _≤_, _<_}
 use mathlib.Core.Path.{_≡_}
 use mathlib.Core.List.{List, _++_}
 use lib.ListN.{length, take}
@@ -23,7 +23,7 @@ pub record Came (origin taken : ℕ) (bytes : List ℕ) : Type 0 where
 -- One read: bytes came behind those before, and stand at the front of the room; there are no more; or it failed
 abbrev pub Gave : (origin taken : ℕ) (r : Arrived) (taken′ : ℕ) (room : List ℕ) → Type 0
 Gave origin taken (Bytes n) taken′ room =
-    (1 ≤ n) × (n ≤ length room)
+    (1 ≤ n) × (n ≤ length room) × (taken′ ≡ taken + n) × (taken′ + 1 < 2 ^ 64)
     × ((old : List ℕ) → Came origin taken old → Came origin taken′ (old ++ take n room))
 Gave origin taken End taken′ room =
     (taken′ ≡ taken) × ((old : List ℕ) → Came origin taken old → Whole origin old)

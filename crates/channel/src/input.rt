@@ -22,7 +22,7 @@ pub(crate) fn read_from(origin: u32, fd: i32, taken: &mut u64, room: &mut [u8]) 
     if room.len() == 0 {
         return Arrived::Failed;
     }
-    if u64::MAX - *taken < room.len() as u64 {
+    if u64::MAX - *taken <= room.len() as u64 {
         return Arrived::Failed;
     }
     let got = libc::read(fd, room);

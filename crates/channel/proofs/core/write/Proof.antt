@@ -14,7 +14,7 @@ returns c =
     record {
       count = refl;
       went = λ taken old came. record {
-        first = system-took _;
+        first = system-took _ _ old taken (came .first);
         long = length-append old (start .args .part .now)
             ∙ ap (λ (n : ℕ). n + length (start .args .part .now)) (came .long);
       };
