@@ -40,6 +40,12 @@ pub answered-count : (z : ℤ) (room n : ℕ) → ltZ z (pos 0) ≡ false → n 
 answered-count (pos k) room n e q h = let is : k ≡ n = omega (arith, q, h) in ap pos is
 answered-count (negsuc k) room n e q h = let never : _≡_ {A = ℕ} 0 1 = cc in absurd (omega arith)
 
+-- what a read gave, once its answer is known
+pub gave-as : {origin taken taken′ : ℕ} {r : Arrived} {room : List ℕ} → Reads origin taken r taken′ room
+    → (known : Arrived) → r ≡ known → Gave origin taken known taken′ room
+gave-as {origin} {taken} {taken′} {r} {room} reads known e =
+    subst (λ a. Gave origin taken a taken′ room) e (reads .gave)
+
 -- What a read behind the first n bytes gave, said of the buffer
 
 module _ {origin taken taken′ : ℕ} {room : List ℕ} {r : Arrived} (reads : Reads origin taken r taken′ room)
@@ -47,7 +53,7 @@ module _ {origin taken taken′ : ℕ} {room : List ℕ} {r : Arrived} (reads : 
   pub read-more : (k : ℕ) → r ≡ Bytes k → (1 ≤ k) × (n + k ≤ length (putMid n m text room))
       × Came origin taken′ (take (n + k) (putMid n m text room))
   read-more k e =
-      let more : Gave origin taken (Bytes k) taken′ room = subst (λ a. Gave origin taken a taken′ room) e (reads .gave) in (
+      let more = gave-as reads (Bytes k) e in (
         more .0,
         behind-fits n m k text room h (more .1),
         rw (front-behind n m k text room h (more .1)) (more .4 (take n text) came),
@@ -55,7 +61,7 @@ module _ {origin taken taken′ : ℕ} {room : List ℕ} {r : Arrived} (reads : 
 
   pub read-end : r ≡ End → Fills origin (record { size = n; state = complete }) (putMid n m text room)
   read-end e =
-      let last : Gave origin taken End taken′ room = subst (λ a. Gave origin taken a taken′ room) e (reads .gave) in
+      let last = gave-as reads End e in
       record {
         within = omega (arith, behind-fits n m 0 text room h (omega arith));
         first = rw (take-put n m text room h) (came .first);
@@ -67,7 +73,7 @@ module _ {origin taken taken′ : ℕ} {room : List ℕ} {r : Arrived} (reads : 
 
   pub read-broken : r ≡ Failed → Fills origin (record { size = n; state = failed }) (putMid n m text room)
   read-broken e =
-      let last : Gave origin taken Failed taken′ room = subst (λ a. Gave origin taken a taken′ room) e (reads .gave) in
+      let last = gave-as reads Failed e in
       record {
         within = omega (arith, behind-fits n m 0 text room h (omega arith));
         first = rw (take-put n m text room h) (came .first);

@@ -3,9 +3,11 @@
 use Prim.Native.Nat.{ℕ, _+_}
 use mathlib.Core.Path.{_≡_}
 use mathlib.Core.Bool.{cond}
-use mathlib.Core.List.{List, _++_}
-use lib.ListN.{replicate}
+use mathlib.Core.List.{List, [], _++_}
+use lib.ListN.{length, replicate}
 use lib.Dec.{eqb}
+use Rattle.channel.specs.System.{First, Whole, Broken}
+use Rattle.channel.specs.Input.{input, file}
 use Rattle.book_rules.specs.History.{emptyBook}
 use Rattle.register.specs.declared.limits_csv.LimitsFile.{LimitsFile}
 use Rattle.register.specs.LimitsFile.{limitsOf}
@@ -33,9 +35,13 @@ answerText l register = cond (eqb (l .refusal) 0) (registerText l register) (ref
 unfoldable pub reportOf : (limits register : List ℕ) → List ℕ
 reportOf limits register = answerText (limitsOf limits) register
 
--- How the register's bytes came
+-- How the bytes came
 
--- to their end; up to a line that is refused, where the reading stops; or up to a read that failed
+-- past so many bytes of limits.csv nothing counts any more
+abbrev pub limitsRoom : ℕ
+limitsRoom = 4096
+
+-- the register's, to their end; up to a line that is refused, where the reading stops; or up to a read that failed
 pub data Came : Type 0 where
   whole : List ℕ → Came
   stopped : List ℕ → Came
@@ -52,7 +58,21 @@ Answers answer (whole bytes) text = text ≡ answer bytes
 Answers answer (stopped bytes) text = (rest : List ℕ) → text ≡ answer (bytes ++ rest)
 Answers answer (failed bytes) text = text ≡ answer (bytes ++ endless)
 
--- a text that may be written, where limits.csv has these bytes: it is the report's
+-- that they came so: standard input ended behind them, they came first, or the next read failed
+abbrev pub Heard : Came → Type 0
+Heard (whole bytes) = Whole input bytes
+Heard (stopped bytes) = First input bytes
+Heard (failed bytes) = Broken input bytes
+
+-- limits.csv: all its bytes; as many as the program has room for; or none, where it can't be opened or read
+pub data Opened (limits : List ℕ) : Type 0 where
+  all : Whole file limits → Opened limits
+  cut : First file limits → length limits ≡ limitsRoom → Opened limits
+  unread : (bytes : List ℕ) → Broken file bytes → limits ≡ [] → Opened limits
+
+-- a text that may be written: it is the report's of the bytes that came
 pub record Written (limits text : List ℕ) : Type 0 where
+  pub opened : Opened limits
   pub came : Came
+  pub heard : Heard came
   pub is : Answers (reportOf limits) came text

@@ -1,4 +1,4 @@
--- A piece of a register, the bytes of it that wait at the front of the buffer, and what a read answered.
+-- A piece of a register, and the bytes of it that wait at the front of the buffer.
 -- Assumes nothing.
 use mathlib.Core.Path.{_≡_, refl, sym, ap, _∙_}
 use mathlib.Core.Bool.{true, false}
@@ -7,17 +7,13 @@ use Prim.Native.Nat.{ℕ, suc, _+_, _-_, _≤_, _<_, min}
 use native.Mathlib.Numerals.{add-one}
 use native.Mathlib.Omega.{arith}
 use lib.Dec.{eqb}
-use lib.IntN.{ℤ, pos, negsuc}
-use lib.Signed.{ltZ}
 use lib.ListN.{length, getD, set, take, drop, length-drop}
 use lib.Seq.{drop-at, drop-drop, length-take-le, take-add, drop-set-lt, getD-drop, take-suc, take-suc-set}
 use borrow.Author.Tests.{ne-eqb, eqb-true, ltb-true}
 use Rattle.text.specs.Line.{linesOf}
 use Rattle.text.proofs.Digits.{either}
-use Rattle.io.specs.Counts.{clamped}
-use Rattle.report_steps.specs.declared.core.feeding.Arrived.the-variants.{Bytes, End, Failed}
 use Rattle.report_steps.specs.Stream.{longestLine}
-use Rattle.report_steps.specs.Reading.{Reading, offAt, Onward, arrivedOf}
+use Rattle.report_steps.specs.Reading.{Reading, offAt, Onward}
 use Rattle.report_steps.specs.InnerTaken.{LinesTaken, PieceTaken}
 use Rattle.report_steps.proofs.Readings.{stuck}
 use Rattle.report_steps.proofs.LongLines.{onward-long}
@@ -91,34 +87,3 @@ waiting bytes at len a l =
     let n : length (take at bytes) ≡ at = length-take-le at bytes (omega arith) in
     ap (λ (k : ℕ). drop at (take k bytes)) e ∙ ap (drop at) (take-add at (len - at) bytes)
     ∙ drop-at (take at bytes) (take (len - at) (drop at bytes)) at n
-
--- what a read answered
-pub came-failed : (z : ℤ) (room : ℕ) → ltZ z (pos 0) ≡ true → Failed ≡ arrivedOf z room
-came-failed (pos k) room e = absurd (omega (arith, ltb-true k 0 e))
-came-failed (negsuc k) room e = refl
-
-pub came-end : (z : ℤ) (room n : ℕ) → ltZ z (pos 0) ≡ false → n ≡ clamped z room → n ≡ 0
-    → End ≡ arrivedOf z room
-came-end (pos k) room n e q none = rw (← q, none) refl
-came-end (negsuc k) room n e q none = let never : _≡_ {A = ℕ} 0 1 = cc in absurd (omega arith)
-
-pub came-bytes : (z : ℤ) (room n : ℕ) → ltZ z (pos 0) ≡ false → n ≡ clamped z room → (n ≡ 0 → ⊥)
-    → Bytes n ≡ arrivedOf z room
-came-bytes (pos k) room n e q some = rw (← q, ne-eqb n 0 some) refl
-came-bytes (negsuc k) room n e q some = let never : _≡_ {A = ℕ} 0 1 = cc in absurd (omega arith)
-
--- the end is taken for one only where the read answered 0, though there was room; and all bytes that it answered are
--- taken
-pub arrived-end : (z : ℤ) (room : ℕ) → 1 ≤ room → arrivedOf z room ≡ End → z ≡ pos 0
-arrived-end (pos k) room h e =
-    either (eqb (min k room) 0)
-    (λ yes. let q : k ≡ 0 = omega (arith, eqb-true (min k room) 0 yes) in ap pos q)
-    (λ no. let f : Bytes (min k room) ≡ End = rw no at e in let never : _≡_ {A = ℕ} 0 1 = cc in
-    absurd (omega arith))
-arrived-end (negsuc k) room h e = let never : _≡_ {A = ℕ} 0 1 = cc in absurd (omega arith)
-
-pub arrived-bytes : (k room n : ℕ) → k ≤ room → arrivedOf (pos k) room ≡ Bytes n → n ≡ k
-arrived-bytes k room n h e =
-    either (eqb (min k room) 0)
-    (λ yes. let f : End ≡ Bytes n = rw yes at e in let never : _≡_ {A = ℕ} 0 1 = cc in absurd (omega arith))
-    (λ no. let f : Bytes (min k room) ≡ Bytes n = rw no at e in let q : min k room ≡ n = cc in omega arith)

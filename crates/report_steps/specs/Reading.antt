@@ -1,19 +1,16 @@
 -- A register read whole, from its bytes to the book: RULES, "Files and the report program".
 -- Assumes nothing.
-use Prim.Native.Nat.{ℕ, _+_, _<_, min}
+use Prim.Native.Nat.{ℕ, _+_, _<_}
 use mathlib.Core.Path.{_≡_}
 use mathlib.Core.Bool.{cond, _&&_}
 use mathlib.Core.List.{List, [], _∷_, _++_}
 use lib.ListN.{length}
 use lib.Dec.{eqb}
-use lib.IntN.{ℤ, pos, negsuc}
 use Rattle.book_rules.specs.Columns.{Book}
 use Rattle.text.specs.Line.{firstLine, linesOf}
 use Rattle.text.specs.declared.number.Number.{Number}
 use Rattle.text.specs.declared.number.Number.the-variants.{Got, Off}
 use Rattle.register.specs.Header.{headerOf, registerHeader}
-use Rattle.report_steps.specs.declared.core.feeding.Arrived.{Arrived}
-use Rattle.report_steps.specs.declared.core.feeding.Arrived.the-variants.{Bytes, End, Failed}
 use Rattle.report_steps.specs.Intake.{takenNumber, rowTaken, rowAfter}
 
 -- how far a register is read: its refusal, 0 for none; the line that is refused, or else the next one; and the book
@@ -82,8 +79,3 @@ pub record Onward (p : ℕ) (s : Reading) (all : List ℕ) (s′ : Reading) (res
 -- no line of these bytes is ended by a CRLF
 abbrev pub Unended : List ℕ → Type 0
 Unended s = length s < length (firstLine s) + 2
-
--- what a read into some room answered: so many bytes came, none is left to come, or it failed
-abbrev pub arrivedOf : ℤ → ℕ → Arrived
-arrivedOf (pos k) room = cond (eqb (min k room) 0) End (Bytes (min k room))
-arrivedOf (negsuc k) room = Failed

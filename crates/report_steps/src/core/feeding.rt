@@ -9,7 +9,7 @@ ghost use mathlib.Core.Bool.{true};
 ghost use Prim.Native.Nat.{_+_, _^_, _≤_, _<_};
 ghost use lib.ListN.{length, take, drop};
 ghost use Rattle.book_rules.specs.Columns.{bookNow, bookBefore, bookAfter, sound};
-ghost use Rattle.report_steps.specs.Reading.{pointsRefusal, headerPoints, readingAt, Unended, arrivedOf};
+ghost use Rattle.report_steps.specs.Reading.{pointsRefusal, headerPoints, readingAt, Unended};
 ghost use Rattle.report_steps.specs.InnerTaken.{LineTaken, LinesTaken, LastTaken, PieceTaken};
 
 // The longest row of a register on its layout, and with its CRLF the longest line.
@@ -23,13 +23,6 @@ pub struct Feed {
     pub at: usize,
     pub line: u64,
     pub refusal: u32,
-}
-
-// What a read answered.
-pub enum Arrived {
-    Bytes(usize),
-    End,
-    Failed,
 }
 
 // The same once a piece is taken: `left` bytes of the next line wait at the front of the buffer. Where a line is
@@ -217,18 +210,4 @@ pub fn take_piece(
         line: feed.line,
         refusal,
     }
-}
-
-// What a read into `room` bytes answered.
-pub fn what_came(got: isize, room: &[u8]) -> Arrived
-    ensures { λ r. ⌜ r ≡ arrivedOf got (length (now (room .entry))) ⌝ }
-{
-    if got < 0 {
-        return Arrived::Failed;
-    }
-    let n = io::count(got, room);
-    if n == 0 {
-        return Arrived::End;
-    }
-    Arrived::Bytes(n)
 }

@@ -1,0 +1,58 @@
+-- `files::core::answer` meets its contract: limits.csv is refused, or the register is answered. Assumes nothing.
+use mathlib.Core.Path.{refl}
+use Rattle.book_rules.specs.History.{emptyBook}
+use Rattle.report_rules.proofs.LimitsFits.{limits-fit}
+use Rattle.files.proofs.Texts.{limits-refused, limits-accepted}
+use borrow.Author.Needs.{needs}
+use Rattle.files.proofs.core.answer.Statement.{statement}
+use Rattle.files.proofs.core.answer.Tie as tie
+
+returns : tie.Need-returns
+returns c =
+    let written = c .before .before in
+    let cast = written .before in
+    let test = cast .before .before .before .before in
+    let read = test .before in
+    let s = read .before .before .before in
+    limits-refused (s .args .text .now) (s .pre .0) (read .read-limits .ensures) (test .if1 .taken)
+    (written .put-refused .ensures)
+
+report-requires : tie.Need-report-requires
+unfolding emptyBook
+report-requires c κs =
+    let levels = c .before in
+    let test = levels .before .before .before .before in
+    let read = test .before in
+    let s = read .before .before .before in
+    let q = read .read-limits .ensures in
+    (refl, (rw q (limits-fit (s .args .text .now) (rw q at (test .if1 .left))), s .pre .1))
+
+returns-2 : tie.Need-returns-2
+returns-2 c =
+    let columns = c .before .before in
+    let done = columns .before .before .before .before in
+    let levels = done .before .before in
+    let test = levels .before .before .before .before in
+    let read = test .before in
+    let s = read .before .before .before in
+    limits-accepted (s .args .text .now) (s .pre .0) (read .read-limits .ensures) (test .if1 .left)
+    (done .report .ensures)
+
+pub answer-spec : {M : Type 1} → statement M
+answer-spec =
+    tie.close
+    (tie.spec
+    (λ c κs. search needs)
+    (λ c. search needs)
+    (λ c κs. search needs)
+    (λ c. search needs)
+    (λ c κs. search needs)
+    (λ c. search needs)
+    returns
+    (λ c. search needs)
+    (λ c. search needs)
+    (λ c. search needs)
+    (λ c. search needs)
+    report-requires
+    (λ c. search needs)
+    returns-2)
