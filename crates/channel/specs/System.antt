@@ -1,6 +1,6 @@
 -- What only the operating system can say: which bytes came and which went. No contract of C's `read` and `write` says
 -- it. So nothing proves one of these statements but its own `system-..`, which takes what a call answered and says what
--- that means. No file outside this crate may name a `system-..`: tools/check-inner, run by the gate, refuses it.
+-- that means. No file outside this crate may name a `system-..`: tools/check-channel, run by the gate, refuses it.
 -- Assumes nothing.
 use Prim.Native.Nat.{ℕ, _≤_}
 use mathlib.Core.Path.{_≡_}

@@ -18,8 +18,8 @@ fn write(limits: &[u8], text: &[u8])
     requires { ⌜ Written (now limits) (now text) ⌝ }
 {
     let mut sent = 0;
-    let taken = channel::core::write(&mut sent, text);
-    if !taken {
+    let whole = channel::core::write(&mut sent, text);
+    if !whole {
         io::write_all(STDERR_FILENO, b"the output could not be written\n");
     }
 }
