@@ -1,4 +1,4 @@
--- How a load comes about, in 78 numbers: RULES, "How a load comes about". Each of them is one of the load's own.
+-- How a load comes about, in 78 numbers: RULES, "Energy and load". Each of them is one of the load's own.
 -- Assumes nothing.
 use Prim.Native.Nat.{ℕ, zero, suc, _+_, _*_, _<_}
 use mathlib.Core.Path.{_≡_}
