@@ -28,6 +28,10 @@ scaled-by-le e u l s = go (eqb l 0)
     go true = omega arith
     go false = scaled-le e u l maxEnergy (s .energy)
 
+-- so a total is within the bounds
+pub total-le : (e u l : ℕ) → Scalable e u l → scaledBy (ratio u l) e ≤ maxTotal
+total-le e u l s = omega (arith, scaled-by-le e u l s, s .movements)
+
 -- M of a total within the bounds
 pub mean-le : (t d : ℕ) → t ≤ maxTotal → meanOf t d ≤ maxMean
 mean-le t d h =

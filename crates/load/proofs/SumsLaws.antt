@@ -26,8 +26,10 @@ use Rattle.load_rules.specs.Verdict.{limitFits, verdictRefusal, refusalNumber, 
 use Rattle.load_rules.proofs.TallyLaws.{AllGrouped, rule-ten}
 use Rattle.load_rules.proofs.FactorLaws.{known-sum}
 use Rattle.load.specs.declared.sums.Sums.{Sums}
-use Rattle.load.specs.InnerSteps.{table, groupAt, Scalable, Bounded, sumsOf, loadFrom, judgedBy}
-use Rattle.load.proofs.BoundLaws.{scaled-sum-small, scaled-by-le}
+use Rattle.load.specs.declared.sums.Totals.{Totals}
+use Rattle.load.specs.InnerSteps.{table, groupAt, Scalable, Bounded, sumsOf, totalsOf, loadFrom}
+use Rattle.load.specs.InnerSteps.{judgedBy}
+use Rattle.load.proofs.BoundLaws.{scaled-sum-small}
 
 -- From the sums that the code makes
 
@@ -41,14 +43,11 @@ module _ (cs : List (List (List Group))) (s : Sums) (same : s ≡ sumsOf (groupA
         energy = omega (arith, scaled-sum-small (groupAt cs) groupCount (b .energies));
       })
 
-  pub sums-total : scaledBy (ratio (s .known + s .unknown) (s .known)) (s .scaled) ≡ totalOf (groupAt cs)
-  unfolding sumsOf totalOf generalFactor scaledSum knownSum unknownSum
-  sums-total = rw same refl
-
-  pub sums-small : Bounded cs → scaledBy (ratio (s .known + s .unknown) (s .known)) (s .scaled) ≤ maxTotal
-  sums-small b =
-      let f = sums-fit b in
-      omega (arith, scaled-by-le (s .scaled) (s .known + s .unknown) (s .known) f, f .movements)
+  -- the total and the level of an answer
+  pub sums-totals : (days : ℕ) {t : Totals} → t ≡ totalsOf s days
+      → (t .total ≡ answer (groupAt cs) days .total) × (t .level ≡ answer (groupAt cs) days .level)
+  unfolding totalsOf sumsOf answer totalOf generalFactor scaledSum knownSum unknownSum
+  sums-totals days e = rw (e, same) (refl, refl)
 
   pub sums-none : {t : Bool} → t ≡ (eqb (s .known) 0 && ltb 0 (s .unknown))
       → t ≡ (eqb (knownSum (λ g. countsOf (groupAt cs g))) 0 && ltb 0 (unknownSum (λ g. countsOf (groupAt cs g))))
@@ -65,12 +64,16 @@ module _ (f : ℕ → Group) (days : ℕ) where
   unfolding loadFrom
   from-refused e = rw e refl
 
+  pub from-fine : none ≡ false → loadFrom f days .refused ≡ 0
+  unfolding loadFrom answer
+  from-fine e = rw e refl
+
   pub from-answered : (total : ℕ) (level : Level) (counts : List Counts) → none ≡ false
-      → total ≡ totalOf f → level ≡ levelOf (meanOf total days)
+      → total ≡ answer f days .total → level ≡ answer f days .level
       → counts ≡ listFrom (λ g. countsOf (f g)) 0 groupCount
       → record { refused = 0; total = total; level = level; counts = counts } ≡ loadFrom f days
   unfolding loadFrom answer
-  from-answered total level counts e t l c = rw (e, l, t, c) refl
+  from-answered total level counts e t l c = rw (e, t, l, c) refl
 
   -- the array of arrays gives the load of what it holds
   pub from-table : loadFrom (groupAt (table f)) days ≡ loadFrom f days
