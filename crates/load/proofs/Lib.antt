@@ -3,3 +3,4 @@ pub mod MoreRows
 pub mod RowLaws
 pub mod BoundLaws
 pub mod SumsLaws
+pub mod AccountLaws

@@ -1,33 +1,32 @@
 -- Laws of the load: from the sums that the code makes, and from the array of arrays.
 -- Assumes nothing.
-use mathlib.Core.Path.{_≡_, refl, sym, ap, _∙_}
+use mathlib.Core.Path.{_≡_, refl, ap, _∙_}
 use mathlib.Core.Bool.{Bool, true, false, cond, not, _&&_}
 use mathlib.Core.List.{List}
-use Prim.Native.Nat.{ℕ, _+_, _*_, _≤_, _<_}
+use Prim.Native.Nat.{ℕ, _+_, _≤_, _<_}
 use native.Mathlib.Omega.{arith}
 use lib.Dec.{eqb, leb, ltb}
 use borrow.Author.Tests.{leb-true, ltb-true}
-use Rattle.level.specs.Limits.{maxMovements, maxEnergy, maxTotal}
-use Rattle.level.specs.Energy.{meanOf}
-use Rattle.level.specs.Level.{levelOf, verdictOf}
+use Rattle.level.specs.Level.{verdictOf}
 use Rattle.level.specs.declared.Level.{Level}
 use Rattle.movement.specs.Limits.{groupCount}
 use Rattle.refusal.proofs.Laws.{and-left, and-right}
 use Rattle.book_rules.specs.Columns.{Book, sound}
 use Rattle.load_rules.specs.declared.Group.{Group}
 use Rattle.load_rules.specs.declared.Counts.{Counts}
-use Rattle.load_rules.specs.declared.Judged.the-variants.{Given, Refused}
 use Rattle.load_rules.specs.Shares.{Share}
 use Rattle.load_rules.specs.Tally.{tally, listFrom}
-use Rattle.load_rules.specs.Factors.{ratio, scaledBy, sumTo, known, unknown, knownSum, unknownSum, generalFactor}
-use Rattle.load_rules.specs.Load.{countsOf, scaledEnergy, scaledSum, totalOf, daysFit, noneComputed, loadRefusal}
+use Rattle.load_rules.specs.Factors.{sumTo, known, unknown, knownSum, unknownSum, generalFactor}
+use Rattle.load_rules.specs.Load.{countsOf, scaledSum, totalOf, daysFit, noneComputed, loadRefusal}
 use Rattle.load_rules.specs.Load.{answer, refusedLoad, loadOf}
-use Rattle.load_rules.specs.Verdict.{limitFits, verdictRefusal, refusalNumber, judged, judgedOf}
+use Rattle.load_rules.specs.Verdict.{limitFits, verdictRefusal, judged, judgedOf}
 use Rattle.load_rules.proofs.TallyLaws.{AllGrouped, rule-ten}
 use Rattle.load_rules.proofs.FactorLaws.{known-sum}
 use Rattle.load.specs.declared.sums.Sums.{Sums}
-use Rattle.load.specs.InnerSteps.{table, groupAt, Scalable, Bounded, sumsOf, loadFrom, judgedBy}
-use Rattle.load.proofs.BoundLaws.{scaled-sum-small, scaled-by-le}
+use Rattle.load.specs.declared.sums.Totals.{Totals}
+use Rattle.load.specs.InnerSteps.{table, groupAt, Scalable, Bounded, sumsOf, totalsOf, loadFrom}
+use Rattle.load.specs.InnerSteps.{judgedBy}
+use Rattle.load.proofs.BoundLaws.{scaled-sum-small}
 
 -- From the sums that the code makes
 
@@ -41,14 +40,11 @@ module _ (cs : List (List (List Group))) (s : Sums) (same : s ≡ sumsOf (groupA
         energy = omega (arith, scaled-sum-small (groupAt cs) groupCount (b .energies));
       })
 
-  pub sums-total : scaledBy (ratio (s .known + s .unknown) (s .known)) (s .scaled) ≡ totalOf (groupAt cs)
-  unfolding sumsOf totalOf generalFactor scaledSum knownSum unknownSum
-  sums-total = rw same refl
-
-  pub sums-small : Bounded cs → scaledBy (ratio (s .known + s .unknown) (s .known)) (s .scaled) ≤ maxTotal
-  sums-small b =
-      let f = sums-fit b in
-      omega (arith, scaled-by-le (s .scaled) (s .known + s .unknown) (s .known) f, f .movements)
+  -- the total and the level of an answer
+  pub sums-totals : (days : ℕ) {t : Totals} → t ≡ totalsOf s days
+      → (t .total ≡ answer (groupAt cs) days .total) × (t .level ≡ answer (groupAt cs) days .level)
+  unfolding totalsOf sumsOf answer totalOf generalFactor scaledSum knownSum unknownSum
+  sums-totals days e = rw (e, same) (refl, refl)
 
   pub sums-none : {t : Bool} → t ≡ (eqb (s .known) 0 && ltb 0 (s .unknown))
       → t ≡ (eqb (knownSum (λ g. countsOf (groupAt cs g))) 0 && ltb 0 (unknownSum (λ g. countsOf (groupAt cs g))))
@@ -65,12 +61,16 @@ module _ (f : ℕ → Group) (days : ℕ) where
   unfolding loadFrom
   from-refused e = rw e refl
 
+  pub from-fine : none ≡ false → loadFrom f days .refused ≡ 0
+  unfolding loadFrom answer
+  from-fine e = rw e refl
+
   pub from-answered : (total : ℕ) (level : Level) (counts : List Counts) → none ≡ false
-      → total ≡ totalOf f → level ≡ levelOf (meanOf total days)
+      → total ≡ answer f days .total → level ≡ answer f days .level
       → counts ≡ listFrom (λ g. countsOf (f g)) 0 groupCount
       → record { refused = 0; total = total; level = level; counts = counts } ≡ loadFrom f days
   unfolding loadFrom answer
-  from-answered total level counts e t l c = rw (e, l, t, c) refl
+  from-answered total level counts e t l c = rw (e, t, l, c) refl
 
   -- the array of arrays gives the load of what it holds
   pub from-table : loadFrom (groupAt (table f)) days ≡ loadFrom f days

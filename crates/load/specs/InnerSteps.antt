@@ -7,17 +7,19 @@ use lib.ListN.{getD, set}
 use lib.Dec.{eqb, ltb}
 use Rattle.level.specs.Tables.{IsTableA, ArePowers}
 use Rattle.level.specs.Limits.{maxMovements, maxEnergy, maxTotal}
-use Rattle.level.specs.Level.{verdictOf}
+use Rattle.level.specs.Energy.{meanOf}
+use Rattle.level.specs.Level.{levelOf, verdictOf}
 use Rattle.movement.specs.Limits.{groupCount}
 use Rattle.load_rules.specs.declared.Group.{Group}
 use Rattle.load_rules.specs.declared.Load.{Load}
 use Rattle.load_rules.specs.declared.Judged.{Judged}
 use Rattle.load_rules.specs.Shares.{energyIn}
 use Rattle.load_rules.specs.Tally.{groupWith, listFrom}
-use Rattle.load_rules.specs.Factors.{sumTo, known, unknown, knownSum, unknownSum}
+use Rattle.load_rules.specs.Factors.{ratio, scaledBy, sumTo, known, unknown, knownSum, unknownSum}
 use Rattle.load_rules.specs.Load.{countsOf, scaledEnergy, answer, refusedLoad}
 use Rattle.load_rules.specs.Verdict.{judged}
 use Rattle.load.specs.declared.sums.Sums.{Sums}
+use Rattle.load.specs.declared.sums.Totals.{Totals}
 
 -- table A and the powers of ten, as they are lent
 pub record Tables (a powers : List ℕ) : Type 0 where
@@ -72,6 +74,14 @@ sumsOf f n =
 
 unfoldable pub addedTo : Sums → Group → Sums
 addedTo s c = sums (s .scaled + scaledEnergy c) (s .known + known (countsOf c)) (s .unknown + unknown (countsOf c))
+
+-- the total of the sums, and its level
+unfoldable pub totalsOf : Sums → (days : ℕ) → Totals
+totalsOf s days =
+    record {
+      total = scaledBy (ratio (s .known + s .unknown) (s .known)) (s .scaled);
+      level = levelOf (meanOf (scaledBy (ratio (s .known + s .unknown) (s .known)) (s .scaled)) days);
+    }
 
 -- one group more fits into the sums
 pub record Fitting (s : Sums) (c : Group) : Type 0 where

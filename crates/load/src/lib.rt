@@ -1,4 +1,5 @@
 // The load and the verdict at a point of a book: RULES, "Energy and load".
+pub mod account;
 mod sums;
 mod tally;
 
@@ -12,10 +13,9 @@ use movement::limits::MAX_DAYS;
 use movement::limits::MAX_LIMIT;
 use sums::counts_of;
 use sums::none_computed;
-use sums::scaled_by;
 use sums::summed;
-use tally::no_groups;
-use tally::tallied;
+use sums::totals_of;
+use tally::groups_of;
 ghost use mathlib.Core.Path.{_≡_};
 ghost use mathlib.Core.Bool.{true, _&&_};
 ghost use Prim.Native.Nat.{_<_};
@@ -23,7 +23,7 @@ ghost use lib.Dec.{ltb};
 ghost use Rattle.book_rules.specs.Columns.{bookNow, bookBefore, sound};
 ghost use Rattle.load_rules.specs.Shares.{bookShares};
 ghost use Rattle.load_rules.specs.Load.{refusedLoad, daysFit, loadOf, bookLoad};
-ghost use Rattle.load_rules.specs.Verdict.{limitFits, Judging};
+ghost use Rattle.load_rules.specs.Verdict.{Judging};
 ghost use Rattle.load.specs.InnerSteps.{groupAt, Bounded, loadFrom, judgedBy};
 
 // The load at a point of a book, over a number of days.
@@ -76,7 +76,7 @@ pub fn verdict_at(
 }
 
 // Whether the book is sound and the point asked for is there.
-fn point_fits(
+pub(crate) fn point_fits(
     ids: &[u32],
     groups: &[u32],
     marks: &[u32],
@@ -92,7 +92,7 @@ fn point_fits(
     point < points
 }
 
-fn days_fit(days: u32) -> bool
+pub(crate) fn days_fit(days: u32) -> bool
     ensures { λ r. ⌜ r ≡ daysFit days ⌝ }
 {
     if days < 1 {
@@ -116,22 +116,7 @@ fn load_of(
     requires { ⌜ daysFit days ≡ true ⌝ }
     ensures { λ r. ⌜ r ≡ loadOf true (bookShares points point (bookBefore ids groups marks levels)) days ⌝ }
 {
-    let a = level::tables::table_a();
-    let powers = level::tables::powers();
-    answer_from(
-        tallied(
-            no_groups(),
-            &a,
-            &powers,
-            ids,
-            groups,
-            marks,
-            levels,
-            points,
-            point,
-        ),
-        days,
-    )
+    answer_from(groups_of(ids, groups, marks, levels, points, point), days)
 }
 
 // A refusal's number alone.
@@ -160,12 +145,12 @@ fn answer_from(groups: Groups, days: u32) -> Load
     if none_computed(sums) {
         return refusal(10);
     }
-    let total = scaled_by(sums.scaled, sums.known + sums.unknown, sums.known);
-    let level = level::core::level_of(level::core::mean(total, days));
+    let totals = totals_of(sums, days);
+    let level = totals.level;
     let counts = counts_of(groups);
     Load {
         refused: 0,
-        total: total,
+        total: totals.total,
         level: level,
         counts: counts,
     }

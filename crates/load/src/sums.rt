@@ -1,23 +1,31 @@
 // Sums over the 18 groups.
 use crate::tally::group_at;
+use level::Level;
 use load_rules::Counts;
 use load_rules::Group;
 use load_rules::Groups;
 use movement::limits::GROUPS;
 ghost use mathlib.Core.Path.{_≡_};
-ghost use mathlib.Core.Bool.{_&&_};
+ghost use mathlib.Core.Bool.{true, _&&_};
+ghost use Prim.Native.Nat.{_+_};
 ghost use lib.Dec.{eqb, ltb};
 ghost use Rattle.movement.specs.Limits.{groupCount};
 ghost use Rattle.load_rules.specs.Tally.{listFrom};
 ghost use Rattle.load_rules.specs.Factors.{ratio, scaledBy};
-ghost use Rattle.load_rules.specs.Load.{countsOf};
-ghost use Rattle.load.specs.InnerSteps.{groupAt, Scalable, Bounded, Fitting, sumsOf, addedTo};
+ghost use Rattle.load_rules.specs.Load.{countsOf, daysFit};
+ghost use Rattle.load.specs.InnerSteps.{groupAt, Scalable, Bounded, Fitting, sumsOf, addedTo, totalsOf};
 
 // P, V + U over the groups with computed movements, and W.
 pub(crate) struct Sums {
     pub(crate) scaled: u64,
     pub(crate) known: u32,
     pub(crate) unknown: u32,
+}
+
+// The total of a load, and its level.
+pub(crate) struct Totals {
+    pub(crate) total: u64,
+    pub(crate) level: Level,
 }
 
 // An energy times a factor, rounded down; a lower of 0 never divides.
@@ -77,6 +85,20 @@ pub(crate) fn none_computed(s: Sums) -> bool
         return false;
     }
     0 < s.unknown
+}
+
+// The total over a number of days: P by the general factor.
+pub(crate) fn totals_of(s: Sums, days: u32) -> Totals
+    requires { ⌜ Scalable (s .scaled) (s .known + s .unknown) (s .known) ⌝ }
+    requires { ⌜ daysFit days ≡ true ⌝ }
+    ensures { λ r. ⌜ r ≡ totalsOf s days ⌝ }
+{
+    let total = scaled_by(s.scaled, s.known + s.unknown, s.known);
+    let level = level::core::level_of(level::core::mean(total, days));
+    Totals {
+        total: total,
+        level: level,
+    }
 }
 
 // V and U of each group, by its number.

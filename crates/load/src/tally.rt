@@ -12,7 +12,7 @@ ghost use Rattle.load_rules.specs.Tally.{tally};
 ghost use Rattle.load.specs.InnerSteps.{table, groupAt, Tables, RoomForOne, withRow};
 
 // No movement in any group.
-pub(crate) fn no_groups() -> Groups
+fn no_groups() -> Groups
     ensures { λ r. ⌜ r ≡ table (tally []) ⌝ }
 {
     let none = Group {
@@ -65,7 +65,7 @@ fn with_row(
 
 // The groups with all rows of a sound book at a point. They come in once and go out once: a row reads and stores its
 // own group alone.
-pub(crate) fn tallied(
+fn tallied(
     start: Groups,
     a: &[u64; 1000],
     powers: &[u64; 14],
@@ -93,4 +93,32 @@ pub(crate) fn tallied(
         i += 1;
     }
     cells
+}
+
+// The groups of a sound book at a point.
+pub(crate) fn groups_of(
+    ids: &[u32],
+    groups: &[u32],
+    marks: &[u32],
+    levels: &[u32],
+    points: usize,
+    point: usize,
+) -> Groups
+    requires { ⌜ sound points (bookNow ids groups marks levels) ≡ true ⌝ }
+    requires { ⌜ point < points ⌝ }
+    ensures { λ r. ⌜ r ≡ table (tally (bookShares points point (bookBefore ids groups marks levels))) ⌝ }
+{
+    let a = level::tables::table_a();
+    let powers = level::tables::powers();
+    tallied(
+        no_groups(),
+        &a,
+        &powers,
+        ids,
+        groups,
+        marks,
+        levels,
+        points,
+        point,
+    )
 }

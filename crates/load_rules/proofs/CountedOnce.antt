@@ -135,7 +135,7 @@ module _ (pt : ℕ) (ms : List Movement) (days : ℕ) (grouped : AllGrouped (sha
       }
 
 -- a load that is not refused is an answer
-load-answered : (fits : Bool) (ss : List Share) (days : ℕ) → loadOf fits ss days .refused ≡ 0
+pub load-answered : (fits : Bool) (ss : List Share) (days : ℕ) → loadOf fits ss days .refused ≡ 0
     → loadOf fits ss days ≡ answer (tally ss) days
 unfolding loadOf refusedLoad
 load-answered fits ss days = go (eqb n 0) refl

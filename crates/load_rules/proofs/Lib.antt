@@ -10,3 +10,4 @@ pub mod Brings
 pub mod Formulas
 pub mod TotalBound
 pub mod CountedOnce
+pub mod Accounts

@@ -5,3 +5,4 @@ pub mod Load
 pub mod Verdict
 pub mod Refusals
 pub mod Afresh
+pub mod Account

@@ -20,7 +20,7 @@ answer-from-requires : tie.Need-answer-from-requires
 unfolding bookShares
 answer-from-requires c κs =
     let s : tie.Start = search in (
-      rw (c .tallied .ensures) (rows-bounded (s .args .points) (s .args .point) (book s) (s .pre .0) (s .pre .1 .0)),
+      rw (c .groups-of .ensures) (rows-bounded (s .args .points) (s .args .point) (book s) (s .pre .0) (s .pre .1 .0)),
       s .pre .1 .1,
     )
 
@@ -30,7 +30,7 @@ returns c =
     let s : tie.Start = search in
     let ss = bookShares (s .args .points) (s .args .point) (book s) in
     c .answer-from .ensures
-    ∙ ap (λ cs. loadFrom (groupAt cs) (s .args .days)) (c .before .tallied .ensures)
+    ∙ ap (λ cs. loadFrom (groupAt cs) (s .args .days)) (c .before .groups-of .ensures)
     ∙ from-table (tally ss) (s .args .days)
     ∙ from-shares ss (s .args .days) (s .pre .1 .1)
     (rows-grouped (s .args .points) (s .args .point) (book s) (s .pre .0) (s .pre .1 .0)
@@ -40,9 +40,6 @@ pub load-of-spec : {M : Type 1} → statement M
 load-of-spec =
     tie.close
     (tie.spec
-    (λ c κs. search needs)
-    (λ c κs. search needs)
-    (λ c κs. search needs)
     (λ c κs. search needs)
     answer-from-requires
     returns)
