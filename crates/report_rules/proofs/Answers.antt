@@ -18,43 +18,44 @@ use Rattle.register.specs.LimitsFile.{limitsOf}
 use Rattle.register.proofs.LimitsFront.{limits-front}
 use Rattle.report_steps.specs.Reading.{Reading, registered}
 use Rattle.report_text.specs.Text.{refusedText, bookText}
-use Rattle.report_rules.specs.Report.{bookRows, readingText, registerText, answerText, reportOf, Came}
-use Rattle.report_rules.specs.Report.{Answers, Written}
+use Rattle.report_rules.specs.Report.{bookRows, Telling, readingText, registerText, answerText, answerOf, reportOf}
+use Rattle.report_rules.specs.Report.{Came, Answers}
 use Rattle.report_rules.specs.Report.Came.{whole, stopped, failed}
 
-pub reading-refused : (l : LimitsFile) (s : Reading) → (s .refusal ≡ 0 → ⊥)
-    → readingText l s ≡ refusedText (s .refusal) (s .line)
+pub reading-refused : (tell : Telling) (l : LimitsFile) (s : Reading) → (s .refusal ≡ 0 → ⊥)
+    → readingText tell l s ≡ refusedText (s .refusal) (s .line)
 unfolding readingText
-reading-refused l s ne = rw (ne-eqb (s .refusal) 0 ne) refl
+reading-refused tell l s ne = rw (ne-eqb (s .refusal) 0 ne) refl
 
-pub reading-reported : (l : LimitsFile) (s : Reading) → s .refusal ≡ 0 → readingText l s ≡ bookText l (s .book)
+pub reading-reported : (tell : Telling) (l : LimitsFile) (s : Reading) → s .refusal ≡ 0
+    → readingText tell l s ≡ tell l (s .book)
 unfolding readingText
-reading-reported l s z = rw z refl
+reading-reported tell l s z = rw z refl
 
 -- a register that was read is answered by its reading
-pub register-text : (l : LimitsFile) (register : List ℕ) (s : Reading)
+pub register-text : (tell : Telling) (l : LimitsFile) (register : List ℕ) (s : Reading)
     → s ≡ registered (l .points) (emptyBook (l .points) bookRows) register
-    → readingText l s ≡ registerText l register
+    → readingText tell l s ≡ registerText tell l register
 unfolding registerText
-register-text l register s e = ap (readingText l) e
+register-text tell l register s e = ap (readingText tell l) e
 
 -- limits.csv is refused, whatever the register is; or accepted, and the register is answered
-pub report-refused : (limits register : List ℕ) → (limitsOf limits .refusal ≡ 0 → ⊥)
-    → reportOf limits register ≡ refusedText (limitsOf limits .refusal) (limitsOf limits .line)
-unfolding reportOf answerText
-report-refused limits register ne = rw (ne-eqb (limitsOf limits .refusal) 0 ne) refl
+pub report-refused : (tell : Telling) (limits register : List ℕ) → (limitsOf limits .refusal ≡ 0 → ⊥)
+    → answerOf tell limits register ≡ refusedText (limitsOf limits .refusal) (limitsOf limits .line)
+unfolding answerOf answerText
+report-refused tell limits register ne = rw (ne-eqb (limitsOf limits .refusal) 0 ne) refl
 
-pub report-accepted : (limits register : List ℕ) → limitsOf limits .refusal ≡ 0
-    → reportOf limits register ≡ registerText (limitsOf limits) register
-unfolding reportOf answerText
-report-accepted limits register z = rw z refl
+pub report-accepted : (tell : Telling) (limits register : List ℕ) → limitsOf limits .refusal ≡ 0
+    → answerOf tell limits register ≡ registerText tell (limitsOf limits) register
+unfolding answerOf answerText
+report-accepted tell limits register z = rw z refl
 
-pub answers-accepted : (limits : List ℕ) (came : Came) (text : List ℕ) → limitsOf limits .refusal ≡ 0
-    → Answers (registerText (limitsOf limits)) came text
-    → Answers (reportOf limits) came text
-answers-accepted limits (whole bytes) text z a = a ∙ sym (report-accepted limits bytes z)
-answers-accepted limits (stopped bytes) text z a = λ rest. a rest ∙ sym (report-accepted limits (bytes ++ rest) z)
-answers-accepted limits (failed bytes) text z a = a ∙ sym (report-accepted limits _ z)
+pub answers-accepted : (tell : Telling) (limits : List ℕ) (came : Came) (text : List ℕ) → limitsOf limits .refusal ≡ 0
+    → Answers (registerText tell (limitsOf limits)) came text
+    → Answers (answerOf tell limits) came text
+answers-accepted tell limits (whole bytes) text z a = a ∙ sym (report-accepted tell limits bytes z)
+answers-accepted tell limits (stopped bytes) text z a = λ rest. a rest ∙ sym (report-accepted tell limits (bytes ++ rest) z)
+answers-accepted tell limits (failed bytes) text z a = a ∙ sym (report-accepted tell limits _ z)
 
 -- an empty book of the report is sound
 pub empty-sound : (p : ℕ) → 1 ≤ p → p ≤ 8 → sound p (emptyBook p bookRows) ≡ true
@@ -64,9 +65,9 @@ empty-sound p some few = history-sound p bookRows [] ∙ rw (le-leb 1 p some, le
 -- limits.csv longer than its buffer: past its first 128 bytes nothing of it counts
 pub limits-any : (limits more register : List ℕ) → 128 ≤ length limits
     → reportOf (limits ++ more) register ≡ reportOf limits register
-unfolding reportOf
+unfolding answerOf
 limits-any limits more register h =
     let front : limitsOf (limits ++ more) ≡ limitsOf limits =
     limits-front (limits ++ more) (omega (arith, length-append limits more))
     ∙ ap limitsOf (take-append-le 128 limits more h) ∙ sym (limits-front limits h) in
-    ap (λ (l : LimitsFile). answerText l register) front
+    ap (λ (l : LimitsFile). answerText bookText l register) front

@@ -30,7 +30,7 @@ use Rattle.report_steps.specs.Reading.{Reading, opening, pointsRefusal, lineRef
 use Rattle.report_steps.specs.Reading.{headerPoints, registered}
 use Rattle.report_steps.proofs.Readings.{stuck, all-lines}
 use Rattle.report_text.specs.Text.{ended, line, refusedText, bookRefusal, bookText}
-use Rattle.report_rules.specs.Report.{bookRows, readingText, registerText, reportOf}
+use Rattle.report_rules.specs.Report.{bookRows, reportOf}
 use Rattle.report_rules.specs.Flights.{bookIn}
 use Rattle.report_rules.specs.Refused.{Refuses, ReportRefused, FirstRefused, RegisterRefused, HeaderExactly}
 use Rattle.report_rules.specs.Refused.{RowRefused}
@@ -92,7 +92,7 @@ unfolding bookText
 book-refused limits register fine accepted ne =
     let l = limitsOf limits in
     let s = registered (l .points) (emptyBook (l .points) bookRows) register in
-    report-accepted limits register fine ∙ sym (register-text l register s refl) ∙ reading-reported l s accepted
+    report-accepted bookText limits register fine ∙ sym (register-text bookText l register s refl) ∙ reading-reported bookText l s accepted
     ∙ rw (ne-eqb (bookRefusal l (s .book)) 0 ne) refl
 
 pub refused-report : (limits register : List ℕ) → ReportRefused limits register
@@ -100,9 +100,9 @@ refused-report limits register =
     let l = limitsOf limits in
     let s = registered (l .points) (emptyBook (l .points) bookRows) register in
     record {
-      by-limits = λ ne. refuses (reportOf limits register) (l .refusal) (l .line) (report-refused limits register ne);
+      by-limits = λ ne. refuses (reportOf limits register) (l .refusal) (l .line) (report-refused bookText limits register ne);
       by-register = λ fine ne. refuses (reportOf limits register) (s .refusal) (s .line)
-          (report-accepted limits register fine ∙ sym (register-text l register s refl) ∙ reading-refused l s ne);
+          (report-accepted bookText limits register fine ∙ sym (register-text bookText l register s refl) ∙ reading-refused bookText l s ne);
       by-book = λ fine accepted ne. refuses (reportOf limits register) (bookRefusal l (s .book)) 0
           (book-refused limits register fine accepted ne);
     }

@@ -99,9 +99,9 @@ module _ (limits register : List ℕ) (fine : limitsOf limits .refusal ≡ 0)
 
   text-is : reportOf limits register ≡ pointsText l b
   text-is =
-      report-accepted limits register fine
-      ∙ sym (register-text l register (registered p (emptyBook p bookRows) register) refl)
-      ∙ reading-reported l (registered p (emptyBook p bookRows) register) accepted
+      report-accepted bookText limits register fine
+      ∙ sym (register-text bookText l register (registered p (emptyBook p bookRows) register) refl)
+      ∙ reading-reported bookText l (registered p (emptyBook p bookRows) register) accepted
       ∙ book-points l b reported
 
   lines-are : linesOf (reportOf limits register) ≡ headerLine ∷ listing (pointLine l b) p

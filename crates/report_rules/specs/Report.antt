@@ -8,6 +8,7 @@ use lib.ListN.{length, replicate}
 use lib.Dec.{eqb}
 use Rattle.channel.specs.System.{First, Whole, Broken}
 use Rattle.channel.specs.Input.{input, file}
+use Rattle.book_rules.specs.Columns.{Book}
 use Rattle.book_rules.specs.History.{emptyBook}
 use Rattle.register.specs.declared.limits_csv.LimitsFile.{LimitsFile}
 use Rattle.register.specs.LimitsFile.{limitsOf}
@@ -19,21 +20,30 @@ use Rattle.report_text.specs.Text.{refusedText, bookText}
 abbrev pub bookRows : ℕ
 bookRows = 2000
 
--- the answer to a register that was read: the report of its book, or its refusal and line
-unfoldable pub readingText : LimitsFile → Reading → List ℕ
-readingText l s = cond (eqb (s .refusal) 0) (bookText l (s .book)) (refusedText (s .refusal) (s .line))
+-- the text that a program makes of a book
+abbrev pub Telling : Type 0
+Telling = LimitsFile → Book → List ℕ
+
+-- the answer to a register that was read: the text of its book, or its refusal and line
+unfoldable pub readingText : Telling → LimitsFile → Reading → List ℕ
+readingText tell l s = cond (eqb (s .refusal) 0) (tell l (s .book)) (refusedText (s .refusal) (s .line))
 
 -- the answer to a register, where limits.csv is accepted: it is read into an empty book
-unfoldable pub registerText : LimitsFile → List ℕ → List ℕ
-registerText l register = readingText l (registered (l .points) (emptyBook (l .points) bookRows) register)
+unfoldable pub registerText : Telling → LimitsFile → List ℕ → List ℕ
+registerText tell l register =
+    readingText tell l (registered (l .points) (emptyBook (l .points) bookRows) register)
 
 -- limits.csv is judged first
-unfoldable pub answerText : LimitsFile → List ℕ → List ℕ
-answerText l register = cond (eqb (l .refusal) 0) (registerText l register) (refusedText (l .refusal) (l .line))
+unfoldable pub answerText : Telling → LimitsFile → List ℕ → List ℕ
+answerText tell l register =
+    cond (eqb (l .refusal) 0) (registerText tell l register) (refusedText (l .refusal) (l .line))
 
--- the bytes of limits.csv and the bytes of the register give the bytes of the output
-unfoldable pub reportOf : (limits register : List ℕ) → List ℕ
-reportOf limits register = answerText (limitsOf limits) register
+-- the bytes of limits.csv and the bytes of the register give the bytes of the output; the report's tell of the book
+unfoldable pub answerOf : Telling → (limits register : List ℕ) → List ℕ
+answerOf tell limits register = answerText tell (limitsOf limits) register
+
+abbrev pub reportOf : (limits register : List ℕ) → List ℕ
+reportOf limits register = answerOf bookText limits register
 
 -- How the bytes came
 
@@ -70,9 +80,9 @@ pub data Opened (limits : List ℕ) : Type 0 where
   cut : First file limits → length limits ≡ limitsRoom → Opened limits
   unread : (bytes : List ℕ) → Broken file bytes → limits ≡ [] → Opened limits
 
--- a text that may be written: it is the report's of the bytes that came
-pub record Written (limits text : List ℕ) : Type 0 where
+-- a text that may be written: it is the program's of the bytes that came
+pub record Written (tell : Telling) (limits text : List ℕ) : Type 0 where
   pub opened : Opened limits
   pub came : Came
   pub heard : Heard came
-  pub is : Answers (reportOf limits) came text
+  pub is : Answers (answerOf tell limits) came text

@@ -23,11 +23,11 @@ pub six-is : (a b c d e f : List ℕ)
 unfolding joinedBy
 six-is a b c d e f = simp append-assoc
 
--- one line more
-ended-snoc : (ls : List (List ℕ)) (l : List ℕ) → ended (ls ++ (l ∷ [])) ≡ ended ls ++ (l ++ lineEnd)
+-- lines behind lines
+pub ended-append : (ls ks : List (List ℕ)) → ended (ls ++ ks) ≡ ended ls ++ ended ks
 unfolding ended
-ended-snoc [] l = refl
-ended-snoc (k ∷ ls) l = rw (ended-snoc ls l) (simp append-assoc)
+ended-append [] ks = refl
+ended-append (l ∷ ls) ks = rw (ended-append ls ks) (simp append-assoc)
 
 pub ended-none : (f : ℕ → List ℕ) → ended (listing f 0) ≡ []
 unfolding ended listing
@@ -35,8 +35,8 @@ ended-none f = refl
 
 pub ended-more : (f : ℕ → List ℕ) (n : ℕ)
     → ended (listing f n) ++ (f n ++ lineEnd) ≡ ended (listing f (n + 1))
-unfolding listing
-ended-more f n = rw (add-one n) (sym (ended-snoc (listing f n) (f n)))
+unfolding listing ended
+ended-more f n = rw (add-one n) (sym (ended-append (listing f n) (f n ∷ [])))
 
 pub ended-header : (l : List ℕ) (ls : List (List ℕ)) → (l ++ lineEnd) ++ ended ls ≡ ended (l ∷ ls)
 unfolding ended

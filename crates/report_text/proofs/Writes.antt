@@ -7,7 +7,7 @@ use native.Mathlib.Omega.{arith}
 use lib.ListN.{length, length-append}
 use Rattle.text.specs.Number.{showNumber, showLevel}
 use Rattle.room.specs.Room.{Wrote}
-use Rattle.room.proofs.Laws.{wrote-then}
+use Rattle.room.proofs.Laws.{wrote-then, wrote-none}
 use Rattle.text.proofs.Shown.{shown-width, level-most}
 use Rattle.report_text.specs.InnerRoom.{longestNumber, WroteWithin}
 
@@ -28,6 +28,14 @@ within-then {m} {n} {s} {a} {b} {mid} {e} {at} {i} {j} room u v =
           (u .wrote) (v .wrote);
       within = omega (arith, u .within, v .within);
     }
+
+-- no byte; and fewer than so many
+pub within-none : {s : List ℕ} {at : ℕ} → WroteWithin 0 s at [] s at
+within-none {s} {at} = record { wrote = wrote-none s at; within = omega arith }
+
+pub within-more : {m n : ℕ} {s t e : List ℕ} {at i : ℕ} → m ≤ n → WroteWithin m s at t e i
+    → WroteWithin n s at t e i
+within-more h w = record { wrote = w .wrote; within = omega (arith, w .within) }
 
 -- the same text, grouped otherwise
 pub within-is : {m : ℕ} {s t u e : List ℕ} {at i : ℕ} → WroteWithin m s at t e i → t ≡ u

@@ -33,7 +33,7 @@ pub struct Report {
 }
 
 // A comma and a number.
-fn put_field(out: &mut [u8], at: usize, n: u64) -> usize
+pub fn put_field(out: &mut [u8], at: usize, n: u64) -> usize
     requires { ⌜ at + longestField ≤ length (now out) ⌝ }
     ensures { λ r. ⌜ WroteWithin longestField (now (out .entry)) at (comma ∷ showNumber n)
         (now (out .exit)) r ⌝ }
@@ -43,7 +43,7 @@ fn put_field(out: &mut [u8], at: usize, n: u64) -> usize
 }
 
 // The end of a line.
-fn put_end(out: &mut [u8], at: usize) -> usize
+pub fn put_end(out: &mut [u8], at: usize) -> usize
     requires { ⌜ at + 2 ≤ length (now out) ⌝ }
     ensures { λ r. ⌜ WroteWithin 2 (now (out .entry)) at lineEnd (now (out .exit)) r ⌝ }
 {

@@ -1,0 +1,80 @@
+-- The lines of the text, as the writers group them.
+-- Assumes nothing.
+use mathlib.Core.Path.{_≡_, refl, sym, ap, _∙_}
+use mathlib.Core.Bool.{true, false}
+use mathlib.Core.List.{List, [], _∷_, _++_, append-assoc}
+use Prim.Native.Nat.{ℕ, _+_}
+use native.Mathlib.Numerals.{add-one}
+use Rattle.movement.specs.Limits.{groupCount}
+use Rattle.movement.specs.Group.{groupPeriod}
+use Rattle.text.specs.Number.{showNumber}
+use Rattle.text.specs.Field.{joinedBy}
+use Rattle.text.specs.Spelled.{bytes}
+use Rattle.report_text.specs.Text.{comma, lineEnd, ended, line}
+use Rattle.report_text.proofs.Lines.{ended-append}
+use Rattle.explain_text.specs.declared.amounts.Amounts.{Amounts}
+use Rattle.explain_text.specs.Text.{typeText, kindText, periodText, amountFields, groupFields, allFields}
+use Rattle.explain_text.specs.Text.{stands, groupLine, groupLines, pointLines}
+use Rattle.explain_text.specs.InnerRoom.{names, amountsText}
+
+-- five fields with their commas, and the end of their line
+five-is : (v u f s c : List ℕ)
+    → ((comma ∷ v) ++ (comma ∷ u)) ++ ((comma ∷ f) ++ (((comma ∷ s) ++ (comma ∷ c)) ++ lineEnd))
+    ≡ comma ∷ (line (v ∷ u ∷ f ∷ s ∷ c ∷ []) ++ lineEnd)
+unfolding joinedBy
+five-is v u f s c =
+    let four = f ++ (comma ∷ (s ++ (comma ∷ c))) in
+    let rest = comma ∷ (f ++ (comma ∷ ((s ++ (comma ∷ c)) ++ lineEnd))) in
+    ap (λ (t : List ℕ). comma ∷ t)
+    (append-assoc v (comma ∷ u) rest
+    ∙ ap (λ (t : List ℕ). v ++ (comma ∷ t))
+    (sym (append-assoc u (comma ∷ four) lineEnd
+    ∙ ap (λ (t : List ℕ). u ++ (comma ∷ t)) (append-assoc f (comma ∷ (s ++ (comma ∷ c))) lineEnd)))
+    ∙ sym (append-assoc v (comma ∷ (u ++ (comma ∷ four))) lineEnd))
+
+-- four fields before a line
+four-is : (n t k d x e : List ℕ)
+    → n ++ (((comma ∷ t) ++ ((comma ∷ k) ++ (comma ∷ d))) ++ (comma ∷ (x ++ e)))
+    ≡ (n ++ (comma ∷ (t ++ (comma ∷ (k ++ (comma ∷ (d ++ (comma ∷ x)))))))) ++ e
+four-is n t k d x e = simp append-assoc
+
+pub group-is : (point g : ℕ) (a : Amounts)
+    → showNumber (point + 1) ++ (names g ++ amountsText a) ≡ line (groupFields point g a) ++ lineEnd
+unfolding amountsText joinedBy
+group-is point g a =
+    rw (five-is _ _ _ _ _)
+    (four-is (showNumber (point + 1)) (typeText g) (kindText g) (periodText (groupPeriod g)) (line (amountFields a))
+    lineEnd)
+
+pub all-is : (point : ℕ) (a : Amounts)
+    → showNumber (point + 1) ++ (bytes ",all,," ++ amountsText a) ≡ line (allFields point a) ++ lineEnd
+unfolding amountsText joinedBy
+all-is point a =
+    rw (five-is _ _ _ _ _)
+    (sym (append-assoc (showNumber (point + 1)) (bytes ",all,,," ++ line (amountFields a)) lineEnd))
+
+-- a group with a movement, and one without
+pub standing-is : (point g : ℕ) (a : Amounts) → stands a ≡ true
+    → line (groupFields point g a) ++ lineEnd ≡ ended (groupLine point g a)
+unfolding groupLine ended
+standing-is point g a e = rw e refl
+
+pub none-is : (point g : ℕ) (a : Amounts) → stands a ≡ false → [] ≡ ended (groupLine point g a)
+unfolding groupLine ended
+none-is point g a e = rw e refl
+
+-- no group, one group more, and `all` behind them
+module _ (point : ℕ) (a : ℕ → Amounts) where
+  pub groups-none : [] ≡ ended (groupLines point a 0)
+  unfolding groupLines ended
+  groups-none = refl
+
+  pub groups-more : (g : ℕ) → ended (groupLines point a g) ++ ended (groupLine point g (a g))
+      ≡ ended (groupLines point a (g + 1))
+  unfolding groupLines
+  groups-more g = rw (add-one g) (sym (ended-append (groupLines point a g) (groupLine point g (a g))))
+
+  pub point-is : (all : Amounts) → ended (groupLines point a groupCount) ++ (line (allFields point all) ++ lineEnd)
+      ≡ ended (pointLines point a all)
+  unfolding pointLines ended
+  point-is all = sym (ended-append (groupLines point a groupCount) (line (allFields point all) ∷ []))

@@ -1,0 +1,4 @@
+pub mod Grouped
+pub mod Sums
+pub mod Told
+pub mod Points

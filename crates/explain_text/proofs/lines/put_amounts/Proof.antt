@@ -1,0 +1,40 @@
+-- `explain_text::lines::put_amounts` meets its contract: two numbers, the factor, two numbers and the end of the
+-- line, each past the other. Assumes nothing.
+use native.Mathlib.Omega.{arith}
+use Rattle.report_text.proofs.Writes.{within-then}
+use Rattle.explain_text.specs.InnerRoom.{amountsText}
+use borrow.Author.Needs.{needs}
+use Rattle.explain_text.proofs.lines.put_amounts.Statement.{statement}
+use Rattle.explain_text.proofs.lines.put_amounts.Tie as tie
+
+returns : tie.Need-returns
+unfolding amountsText
+returns c =
+    let s : tie.Start = search in
+    let first : tie.After-put-pair = search in
+    let factor : tie.After-put-factor = search in
+    let second : tie.After-put-pair2 = search in
+    let end : tie.After-put-end = search in
+    within-then (s .pre) (first .put-pair .ensures)
+    (within-then (omega (arith, s .pre, first .put-pair .ensures .within, first .put-pair .kept .0))
+    (factor .put-factor .ensures)
+    (within-then (omega (
+      arith,
+      s .pre,
+      first .put-pair .ensures .within,
+      first .put-pair .kept .0,
+      factor .put-factor .ensures .within,
+      factor .put-factor .kept .0,
+    ))
+    (second .put-pair2 .ensures) (end .put-end .ensures)))
+
+pub put-amounts-spec : {M : Type 1} → statement M
+put-amounts-spec =
+    tie.close
+    (tie.spec
+    (λ c κs. search needs)
+    (λ c κs. search needs)
+    (λ c κs. search needs)
+    (λ c κs. search needs)
+    (λ c. search needs)
+    returns)
