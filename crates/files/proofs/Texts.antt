@@ -1,13 +1,13 @@
 -- The texts of the program's steps, and which answer each is.
 -- Assumes nothing.
 use mathlib.Core.Path.{_≡_, refl, sym, ap, _∙_}
-use mathlib.Core.Bool.{true}
+use mathlib.Core.Bool.{Bool, true}
 use mathlib.Core.List.{List, [], _++_}
 use Prim.Native.Nat.{ℕ, _≤_, _<_}
 use native.Mathlib.Omega.{arith}
 use lib.Dec.{eqb}
 use lib.ListN.{length, take}
-use borrow.Author.Tests.{eqb-true, eqb-false}
+use borrow.Author.Tests.{ne-eqb, eqb-true, eqb-false}
 use Rattle.room.specs.Room.{Wrote}
 use Rattle.room.proofs.Laws.{wrote-front, wrote-fits}
 use Rattle.text.proofs.Digits.{either}
@@ -17,43 +17,46 @@ use Rattle.register.specs.declared.limits_csv.LimitsFile.{LimitsFile}
 use Rattle.register.specs.LimitsFile.{limitsOf}
 use Rattle.report_steps.specs.Reading.{Reading, readingAt, registered}
 use Rattle.report_text.specs.Text.{refusedText, bookText}
+use Rattle.explain_text.specs.Text.{explainText}
 use Rattle.report_text.specs.InnerRoom.{longestRefused, WroteWithin}
-use Rattle.channel.specs.System.{none-came}
+use Rattle.channel.specs.System.{none-came, none-went}
+use Rattle.channel.specs.Output.{Writes}
 use Rattle.channel.specs.Input.{input}
-use Rattle.report_rules.specs.Report.{bookRows, registerText, reportOf, endless, Opened}
+use Rattle.report_rules.specs.Report.{bookRows, Telling, registerText, endless, Opened, Written, Ran, Run}
 use Rattle.report_rules.specs.Report.Came.{whole, stopped, failed}
 use Rattle.report_rules.proofs.Answers.{reading-refused, reading-reported, register-text, report-refused}
 use Rattle.report_rules.proofs.Answers.{answers-accepted}
 use Rattle.files.specs.declared.feed.Turn.{Turn}
 use Rattle.files.specs.Feeding.{stateEnded, stateStopped, turnedTo, Registered}
+use Rattle.files.specs.Kinds.{explain, tellingOf}
 use Rattle.files.specs.InnerSteps.{Sized, AnsweredIn, WrittenIn}
 
-pub sized-refused : (l : LimitsFile) (b : Book) {s e : List ℕ} {r n size : ℕ} → (r ≡ 0 → ⊥)
-    → WroteWithin longestRefused s 0 (refusedText r n) e size → Sized l (readingAt r n b) e size
-sized-refused l b {s} {e} {r} {n} {size} ne w =
+pub sized-refused : (tell : Telling) (l : LimitsFile) (b : Book) {s e : List ℕ} {r n size : ℕ} → (r ≡ 0 → ⊥)
+    → WroteWithin longestRefused s 0 (refusedText r n) e size → Sized tell l (readingAt r n b) e size
+sized-refused tell l b {s} {e} {r} {n} {size} ne w =
     record {
       fits = wrote-fits (w .wrote);
       text = wrote-front (w .wrote)
-          ∙ sym (reading-refused l (readingAt r n b) ne);
+          ∙ sym (reading-refused tell l (readingAt r n b) ne);
     }
 
-pub sized-report : (l : LimitsFile) (b : Book) {s e : List ℕ} {r size : ℕ} (n : ℕ) → r ≡ 0
-    → Wrote s 0 (bookText l b) e size → Sized l (readingAt r n b) e size
-sized-report l b {s} {e} {r} {size} n z w =
-    record { fits = wrote-fits w; text = wrote-front w ∙ sym (reading-reported l (readingAt r n b) z) }
+pub sized-report : (tell : Telling) (l : LimitsFile) (b : Book) {s e : List ℕ} {r size : ℕ} (n : ℕ) → r ≡ 0
+    → Wrote s 0 (tell l b) e size → Sized tell l (readingAt r n b) e size
+sized-report tell l b {s} {e} {r} {size} n z w =
+    record { fits = wrote-fits w; text = wrote-front w ∙ sym (reading-reported tell l (readingAt r n b) z) }
 
 -- a register that was read to its end, and one that was not
-module _ (l : LimitsFile) {b₀ b : Book} {t : Turn} {out : List ℕ} {size : ℕ} (k : Registered (l .points) b₀ t b)
-    (none : b₀ ≡ emptyBook (l .points) bookRows) (w : Sized l (turnedTo t b) out size) where
+module _ (tell : Telling) (l : LimitsFile) {b₀ b : Book} {t : Turn} {out : List ℕ} {size : ℕ} (k : Registered (l .points) b₀ t b)
+    (none : b₀ ≡ emptyBook (l .points) bookRows) (w : Sized tell l (turnedTo t b) out size) where
   text-of : (register : List ℕ) → turnedTo t b ≡ registered (l .points) b₀ register
-      → take size out ≡ registerText l register
-  text-of register e = w .text ∙ register-text l register (turnedTo t b) (rw none at e)
+      → take size out ≡ registerText tell l register
+  text-of register e = w .text ∙ register-text tell l register (turnedTo t b) (rw none at e)
 
-  pub answered-whole : t .state ≡ stateEnded → AnsweredIn l out size
+  pub answered-whole : t .state ≡ stateEnded → AnsweredIn tell l out size
   answered-whole e = let q = k .ends e in
       record { fits = w .fits; came = whole (k .all); heard = q .0; is = text-of (k .all) (q .1) }
 
-  pub answered-other : (t .state ≡ stateEnded → ⊥) → AnsweredIn l out size
+  pub answered-other : (t .state ≡ stateEnded → ⊥) → AnsweredIn tell l out size
   answered-other ne =
       either (eqb (t .state) stateStopped)
       (λ yes. let e = eqb-true (t .state) stateStopped yes in
@@ -69,24 +72,47 @@ module _ (l : LimitsFile) {b₀ b : Book} {t : Turn} {out : List ℕ} {size : �
       record { fits = w .fits; came = failed (k .all); heard = q .0; is = text-of (k .all ++ endless) (q .1) })
 
 -- limits.csv refused, and accepted
-pub limits-refused : (limits : List ℕ) → Opened limits → {l : LimitsFile} {s e : List ℕ} {size : ℕ} → l ≡ limitsOf limits
+pub limits-refused : (tell : Telling) (limits : List ℕ) → Opened limits → {l : LimitsFile} {s e : List ℕ} {size : ℕ} → l ≡ limitsOf limits
     → (l .refusal ≡ 0 → ⊥)
-    → WroteWithin longestRefused s 0 (refusedText (l .refusal) (l .line)) e size → WrittenIn limits e size
-limits-refused limits opened {l} {s} {e} {size} q ne w =
+    → WroteWithin longestRefused s 0 (refusedText (l .refusal) (l .line)) e size → WrittenIn tell limits e size
+limits-refused tell limits opened {l} {s} {e} {size} q ne w =
     record {
       fits = wrote-fits (w .wrote);
       written = record {
         opened = opened;
         came = stopped [];
         heard = none-came input;
-        is = λ rest. wrote-front (w .wrote) ∙ rw q (sym (report-refused limits rest (rw q at ne)));
+        is = λ rest. wrote-front (w .wrote) ∙ rw q (sym (report-refused tell limits rest (rw q at ne)));
       };
     }
 
-pub limits-accepted : (limits : List ℕ) → Opened limits → {l : LimitsFile} {e : List ℕ} {size : ℕ} → l ≡ limitsOf limits
+pub limits-accepted : (tell : Telling) (limits : List ℕ) → Opened limits → {l : LimitsFile} {e : List ℕ} {size : ℕ} → l ≡ limitsOf limits
     → l .refusal ≡ 0
-    → AnsweredIn l e size → WrittenIn limits e size
-limits-accepted limits opened {l} {e} {size} q z a =
-    let b : AnsweredIn (limitsOf limits) e size = rw q at a in
-    let is = answers-accepted limits (b .came) (take size e) (rw q at z) (b .is) in
+    → AnsweredIn tell l e size → WrittenIn tell limits e size
+limits-accepted tell limits opened {l} {e} {size} q z a =
+    let b : AnsweredIn tell (limitsOf limits) e size = rw q at a in
+    let is = answers-accepted tell limits (b .came) (take size e) (rw q at z) (b .is) in
     record { fits = b .fits; written = record { opened = opened; came = b .came; heard = b .heard; is = is } }
+
+-- the text of each program
+pub told-explained : (l : LimitsFile) (b : Book) {kind size : ℕ} {s e : List ℕ} → kind ≡ explain
+    → Wrote s 0 (explainText l b) e size → Wrote s 0 (tellingOf kind l b) e size
+told-explained l b z w = rw z w
+
+pub told-reported : (l : LimitsFile) (b : Book) {kind size : ℕ} {s e : List ℕ} → (kind ≡ explain → ⊥)
+    → Wrote s 0 (bookText l b) e size → Wrote s 0 (tellingOf kind l b) e size
+told-reported l b {kind} ne w = rw (ne-eqb kind explain ne) w
+
+-- the text went, all of it, with nothing before it
+pub ran : (tell : Telling) {limits text : List ℕ} {sent sent′ : ℕ} {r : Bool} → Written tell limits text → sent ≡ 0
+    → Writes sent text r sent′ → Run tell r sent′
+ran tell {limits} {text} {sent} {sent′} {r} written z w =
+    record {
+      all = λ e. record {
+        limits = limits;
+        out = text;
+        written = written;
+        went = w .went e [] (record { first = none-went; long = sym z });
+      };
+      lost = w .lost;
+    }

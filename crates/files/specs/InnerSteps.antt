@@ -4,23 +4,30 @@ use Prim.Native.Nat.{ℕ, _≤_}
 use mathlib.Core.Path.{_≡_}
 use mathlib.Core.List.{List}
 use lib.ListN.{length, take}
+use Rattle.room.specs.Room.{Wrote}
+use Rattle.book_rules.specs.Columns.{Book}
 use Rattle.register.specs.declared.limits_csv.LimitsFile.{LimitsFile}
 use Rattle.report_steps.specs.Reading.{Reading}
-use Rattle.report_rules.specs.Report.{readingText, registerText, Came, Heard, Answers, Written}
+use Rattle.report_text.specs.declared.core.Report.{Report}
+use Rattle.report_rules.specs.Report.{Telling, readingText, registerText, Came, Heard, Answers, Written}
 
 -- the first bytes of a buffer are the answer to a register that was read
-pub record Sized (l : LimitsFile) (s : Reading) (out : List ℕ) (size : ℕ) : Type 0 where
+pub record Sized (tell : Telling) (l : LimitsFile) (s : Reading) (out : List ℕ) (size : ℕ) : Type 0 where
   pub fits : size ≤ length out
-  pub text : take size out ≡ readingText l s
+  pub text : take size out ≡ readingText tell l s
 
 -- the answer to a register, where limits.csv is accepted
-pub record AnsweredIn (l : LimitsFile) (out : List ℕ) (size : ℕ) : Type 0 where
+pub record AnsweredIn (tell : Telling) (l : LimitsFile) (out : List ℕ) (size : ℕ) : Type 0 where
   pub fits : size ≤ length out
   pub came : Came
   pub heard : Heard came
-  pub is : Answers (registerText l) came (take size out)
+  pub is : Answers (registerText tell l) came (take size out)
 
 -- the answer to limits.csv and the register
-pub record WrittenIn (limits out : List ℕ) (size : ℕ) : Type 0 where
+pub record WrittenIn (tell : Telling) (limits out : List ℕ) (size : ℕ) : Type 0 where
   pub fits : size ≤ length out
-  pub written : Written limits (take size out)
+  pub written : Written tell limits (take size out)
+
+-- the whole text of a book at the front of a buffer, and its refusal for the sentence that goes with it
+pub record Told (tell : Telling) (l : LimitsFile) (b : Book) (old : List ℕ) (r : Report) (new : List ℕ) : Type 0 where
+  pub wrote : Wrote old 0 (tell l b) new (r .size)

@@ -1,3 +1,4 @@
 pub mod Feeding
 pub mod InnerFeeding
 pub mod InnerSteps
+pub mod Kinds

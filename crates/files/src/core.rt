@@ -1,5 +1,5 @@
-// The answer to limits.csv and a register: the text that the report program writes. For a person, a refusal also gets a
-// sentence on standard error.
+// The answer to limits.csv and a register: the text that a program writes. For a person, a refusal also gets a sentence
+// on standard error.
 use crate::explain;
 use crate::feed;
 use crate::feed::ENDED;
@@ -7,8 +7,10 @@ use crate::feed::Turn;
 use crate::say;
 use channel::whole::FAILED;
 use channel::whole::read_file;
+use explain_text::core::put_explained;
 use movement::limits::MAX_POINTS;
 use register::limits_csv::LimitsFile;
+use report_text::core::Report;
 use report_text::core::put_refused;
 use report_text::core::put_report;
 ghost use mathlib.Core.Path.{_≡_};
@@ -18,12 +20,18 @@ ghost use Rattle.io.specs.Counts.{Counts};
 ghost use Rattle.movement.specs.Limits.{maxPoints};
 ghost use Rattle.book_rules.specs.Columns.{bookNow, bookBefore};
 ghost use Rattle.book_rules.specs.History.{emptyBook};
-ghost use Rattle.report_text.specs.Text.{refusedText, bookText};
-ghost use Rattle.report_text.specs.InnerRoom.{longestReport, longestRefused, WroteWithin, LimitsFit};
-ghost use Rattle.room.specs.Room.{Wrote};
-ghost use Rattle.report_rules.specs.Report.{bookRows, limitsRoom, Opened, Written};
+ghost use Rattle.report_text.specs.Text.{refusedText};
+ghost use Rattle.report_text.specs.InnerRoom.{longestRefused, WroteWithin, LimitsFit};
+ghost use Rattle.explain_text.specs.InnerRoom.{longestText};
+ghost use Rattle.report_rules.specs.Report.{bookRows, limitsRoom, Opened, Written, Run};
 ghost use Rattle.files.specs.Feeding.{turnedTo};
-ghost use Rattle.files.specs.InnerSteps.{Sized, AnsweredIn, WrittenIn};
+ghost use Rattle.files.specs.InnerSteps.{Sized, AnsweredIn, WrittenIn, Told};
+ghost use Rattle.files.specs.Kinds.{tellingOf};
+
+// Which text a program makes of the book: the report, or how each load comes about.
+pub const REPORT: u32 = 0;
+
+pub const EXPLAIN: u32 = 1;
 
 // The rows of the report's own book, and the levels of that many rows at eight points.
 const BOOK_ROWS: usize = 2000;
@@ -31,7 +39,7 @@ const BOOK_ROWS: usize = 2000;
 const BOOK_LEVELS: usize = BOOK_ROWS * MAX_POINTS;
 
 // Puts limits.csv at the start of the buffer and answers its length. One that can't be opened or read counts as empty.
-pub fn limits_text(text: &mut [u8]) -> usize
+fn limits_text(text: &mut [u8]) -> usize
     requires { ⌜ length (now text) ≡ limitsRoom ⌝ }
     ensures { λ r. ⌜ Counts r (now (text .exit)) × Opened (take r (now (text .exit))) ⌝ }
 {
@@ -44,10 +52,10 @@ pub fn limits_text(text: &mut [u8]) -> usize
 }
 
 // The text that answers limits.csv and the register, at the front of the buffer.
-pub fn answer(text: &[u8], out: &mut [u8]) -> usize
+fn answer(kind: u32, text: &[u8], out: &mut [u8]) -> usize
     requires { ⌜ Opened (now text) ⌝ }
-    requires { ⌜ longestReport ≤ length (now out) ⌝ }
-    ensures { λ r. ⌜ WrittenIn (now (text .entry)) (now (out .exit)) r ⌝ }
+    requires { ⌜ longestText ≤ length (now out) ⌝ }
+    ensures { λ r. ⌜ WrittenIn (tellingOf kind) (now (text .entry)) (now (out .exit)) r ⌝ }
 {
     let limits = register::limits_csv::read_limits(text);
     let refusal = limits.refusal;
@@ -59,11 +67,20 @@ pub fn answer(text: &[u8], out: &mut [u8]) -> usize
     let mut groups = [0u32; BOOK_ROWS];
     let mut marks = [0u32; BOOK_ROWS];
     let mut levels = [0u32; BOOK_LEVELS];
-    report(&mut ids, &mut groups, &mut marks, &mut levels, limits, out)
+    report(
+        kind,
+        &mut ids,
+        &mut groups,
+        &mut marks,
+        &mut levels,
+        limits,
+        out,
+    )
 }
 
 // The report of a register, into these columns; of the levels only as many as the points need.
 fn report(
+    kind: u32,
     ids: &mut [u32],
     groups: &mut [u32],
     marks: &mut [u32],
@@ -72,15 +89,16 @@ fn report(
     out: &mut [u8],
 ) -> usize
     requires { ⌜ bookNow ids groups marks levels ≡ emptyBook maxPoints bookRows ⌝ }
-    requires { ⌜ LimitsFit limits × (longestReport ≤ length (now out)) ⌝ }
-    ensures { λ r. ⌜ AnsweredIn limits (now (out .exit)) r ⌝ }
+    requires { ⌜ LimitsFit limits × (longestText ≤ length (now out)) ⌝ }
+    ensures { λ r. ⌜ AnsweredIn (tellingOf kind) limits (now (out .exit)) r ⌝ }
 {
     let room = BOOK_ROWS * limits.points as usize;
-    report_in(ids, groups, marks, &mut levels[..room], limits, out)
+    report_in(kind, ids, groups, marks, &mut levels[..room], limits, out)
 }
 
 // The register is read into the book; then its report is written, or its refusal.
 fn report_in(
+    kind: u32,
     ids: &mut [u32],
     groups: &mut [u32],
     marks: &mut [u32],
@@ -89,21 +107,22 @@ fn report_in(
     out: &mut [u8],
 ) -> usize
     requires { ⌜ bookNow ids groups marks levels ≡ emptyBook (limits .points) bookRows ⌝ }
-    requires { ⌜ LimitsFit limits × (longestReport ≤ length (now out)) ⌝ }
-    ensures { λ r. ⌜ AnsweredIn limits (now (out .exit)) r ⌝ }
+    requires { ⌜ LimitsFit limits × (longestText ≤ length (now out)) ⌝ }
+    ensures { λ r. ⌜ AnsweredIn (tellingOf kind) limits (now (out .exit)) r ⌝ }
 {
     let points = limits.points as usize;
     let mut bytes = io::large_buffer();
     let read = feed::read_register(ids, groups, marks, levels, points, &mut bytes);
     let state = read.state;
     if state == ENDED {
-        return answer_whole(ids, groups, marks, levels, limits, &bytes, read, out);
+        return answer_whole(kind, ids, groups, marks, levels, limits, &bytes, read, out);
     }
     refuse(&bytes, read, limits, out)
 }
 
 // The answer to a register that was read to its end.
 fn answer_whole(
+    kind: u32,
     ids: &[u32],
     groups: &[u32],
     marks: &[u32],
@@ -113,14 +132,14 @@ fn answer_whole(
     read: Turn,
     out: &mut [u8],
 ) -> usize
-    requires { ⌜ LimitsFit limits × (longestReport ≤ length (now out)) ⌝ }
-    ensures { λ r. ⌜ Sized limits (turnedTo read (bookBefore ids groups marks levels)) (now (out .exit)) r ⌝ }
+    requires { ⌜ LimitsFit limits × (longestText ≤ length (now out)) ⌝ }
+    ensures { λ r. ⌜ Sized (tellingOf kind) limits (turnedTo read (bookBefore ids groups marks levels)) (now (out .exit)) r ⌝ }
 {
     let refusal = read.refusal;
     if refusal != 0 {
         return refuse(bytes, read, limits, out);
     }
-    let report = put_report(out, ids, groups, marks, levels, limits);
+    let report = put_told(kind, out, ids, groups, marks, levels, limits);
     if report.refused != 0 {
         say::of_book(report.refused);
     }
@@ -129,10 +148,51 @@ fn answer_whole(
 
 // The register is refused: its one line, and the sentence that goes with it.
 fn refuse(bytes: &[u8], read: Turn, limits: LimitsFile, out: &mut [u8]) -> usize
-    requires { ⌜ longestReport ≤ length (now out) ⌝ }
+    requires { ⌜ longestText ≤ length (now out) ⌝ }
     ensures { λ r. ⌜ WroteWithin longestRefused (now (out .entry)) 0 (refusedText (read .refusal) (read .line))
         (now (out .exit)) r ⌝ }
 {
     explain::refusal(bytes, read, limits.points);
     put_refused(out, read.refusal, read.line)
+}
+
+// The text of the book.
+fn put_told(
+    kind: u32,
+    out: &mut [u8],
+    ids: &[u32],
+    groups: &[u32],
+    marks: &[u32],
+    levels: &[u32],
+    limits: LimitsFile,
+) -> Report
+    requires { ⌜ LimitsFit limits × (longestText ≤ length (now out)) ⌝ }
+    ensures { λ r. ⌜ Told (tellingOf kind) limits (bookBefore ids groups marks levels) (now (out .entry)) r
+        (now (out .exit)) ⌝ }
+{
+    if kind == EXPLAIN {
+        return put_explained(out, ids, groups, marks, levels, limits);
+    }
+    put_report(out, ids, groups, marks, levels, limits)
+}
+
+// The one write on standard output: no other text than the program's may be handed to it.
+fn write(kind: u32, limits: &[u8], sent: &mut usize, text: &[u8]) -> bool
+    requires { ⌜ Written (tellingOf kind) (now limits) (now text) ⌝ }
+    requires { ⌜ now sent ≡ 0 ⌝ }
+    ensures { λ r. ⌜ Run (tellingOf kind) r (now (sent .exit)) ⌝ }
+{
+    channel::core::write(sent, text)
+}
+
+// All of a program: its files are read, its text is written, and it answers whether all of it was taken.
+pub fn run(kind: u32, sent: &mut usize) -> bool
+    requires { ⌜ now sent ≡ 0 ⌝ }
+    ensures { λ r. ⌜ Run (tellingOf kind) r (now (sent .exit)) ⌝ }
+{
+    let mut text = io::buffer();
+    let n = limits_text(&mut text);
+    let mut out = io::large_buffer();
+    let size = answer(kind, &text[..n], &mut out);
+    write(kind, &text[..n], sent, &out[..size])
 }

@@ -3,6 +3,7 @@ use mathlib.Core.Path.{refl}
 use Rattle.book_rules.specs.History.{emptyBook}
 use Rattle.report_rules.proofs.LimitsFits.{limits-fit}
 use Rattle.files.proofs.Texts.{limits-refused, limits-accepted}
+use Rattle.files.specs.Kinds.{tellingOf}
 use borrow.Author.Needs.{needs}
 use Rattle.files.proofs.core.answer.Statement.{statement}
 use Rattle.files.proofs.core.answer.Tie as tie
@@ -14,7 +15,7 @@ returns c =
     let test = cast .before .before .before .before in
     let read = test .before in
     let s = read .before .before .before in
-    limits-refused (s .args .text .now) (s .pre .0) (read .read-limits .ensures) (test .if1 .taken)
+    limits-refused (tellingOf (s .args .kind)) (s .args .text .now) (s .pre .0) (read .read-limits .ensures) (test .if1 .taken)
     (written .put-refused .ensures)
 
 report-requires : tie.Need-report-requires
@@ -35,7 +36,7 @@ returns-2 c =
     let test = levels .before .before .before .before in
     let read = test .before in
     let s = read .before .before .before in
-    limits-accepted (s .args .text .now) (s .pre .0) (read .read-limits .ensures) (test .if1 .left)
+    limits-accepted (tellingOf (s .args .kind)) (s .args .text .now) (s .pre .0) (read .read-limits .ensures) (test .if1 .left)
     (done .report .ensures)
 
 pub answer-spec : {M : Type 1} → statement M

@@ -1,6 +1,7 @@
 -- `files::core::answer_whole` meets its contract: a refusal's one line, or the report of the book. Assumes nothing.
 use Rattle.book_rules.specs.Columns.{Book, bookOf}
 use Rattle.files.proofs.Texts.{sized-refused, sized-report}
+use Rattle.files.specs.Kinds.{tellingOf}
 use borrow.Author.Needs.{needs}
 use Rattle.files.proofs.core.answer_whole.Statement.{statement}
 use Rattle.files.proofs.core.answer_whole.Tie as tie
@@ -17,7 +18,7 @@ returns c =
     let written = c .before .before in
     let test = written .before .before in
     let s = start (test .before) in
-    sized-refused (s .args .limits) (book s) (test .if1 .taken) (written .refuse .ensures)
+    sized-refused (tellingOf (s .args .kind)) (s .args .limits) (book s) (test .if1 .taken) (written .refuse .ensures)
 
 returns-2 : tie.Need-returns-2
 returns-2 c =
@@ -25,16 +26,16 @@ returns-2 c =
     let written = said .before .before .before .before in
     let test = written .before .before in
     let s = start (test .before) in
-    sized-report (s .args .limits) (book s) (s .args .read .line) (test .if1 .left)
-    (written .put-report .ensures .wrote)
+    sized-report (tellingOf (s .args .kind)) (s .args .limits) (book s) (s .args .read .line) (test .if1 .left)
+    (written .put-told .ensures .wrote)
 
 returns-3 : tie.Need-returns-3
 returns-3 c =
     let written = c .before .before .before .before in
     let test = written .before .before in
     let s = start (test .before) in
-    sized-report (s .args .limits) (book s) (s .args .read .line) (test .if1 .left)
-    (written .put-report .ensures .wrote)
+    sized-report (tellingOf (s .args .kind)) (s .args .limits) (book s) (s .args .read .line) (test .if1 .left)
+    (written .put-told .ensures .wrote)
 
 pub answer-whole-spec : {M : Type 1} → statement M
 answer-whole-spec =

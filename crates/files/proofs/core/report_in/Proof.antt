@@ -5,6 +5,7 @@ use mathlib.Core.Path.{_∙_, ap}
 use Rattle.book_rules.specs.Columns.{Book, bookOf}
 use Rattle.report_rules.proofs.Answers.{empty-sound}
 use Rattle.files.proofs.Texts.{sized-refused, answered-whole, answered-other}
+use Rattle.files.specs.Kinds.{tellingOf}
 use borrow.Author.Needs.{needs}
 use Rattle.files.proofs.core.report_in.Statement.{statement}
 use Rattle.files.proofs.core.report_in.Tie as tie
@@ -38,7 +39,7 @@ returns c =
     let test = arg .before .before .before in
     let read = reading (test .before) in
     let s = start (buffer read) in
-    answered-whole (s .args .limits) (read .read-register .ensures) (s .pre .0) (written .answer-whole .ensures)
+    answered-whole (tellingOf (s .args .kind)) (s .args .limits) (read .read-register .ensures) (s .pre .0) (written .answer-whole .ensures)
     (test .if1 .taken)
 
 returns-2 : tie.Need-returns-2
@@ -47,8 +48,8 @@ returns-2 c =
     let test = written .before .before .before in
     let read = reading (test .before) in
     let s = start (buffer read) in
-    answered-other (s .args .limits) (read .read-register .ensures) (s .pre .0)
-    (sized-refused (s .args .limits) _ (read .read-register .ensures .refused (test .if1 .left))
+    answered-other (tellingOf (s .args .kind)) (s .args .limits) (read .read-register .ensures) (s .pre .0)
+    (sized-refused (tellingOf (s .args .kind)) (s .args .limits) _ (read .read-register .ensures .refused (test .if1 .left))
     (written .refuse .ensures)) (test .if1 .left)
 
 pub report-in-spec : {M : Type 1} → statement M

@@ -1,15 +1,17 @@
--- `report::main` hands only the report's text to its one write. Assumes nothing.
+-- `files::core::run` hands only the program's text to its one write. Assumes nothing.
 use mathlib.Core.Path.{sym}
 use lib.Seq.{length-take-le}
 use borrow.Author.Needs.{needs}
-use Rattle.report.proofs.main.Statement.{statement}
-use Rattle.report.proofs.main.Tie as tie
+use Rattle.files.proofs.core.run.Statement.{statement}
+use Rattle.files.proofs.core.run.Tie as tie
 
 slice-aggregate-write-2 : tie.Need-slice-aggregate-write-2
-slice-aggregate-write-2 c = sym (length-take-le _ _ (c .before .before .before .answer .ensures .fits))
+slice-aggregate-write-2 c =
+    let answered : tie.After-answer = search in
+    sym (length-take-le _ _ (answered .answer .ensures .fits))
 
-pub main-spec : {M : Type 1} → statement M
-main-spec =
+pub run-spec : {M : Type 1} → statement M
+run-spec =
     tie.close
     (tie.spec
     (λ c κs. search needs)
