@@ -69,6 +69,10 @@ uint32_t okubinrafo_replay(OKUBINRAFO_BOOK, const uint32_t *journal, size_t jour
 /* answer: 39 numbers: total; 1 if a level is given, 0 if below zero; the level (0 if below zero); V of the 18 groups;
  * U of the 18 groups. */
 uint32_t okubinrafo_load(OKUBINRAFO_BOOK_READ, uint32_t point, uint32_t days, uint64_t *answer, size_t answer_len);
+/* How that load comes about, refused as it is. answer: 78 numbers: V, U, S and the scaled energy of each of the 18
+ * groups, four a group; upper and lower of the general factor (0 and 0 where no movement stands); P; total; 1 if a
+ * level is given, 0 if below zero; the level (0 if below zero). */
+uint32_t okubinrafo_account(OKUBINRAFO_BOOK_READ, uint32_t point, uint32_t days, uint64_t *answer, size_t answer_len);
 /* answer: 1 number: 1 over, 0 within. */
 uint32_t okubinrafo_verdict(OKUBINRAFO_BOOK_READ, uint32_t point, uint32_t days, uint32_t limit,
                             uint32_t *answer, size_t answer_len);

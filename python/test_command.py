@@ -8,7 +8,7 @@ import tempfile
 import unittest
 
 import okubinrafo
-from okubinrafo import Account, Book, Group, LibraryMissing, Refused
+from okubinrafo import Account, Book, Group, Refused
 from okubinrafo.reports import explained
 
 HERE = os.path.dirname(os.path.abspath(__file__))
@@ -150,17 +150,6 @@ class Reports(Case):
 
 
 class Explanations(Case):
-    def account_or_skip(self):
-        """Goes on where the library has okubinrafo_account; without it only while no header declares it."""
-        empty = Book(1, 1)
-        try:
-            empty.account(0, 1)
-        except LibraryMissing:
-            with open(os.path.join(TOP, "include", "okubinrafo.h"), encoding="utf-8") as header:
-                if "okubinrafo_account(" in header.read():
-                    raise
-            self.skipTest("neither the library nor its header has okubinrafo_account yet")
-
     def test_the_lines_of_an_account(self):
         groups = [Group(0, 0, 0, 0)] * 18
         groups[0], groups[17] = Group(2, 1, 2 * 10**10, 3 * 10**10), Group(0, 1, 0, 0)
@@ -174,7 +163,6 @@ class Explanations(Case):
         self.assertEqual(list(explained(8, nothing)), ["8,all,,,0,0,,0,0"])
 
     def test_the_documents_files(self):
-        self.account_or_skip()
         self.write("limits.csv", LIMITS)
         self.write("register.csv", HEADER + ROWS)
         answer = EXPLAIN + "".join(line + "\r\n" for line in EXPLAINED)
@@ -184,7 +172,6 @@ class Explanations(Case):
         self.runs(0, EXPLAIN + "1,all,,,0,0,,0,0\r\n", "explain", input=HEADER.encode())
 
     def test_an_account_is_the_loads(self):
-        self.account_or_skip()
         book = Book(2000, 4)
         book.read_register(os.path.join(TOP, "examples", "quarter", "register.csv"))
         for point in range(4):

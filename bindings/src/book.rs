@@ -1,4 +1,4 @@
-//! A book of movements: its calls, loads and verdicts.
+//! A book of movements: its calls, loads, their accounts, and verdicts.
 
 use crate::raw;
 use crate::refusal::{Answer, Refusal};
@@ -6,6 +6,7 @@ use crate::refusal::{Answer, Refusal};
 /// Type, kind and period give this many groups: number 6·type + 3·kind + period.
 pub const GROUPS: usize = 18;
 const LOAD_NUMBERS: usize = 3 + 2 * GROUPS;
+const ACCOUNT_NUMBERS: usize = 4 * GROUPS + 6;
 
 /// A book: four columns that the caller lends, all zero at first. Rows: 1 to 50,000, as many as identities, groups and
 /// marks; levels has `points` (1 to 8) numbers a row.
@@ -28,6 +29,32 @@ pub struct Load {
     pub computed: [u64; GROUPS],
     /// U of each group.
     pub missing: [u64; GROUPS],
+}
+
+/// A group in an account.
+#[derive(Clone, Copy, Debug, Default, PartialEq, Eq)]
+pub struct Group {
+    /// V.
+    pub computed: u64,
+    /// U.
+    pub missing: u64,
+    /// S.
+    pub energy: u64,
+    /// S·(V+U)/V rounded down, 0 where V is 0.
+    pub scaled: u64,
+}
+
+/// How a load comes about.
+#[derive(Clone, Debug, PartialEq, Eq)]
+pub struct Account {
+    pub groups: [Group; GROUPS],
+    /// The general factor, V+U+W over V+U; None where no movement stands.
+    pub factor: Option<(u64, u64)>,
+    /// P, the sum of the scaled energies.
+    pub energy: u64,
+    pub total: u64,
+    /// None: below zero.
+    pub level: Option<u64>,
 }
 
 /// Calls a function of the header with a book, to write to or to read, numbers, slices to read and slices to write to.
@@ -79,6 +106,20 @@ impl Book<'_> {
         let groups = |part: &[u64]| part.try_into().expect("a number a group");
         let level = (given == 1).then_some(level);
         Ok(Load { total, level, computed: groups(computed), missing: groups(missing) })
+    }
+
+    /// How the load at a point over a number of days comes about.
+    pub fn account(&self, point: u32, days: u32) -> Answer<Account> {
+        let mut answer = [0; ACCOUNT_NUMBERS];
+        with_book!(okubinrafo_account, as_ptr, self, [point, days], [], [answer])?;
+        let (fours, whole) = answer.split_at(4 * GROUPS);
+        let mut groups = [Group::default(); GROUPS];
+        for (group, four) in groups.iter_mut().zip(fours.chunks_exact(4)) {
+            *group = Group { computed: four[0], missing: four[1], energy: four[2], scaled: four[3] };
+        }
+        let factor = (whole[1] > 0).then_some((whole[0], whole[1]));
+        let level = (whole[4] == 1).then_some(whole[5]);
+        Ok(Account { groups, factor, energy: whole[2], total: whole[3], level })
     }
 
     /// Whether the level at a point is over a limit.

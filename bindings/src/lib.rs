@@ -10,7 +10,7 @@ mod raw;
 mod refusal;
 mod row;
 
-pub use book::{Book, Load, GROUPS};
+pub use book::{Account, Book, Group, Load, GROUPS};
 pub use network::{read_network, Along, Frame, Network, Sizes};
 pub use refusal::{Answer, Refusal};
 pub use row::{read_row, write_row, Row, ROW_BYTES};

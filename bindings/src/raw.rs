@@ -45,6 +45,11 @@ exported! {
         marks_len: usize, levels: Numbers, levels_len: usize, points: u32, point: u32, days: u32,
         answer: *mut u64, answer_len: usize,
     );
+    fn okubinrafo_account(
+        identities: Numbers, identities_len: usize, groups: Numbers, groups_len: usize, marks: Numbers,
+        marks_len: usize, levels: Numbers, levels_len: usize, points: u32, point: u32, days: u32,
+        answer: *mut u64, answer_len: usize,
+    );
     fn okubinrafo_verdict(
         identities: Numbers, identities_len: usize, groups: Numbers, groups_len: usize, marks: Numbers,
         marks_len: usize, levels: Numbers, levels_len: usize, points: u32, point: u32, days: u32, limit: u32,

@@ -1,6 +1,7 @@
 //! The rules' own numbers through the library: examples/document gives the level 56.66, which is over 56.65.
 
-use okubinrafo::{read_network, read_row, write_row, Along, Book, Frame, Network, Refusal, Row, Sizes, ROW_BYTES};
+use okubinrafo::{read_network, read_row, write_row, Account, Along, Book, Frame, Group, Network, Refusal, Row, Sizes};
+use okubinrafo::{GROUPS, ROW_BYTES};
 
 const ROWS: usize = 10;
 const POINTS: usize = 1;
@@ -49,6 +50,19 @@ fn the_documents_register() {
 }
 
 #[test]
+fn how_the_documents_load_comes_about() {
+    let mut columns = Columns::default();
+    let mut book = columns.book();
+    let mut groups = [Group::default(); GROUPS];
+    assert_eq!(book.account(0, 1), Ok(Account { groups, factor: None, energy: 0, total: 0, level: None }));
+    fill(&mut book, include_str!("../../examples/document/register.csv")).expect("every row is accepted");
+    groups[0] = Group { computed: 2, missing: 1, energy: 20_000_000_000, scaled: 30_000_000_000 };
+    groups[17].missing = 1;
+    let (energy, total) = (30_000_000_000, 40_000_000_000);
+    assert_eq!(book.account(0, 1), Ok(Account { groups, factor: Some((4, 3)), energy, total, level: Some(5666) }));
+}
+
+#[test]
 fn a_refused_call_changes_nothing() {
     let mut columns = Columns::default();
     fill(&mut columns.book(), include_str!("../../examples/document/register.csv")).expect("every row is accepted");
@@ -61,6 +75,8 @@ fn a_refused_call_changes_nothing() {
     assert_eq!(book.withdraw(9), Err(Refusal::DOES_NOT_STAND));
     assert_eq!(book.load(1, 1), Err(Refusal::NOT_SOUND));
     assert_eq!(book.load(0, 367), Err(Refusal::WRONG_DAYS));
+    assert_eq!(book.account(1, 0), Err(Refusal::NOT_SOUND));
+    assert_eq!(book.account(0, 0), Err(Refusal::WRONG_DAYS));
     assert_eq!(book.verdict(0, 1, 12_001), Err(Refusal::WRONG_LEVEL_ASKED));
     assert_eq!(book.replay(&[1, 5], &mut []), Err(Refusal::REGISTER_OFF_LAYOUT));
     assert_eq!(book.replay(&[4, 1], &mut []), Err(Refusal::TOO_LITTLE_ROOM));
@@ -73,6 +89,7 @@ fn calls_one_by_one_and_in_a_journal() {
     let mut book = columns.book();
     assert_eq!(book.enter(9, 2, 1, 82_800, 3_000), Ok(()));
     assert_eq!(book.load(0, 1), Err(Refusal::NONE_COMPUTED));
+    assert_eq!(book.account(0, 1), Err(Refusal::NONE_COMPUTED));
     assert_eq!(book.supply(9, &[5000]), Ok(()));
     assert_eq!(book.take_back(9), Ok(()));
     again.book().replay(&[1, 9, 2, 1, 82_800, 3_000, 2, 9, 1, 5000, 3, 9, 4, 8], &mut answers).expect("a journal");

@@ -1,6 +1,7 @@
 //! The functions of include/okubinrafo.h over slices: each answers 0 or its refusal's number, judges the room (14)
 //! last, and writes only where it is accepted.
 
+use crate::account::{self, Group};
 use crate::book::{read_journal, Book, Columns};
 use crate::contour;
 use crate::grid;
@@ -18,6 +19,8 @@ pub type ReadBook<'a> = Columns<&'a [u32]>;
 
 /// How many numbers a load answers with: total, whether a level is given, the level, V and U of 18 groups.
 pub const LOAD_NUMBERS: usize = 39;
+/// How many numbers an account has: four a group and six of the whole.
+pub const ACCOUNT_NUMBERS: usize = 78;
 const ROW_FIELDS: usize = 6;
 const HEADER_NUMBERS: usize = 5;
 
@@ -81,6 +84,19 @@ pub fn load(columns: ReadBook, point: u32, days: u32, answer: &mut [u64]) -> u32
         room(answer.len() >= LOAD_NUMBERS)?;
         let level = found.level.map_or([0, 0], |level| [1, u64::from(level)]);
         put(answer, &[&[found.total], &level[..], &found.computed, &found.missing].concat());
+        Ok(())
+    }))
+}
+
+pub fn account(columns: ReadBook, point: u32, days: u32, answer: &mut [u64]) -> u32 {
+    number(columns.read().and_then(|book| {
+        let found = account::account(&book, point, days)?;
+        room(answer.len() >= ACCOUNT_NUMBERS)?;
+        let four = |Group { computed, missing, energy, scaled }| [computed, missing, energy, scaled];
+        let groups = found.groups.map(four);
+        let level = found.level.map_or([0, 0], |level| [1, u64::from(level)]);
+        let whole = [found.upper, found.lower, found.energy, found.total];
+        put(answer, &[groups.as_flattened(), &whole, &level].concat());
         Ok(())
     }))
 }

@@ -1,6 +1,7 @@
 //! The rules in plain Rust, written from docs/RULES.md and from nothing else, to test the proved library against.
 //! Each module is one noun of the rules; `calls` has the functions of include/okubinrafo.h over slices.
 
+pub mod account;
 pub mod big;
 pub mod book;
 pub mod calls;

@@ -1,8 +1,8 @@
 -- Laws of an account: from the sums that the code makes, from the array of arrays, and four numbers in lent room.
 -- Assumes nothing.
-use mathlib.Core.Path.{_≡_, refl, ap, _∙_}
+use mathlib.Core.Path.{_≡_, refl}
 use mathlib.Core.Bool.{true}
-use mathlib.Core.List.{List, [], _∷_, _++_}
+use mathlib.Core.List.{List, [], _∷_}
 use Prim.Native.Nat.{ℕ, suc, _+_, _*_, _≤_, _<_}
 use native.Mathlib.Numerals.{add-one}
 use native.Mathlib.Omega.{arith}
@@ -13,9 +13,9 @@ use Rattle.room.specs.Room.{front, put, Writes}
 use Rattle.room.proofs.Fronts.{front-grows}
 use Rattle.load_rules.specs.declared.Group.{Group}
 use Rattle.load_rules.specs.Shares.{Share}
-use Rattle.load_rules.specs.Tally.{tally, listFrom}
+use Rattle.load_rules.specs.Tally.{tally}
 use Rattle.load_rules.specs.Factors.{ratio, sumTo, knownSum, unknownSum, generalFactor}
-use Rattle.load_rules.specs.Load.{countsOf, scaledSum, totalOf, answer, daysFit, loadOf}
+use Rattle.load_rules.specs.Load.{scaledSum, totalOf, answer, daysFit, loadOf}
 use Rattle.load_rules.specs.Account.{groupNumbers, groupsTo, wholeNumbers, accountFrom}
 use Rattle.load_rules.proofs.TallyLaws.{AllGrouped}
 use Rattle.load_rules.proofs.Accounts.{length-groups}

@@ -23,7 +23,7 @@ ghost use lib.Dec.{ltb};
 ghost use Rattle.book_rules.specs.Columns.{bookNow, bookBefore, sound};
 ghost use Rattle.load_rules.specs.Shares.{bookShares};
 ghost use Rattle.load_rules.specs.Load.{refusedLoad, daysFit, loadOf, bookLoad};
-ghost use Rattle.load_rules.specs.Verdict.{limitFits, Judging};
+ghost use Rattle.load_rules.specs.Verdict.{Judging};
 ghost use Rattle.load.specs.InnerSteps.{groupAt, Bounded, loadFrom, judgedBy};
 
 // The load at a point of a book, over a number of days.

@@ -1,4 +1,4 @@
-// The load and the verdict at a point of a book.
+// The load, its account and the verdict at a point of a book.
 use level::Level;
 use load_rules::Counts;
 use load_rules::Judged;
@@ -10,6 +10,7 @@ ghost use lib.ListN.{length, getD};
 ghost use Rattle.book_rules.specs.Columns.{bookBefore};
 ghost use Rattle.load_rules.specs.Load.{bookLoad};
 ghost use Rattle.load_rules.specs.Verdict.{refusalNumber, bookVerdict};
+ghost use Rattle.load_rules.specs.Account.{accountOf};
 ghost use Rattle.room.specs.Room.{front, Writes};
 ghost use Rattle.okubinrafo.specs.Loads.{loadSize, numbersFrom, loadNumbers, verdictNumbers};
 
@@ -90,6 +91,34 @@ pub extern "C" fn okubinrafo_load(
     let counts = load.counts;
     put_numbers(load.total, level, counts, answer);
     0
+}
+
+// How the load at a point comes about, as its numbers.
+#[no_mangle]
+pub extern "C" fn okubinrafo_account(
+    identities: &[u32],
+    groups: &[u32],
+    marks: &[u32],
+    levels: &[u32],
+    points: u32,
+    point: u32,
+    days: u32,
+    answer: &mut [u64],
+) -> u32
+    ensures { λ r. ⌜ Writes (bookLoad points point (bookBefore identities groups marks levels) days .refused)
+        (accountOf points point (bookBefore identities groups marks levels) days)
+        (now (answer .entry)) r (now (answer .exit)) ⌝ }
+{
+    load::account::account_at(
+        identities,
+        groups,
+        marks,
+        levels,
+        points as usize,
+        point as usize,
+        days,
+        answer,
+    )
 }
 
 // Writes one number, or refuses.

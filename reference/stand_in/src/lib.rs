@@ -61,6 +61,8 @@ macro_rules! read_book_call {
 
 read_book_call!(okubinrafo_load(point: u32, days: u32, answer: *mut u64, answer_len: usize)
     |book| calls::load(book, point, days, from_raw_parts_mut(answer, answer_len)));
+read_book_call!(okubinrafo_account(point: u32, days: u32, answer: *mut u64, answer_len: usize)
+    |book| calls::account(book, point, days, from_raw_parts_mut(answer, answer_len)));
 read_book_call!(okubinrafo_verdict(point: u32, days: u32, limit: u32, answer: *mut u32, answer_len: usize)
     |book| calls::verdict(book, point, days, limit, from_raw_parts_mut(answer, answer_len)));
 

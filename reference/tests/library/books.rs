@@ -1,19 +1,21 @@
 //! Random calls on random books, sound and unsound.
 
-use crate::compared::{change, compared_rounds, load, verdict, Book, Change};
+use crate::compared::{account, change, compared_rounds, load, verdict, Book, Change};
 use crate::drawn_books::{a_book, a_change, identity, levels, mass, spell, spoil, time};
 use crate::library::Library;
 use crate::random::Random;
 use crate::rounds::Telling;
 use reference::book::Columns;
-use reference::calls::LOAD_NUMBERS;
+use reference::calls::{ACCOUNT_NUMBERS, LOAD_NUMBERS};
 
-/// A load and a verdict, the limit about the level where there is one.
+/// A load, its account and a verdict, the limit about the level where there is one.
 fn ask(library: &Library, random: &mut Random, book: &Book) {
     let point = random.about(book.points.clamp(1, 8) - 1);
     let days = random.about(366);
-    let room = if random.once_in(4) { random.pick(&[0, LOAD_NUMBERS - 1, LOAD_NUMBERS + 2]) } else { LOAD_NUMBERS };
-    let (answer, numbers) = load(library, book, point, days, &vec![3; room]);
+    let more = if random.once_in(4) { random.pick(&[-100, -1, 2]) } else { 0 };
+    let room = |numbers: usize| numbers.saturating_add_signed(more);
+    let (answer, numbers) = load(library, book, point, days, &vec![3; room(LOAD_NUMBERS)]);
+    account(library, book, point, days, &vec![4; room(ACCOUNT_NUMBERS)]);
     let level = if answer == 0 { numbers[2] as u32 } else { 5_000 };
     let limit = random.pick(&[level, level, level.saturating_sub(1), level + 1, 0, 12_000, 12_001, u32::MAX]);
     verdict(library, book, point, days, limit, &vec![9; random.pick(&[0, 1, 1, 1, 1, 2])]);
@@ -28,6 +30,7 @@ fn sequences_of_calls() {
         ("withdraw", 1, &["0", "3", "5"]),
         ("replay", 1, &["0", "14", "16"]),
         ("load", 1, &["0", "9", "10", "11", "14"]),
+        ("account", 1, &["0", "9", "10", "11", "14"]),
         ("verdict", 1, &["0", "9", "10", "11", "14", "15"]),
     ];
     compared_rounds("sequences_of_calls", 4_000, TELLING, |library, random| {
@@ -50,6 +53,7 @@ fn unsound_books() {
         ("withdraw", 1, &["0", "9"]),
         ("replay", 1, &["0", "9", "14", "16"]),
         ("load", 1, &["0", "9"]),
+        ("account", 1, &["0", "9"]),
         ("verdict", 1, &["0", "9"]),
     ];
     compared_rounds("unsound_books", 20_000, TELLING, |library, random| {
@@ -67,6 +71,7 @@ fn unsound_books() {
 fn loads_of_all_sizes() {
     const TELLING: Telling = &[
         ("load", 50, &["0", "9", "10", "11", "14", "below zero", "under 30.00"]),
+        ("account", 50, &["0", "9", "10", "11", "14"]),
         ("verdict", 50, &["0", "9", "10", "11", "14", "15"]),
     ];
     compared_rounds("loads_of_all_sizes", 3_000, TELLING, |library, random| {
@@ -123,7 +128,7 @@ fn large_books() {
 /// The largest energies and counts that a book can hold: every product on the way must still fit.
 #[test]
 fn fullest_books() {
-    const TELLING: Telling = &[("load", 1, &["0"]), ("verdict", 1, &["0"])];
+    const TELLING: Telling = &[("load", 1, &["0"]), ("account", 1, &["0"]), ("verdict", 1, &["0"])];
     compared_rounds("fullest_books", 12, TELLING, |library, random| {
         let rows = 50_000;
         let computed = random.pick(&[1, 2, 25_000, 49_999, 50_000]);
@@ -137,6 +142,7 @@ fn fullest_books() {
         }
         for days in [1, random.within(2, 366)] {
             let (_, numbers) = load(library, &book, 0, days, &[0; LOAD_NUMBERS]);
+            account(library, &book, 0, days, &[0; ACCOUNT_NUMBERS]);
             verdict(library, &book, 0, days, (numbers[2] as u32).min(12_000), &[5]);
         }
     });

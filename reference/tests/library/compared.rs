@@ -17,7 +17,7 @@ use crate::library::Library;
 use crate::random::Random;
 use crate::rounds::{rounds, Telling};
 
-pub use books::{change, load, verdict, Book, Change};
+pub use books::{account, change, load, verdict, Book, Change};
 pub use networks::{ask, contours, Asked, Rooms};
 pub use texts::{read_network, read_row, write, Written};
 

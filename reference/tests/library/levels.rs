@@ -1,10 +1,10 @@
 //! From energy to level, on both edges of every level under 30.00 and of many above it.
 
-use crate::compared::{load, verdict, Book};
+use crate::compared::{account, load, verdict, Book};
 use crate::library::Library;
 use crate::rounds::{directed, Telling};
 use reference::book::Columns;
-use reference::calls::LOAD_NUMBERS;
+use reference::calls::{ACCOUNT_NUMBERS, LOAD_NUMBERS};
 use reference::level::table_b;
 
 const DAY: u32 = 0;
@@ -107,5 +107,20 @@ fn movements_of_groups_without_levels() {
         book.identities[3] = 0;
         book.groups[3] = 0;
         assert_eq!(loaded(&library, &book, 1), (30_000_000_000, Some(5_541)));
+    });
+}
+
+/// The account of the rules' file: group 0 has V 2 and U 1, group 17 U 1, and room past the numbers is kept.
+#[test]
+fn account_of_the_rules_file() {
+    directed("account_of_the_rules_file", &[("account", 1, &["0"])], || {
+        let library = Library::from_environment();
+        let mut book = a_book(&[(DAY, 10_000), (DAY, 10_000), (DAY, 0), (17, 0)]);
+        book.marks[2..].fill(0);
+        let mut expected = [0; ACCOUNT_NUMBERS + 1];
+        expected[..4].copy_from_slice(&[2, 1, 20_000_000_000, 30_000_000_000]);
+        expected[4 * 17 + 1] = 1;
+        expected[72..].copy_from_slice(&[4, 3, 30_000_000_000, 40_000_000_000, 1, 5_666, 9]);
+        assert_eq!(account(&library, &book, 0, 1, &[9; ACCOUNT_NUMBERS + 1]), (0, expected.to_vec()));
     });
 }

@@ -43,6 +43,7 @@ exported! {
     withdraw(Room, usize, Room, usize, Room, usize, Room, usize, u32, u32);
     replay(Room, usize, Room, usize, Room, usize, Room, usize, u32, Numbers, usize, Room, usize);
     load(Numbers, usize, Numbers, usize, Numbers, usize, Numbers, usize, u32, u32, u32, *mut u64, usize);
+    account(Numbers, usize, Numbers, usize, Numbers, usize, Numbers, usize, u32, u32, u32, *mut u64, usize);
     verdict(Numbers, usize, Numbers, usize, Numbers, usize, Numbers, usize, u32, u32, u32, u32, Room, usize);
     contours(Numbers, usize, u32, u32, u32, u32, u32, u32, Room, usize, Room, usize, Room, usize, Room, usize);
     print_contours(Numbers, usize, u32, u32, u32, u32, u32, u32, Text, usize, Room, usize);

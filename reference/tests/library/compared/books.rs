@@ -132,6 +132,18 @@ pub fn load(library: &Library, book: &Book, point: u32, days: u32, answer: &[u64
     (reference, own)
 }
 
+/// Asks both how the load comes about; answers with the call's number and the numbers of the answer.
+pub fn account(library: &Library, book: &Book, point: u32, days: u32, answer: &[u64]) -> (u32, Vec<u64>) {
+    let (mut lent, mut room, mut own) = (LentBook::new(book), Lent::new(answer), answer.to_vec());
+    let reference = calls::account(columns(book), point, days, &mut own);
+    let library = with_book!(library.account, lent, point, days, room.pointer(), room.len());
+    let inputs = || format!("point {point}, days {days}, room {}, {book:?}", answer.len());
+    let made = Made { call: "account", library, reference, inputs: &inputs };
+    made.answers_agree().left("answer", answer, &own, &room);
+    lent.compare(&made, book, book);
+    (reference, own)
+}
+
 /// Asks both for the verdict; answers with the call's number.
 pub fn verdict(library: &Library, book: &Book, point: u32, days: u32, limit: u32, answer: &[u32]) -> u32 {
     let (mut lent, mut room, mut own) = (LentBook::new(book), Lent::new(answer), answer.to_vec());

@@ -1,10 +1,10 @@
 //! Movements, books and loads.
 
-use crate::compared::{change, load, verdict, write, Book, Change, Written};
+use crate::compared::{account, change, load, verdict, write, Book, Change, Written};
 use crate::library::Library;
 use crate::rounds::{directed, Telling};
 use reference::book::Columns;
-use reference::calls::LOAD_NUMBERS;
+use reference::calls::{ACCOUNT_NUMBERS, LOAD_NUMBERS};
 
 /// A book in which identity 1 is computed and 2 isn't; as many of both as there is room for.
 fn a_book(rows: usize, points: u32) -> Book {
@@ -146,6 +146,7 @@ fn every_call(library: &Library, book: &Book, refused: bool, what: &str) {
         assert_eq!(change(library, &mut book.clone(), &made), expected, "{made:?}, {what}");
     }
     assert_eq!(load(library, book, 0, 1, &[0; LOAD_NUMBERS]).0, expected, "load, {what}");
+    assert_eq!(account(library, book, 0, 1, &[0; ACCOUNT_NUMBERS]).0, expected, "account, {what}");
     assert_eq!(verdict(library, book, 0, 1, 5_000, &[0]), expected, "verdict, {what}");
 }
 
@@ -160,6 +161,7 @@ fn ranges_of_a_books_size() {
         ("withdraw", 3, CALLS),
         ("replay", 3, CALLS),
         ("load", 3, CALLS),
+        ("account", 3, CALLS),
         ("verdict", 3, CALLS),
     ];
     directed("ranges_of_a_books_size", TELLING, || {
@@ -220,8 +222,11 @@ fn ranges_of_a_books_values() {
 
 #[test]
 fn ranges_of_a_load() {
-    const TELLING: Telling =
-        &[("load", 2, &["0", "9", "10", "11", "14"]), ("verdict", 2, &["0", "9", "10", "11", "14", "15"])];
+    const TELLING: Telling = &[
+        ("load", 2, &["0", "9", "10", "11", "14"]),
+        ("account", 2, &["0", "9", "10", "11", "14"]),
+        ("verdict", 2, &["0", "9", "10", "11", "14", "15"]),
+    ];
     directed("ranges_of_a_load", TELLING, || {
         let library = Library::from_environment();
         for points in [1, 2, 8] {
@@ -242,11 +247,14 @@ fn ranges_of_a_load() {
                 // Where nothing earlier is wrong, 10 is found, and room last.
                 let none = |answer: u32| if answer == 0 { 10 } else { answer };
                 assert_eq!(load(&library, &missing, point, days, &[]).0, none(loaded), "{what}, none computed");
+                assert_eq!(account(&library, &missing, point, days, &[]).0, none(loaded), "{what}, none computed");
                 assert_eq!(verdict(&library, &missing, point, days, limit, &[]), none(judged), "{what}, none computed");
                 assert_eq!(load(&library, &book, point, days, &[0; LOAD_NUMBERS]).0, loaded, "{what}");
+                assert_eq!(account(&library, &book, point, days, &[0; ACCOUNT_NUMBERS]).0, loaded, "{what}");
                 assert_eq!(verdict(&library, &book, point, days, limit, &[7]), judged, "{what}");
             }
             assert_eq!(load(&library, &book, 0, 1, &[0; LOAD_NUMBERS - 1]).0, 14);
+            assert_eq!(account(&library, &book, 0, 1, &[0; ACCOUNT_NUMBERS - 1]).0, 14);
             assert_eq!(verdict(&library, &book, 0, 1, 0, &[]), 14);
         }
     });

@@ -1,16 +1,15 @@
 -- `load::account::account_at` meets its contract: 9, 11, and then the account of the rows.
 -- Assumes nothing.
 use mathlib.Core.Path.{_≡_, refl}
-use mathlib.Core.Bool.{true, _&&_}
+use mathlib.Core.Bool.{true}
 use Prim.Native.Nat.{_<_}
 use native.Mathlib.Omega.{arith}
 use lib.ListN.{length}
-use lib.Dec.{ltb}
 use Rattle.refusal.proofs.Laws.{passed, failed}
 use Rattle.room.proofs.Answers.{refuse}
 use Rattle.book_rules.specs.Columns.{Book, bookNow, sound}
 use Rattle.load_rules.specs.Shares.{bookShares}
-use Rattle.load_rules.specs.Load.{daysFit, loadRefusal, refusedLoad, loadOf, bookLoad}
+use Rattle.load_rules.specs.Load.{loadRefusal, refusedLoad, loadOf, bookLoad}
 use Rattle.load_rules.specs.Account.{accountOf}
 use Rattle.load.proofs.RowLaws.{rows-bounded, rows-grouped}
 use Rattle.load.proofs.SumsLaws.{fits-there}

@@ -35,10 +35,12 @@ none c =
     (c .none-computed .ensures)
 
 -- past the first test it is not refused
-fine : (c : tie.Else1)
-    → loadFrom (groupAt (start (c .before .before) .args .groups)) (start (c .before .before) .args .days) .refused ≡ 0
+abbrev entry : tie.Else1 → tie.Start
+entry c = search
+
+fine : (c : tie.Else1) → loadFrom (groupAt (entry c .args .groups)) (entry c .args .days) .refused ≡ 0
 fine c =
-    let s = start (c .before .before) in
+    let s = entry c in
     from-fine (groupAt (s .args .groups)) (s .args .days) (sym (none (c .before)) ∙ c .if1 .left)
 
 returns : tie.Need-returns
@@ -52,7 +54,7 @@ returns c =
 returns-2 : tie.Need-returns-2
 returns-2 c =
     let left : tie.Else1 = search in
-    let s = start (left .before .before) in
+    let s = entry left in
     lack (fine left) (omega (arith, length-account (groupAt (s .args .groups)) (s .args .days), c .if2 .taken))
 
 totals-of-requires : tie.Need-totals-of-requires

@@ -1,13 +1,13 @@
 -- `load::account::put_groups` meets its contract. The invariant: the numbers of the groups passed stand at the front.
 -- Assumes nothing.
 use mathlib.Core.Path.{_≡_, refl, ap, _∙_}
-use Prim.Native.Nat.{_-_, _*_, _≤_}
+use Prim.Native.Nat.{_-_, _≤_}
 use native.Mathlib.Omega.{arith}
 use lib.ListN.{length}
 use borrow.Author.Needs.{needs}
 use Rattle.movement.specs.Limits.{groupCount}
-use Rattle.room.specs.Room.{front, put}
-use Rattle.load_rules.specs.Account.{groupNumbers, groupsTo}
+use Rattle.room.specs.Room.{front}
+use Rattle.load_rules.specs.Account.{groupsTo}
 use Rattle.load.specs.InnerSteps.{groupAt}
 use Rattle.load.proofs.AccountLaws.{group-scalable, groups-more}
 use Rattle.load.proofs.account.put_groups.Statement.{statement}
@@ -15,7 +15,8 @@ use Rattle.load.proofs.account.put_groups.Tie as tie
 
 abbrev Inv-loop : tie.InvT-loop
 Inv-loop groups answer₀ g₀ answer g =
-    (g ≤ groupCount) × (length answer ≡ length answer₀) × (answer ≡ front (groupsTo (groupAt groups) g) answer₀)
+    (g ≤ groupCount) × (length answer ≡ length answer₀)
+    × (answer ≡ front (groupsTo (groupAt groups) g) answer₀)
 
 abbrev μ-loop : tie.MeasureT-loop
 μ-loop groups answer₀ g₀ answer g = groupCount - g

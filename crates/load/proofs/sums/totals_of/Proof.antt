@@ -1,6 +1,6 @@
 -- `load::sums::totals_of` meets its contract: the total and its mean fit.
 -- Assumes nothing.
-use mathlib.Core.Path.{_≡_, refl, ap, _∙_}
+use mathlib.Core.Path.{refl}
 use Prim.Native.Nat.{_+_, _≤_}
 use native.Mathlib.Omega.{arith}
 use Rattle.level.specs.Limits.{maxTotal}
