@@ -2,43 +2,41 @@
 -- stand. Assumes nothing.
 use mathlib.Core.Path.{_≡_, refl, sym, ap, subst, fun-ext, _∙_}
 use mathlib.Core.Bool.{Bool, true, cond}
-use mathlib.Core.List.{List, [], _∷_, _++_}
-use Prim.Native.Nat.{ℕ, zero, suc, _+_, _*_, _/_, _%_, _≤_, _<_}
+use mathlib.Core.List.{List, [], _∷_}
+use Prim.Native.Nat.{ℕ, zero, suc, _+_, _*_, _/_, _%_, _<_}
 use native.Mathlib.Omega.{arith}
 use lib.ListN.{length, getD}
 use lib.Dec.{ltb}
 use borrow.Author.Tests.{eq-eqb, ne-eqb, lt-ltb}
-use Rattle.movement.specs.Limits.{groupCount}
 use Rattle.movement.specs.Period.{periodNumbered}
 use Rattle.movement.specs.Group.{groupPeriod}
 use Rattle.book_rules.specs.Columns.{Book}
 use Rattle.book_rules.specs.History.{Movement, Made, emptyBook, booked, movements}
 use Rattle.load_rules.specs.declared.Group.{Group}
-use Rattle.load_rules.specs.Shares.{Share, bookShares, sharesOf}
+use Rattle.load_rules.specs.Shares.{Share, sharesOf}
 use Rattle.load_rules.specs.Tally.{tally}
-use Rattle.load_rules.specs.Factors.{sumTo, generalFactor}
-use Rattle.load_rules.specs.Load.{countsOf, scaledEnergy, scaledSum, totalOf, answer, bookLoad}
+use Rattle.load_rules.specs.Factors.{sumTo}
+use Rattle.load_rules.specs.Load.{answer}
 use Rattle.load_rules.specs.Afresh.{computedIn, missingIn, energyOfGroup, loadAfter}
-use Rattle.load_rules.specs.Account.{groupsOf, accountOf, accountAfter, AccountsEach}
+use Rattle.load_rules.specs.Account.{groupsOf, accountOf, accountAfter}
 use Rattle.load_rules.proofs.SumLaws.{sum-ext}
 use Rattle.load_rules.proofs.ListLaws.{list-computed, list-missing, list-energy}
 use Rattle.load_rules.proofs.HistoryLaws.{history-shares}
-use Rattle.load_rules.proofs.CountedOnce.{counted-once}
 use Rattle.load_rules.proofs.Accounts.{account-group, account-whole, accounts-each}
 use Rattle.text.specs.Line.{linesOf}
-use Rattle.text.specs.Field.{countOf, fieldOf}
+use Rattle.text.specs.Field.{fieldOf}
 use Rattle.text.specs.Index.{many}
 use Rattle.text.specs.Number.{showNumber}
-use Rattle.text.specs.Spelled.{bytes}
 use Rattle.text.proofs.Fields.{Free}
 use Rattle.register.specs.declared.limits_csv.LimitsFile.{LimitsFile}
 use Rattle.register.specs.Letter.{typeLetters, kindLetters, showLetter}
-use Rattle.report_text.specs.Text.{ended, line, refusedText, bookRefusal, bookText}
+use Rattle.report_text.specs.Text.{ended, line, bookRefusal, bookText}
 use Rattle.report_rules.proofs.Printed.{atLeast, least-free, lines-ended}
 use Rattle.report_rules.proofs.WholeText.{last-ended}
 use Rattle.explain_text.specs.declared.amounts.Amounts.{Amounts}
 use Rattle.explain_text.specs.Text.{groupAmounts, allAmounts, periodText, factorText, groupFields, allFields, stands}
 use Rattle.explain_text.specs.Text.{linesAt, linesTo, headerLine, pointsText, explainText}
+use Rattle.explain_text.proofs.Told.{point-answered}
 use Rattle.explain_rules.specs.Says.{hasMovement, linesEach, placeOf, NineFields, FactorSays, NamesSay}
 use Rattle.explain_rules.specs.Says.{GroupSays, AllSay, PointSays, textAfter, ExplainSays, ExplainText}
 use Rattle.explain_rules.proofs.Fields.{group-commas, group-field, all-commas, all-field}
@@ -103,10 +101,7 @@ module _ (l : LimitsFile) (n : ℕ) (cs : List Made)
   -- each point is answered, since the first one is
   answered : (pt : ℕ) → pt < p → loadAfter p n pt cs (l .days) .refused ≡ 0
   unfolding bookRefusal
-  answered pt h =
-      let k = counted-once p 0 n cs (l .days) .refusals .answered .0 reported in
-      counted-once p pt n cs (l .days) .refusals .answered .1
-      (record { points = k .0 .points; rows = k .0 .rows; there = h }, k .1)
+  answered pt h = point-answered p pt b (l .days) reported h
 
   -- V, U and S of a group
   group-is : (pt g : ℕ) → pt < p → groupsOf p pt b g ≡ tally (sharesOf pt ms) g

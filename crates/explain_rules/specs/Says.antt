@@ -7,10 +7,8 @@ use mathlib.Core.List.{List, [], _∷_, _++_}
 use lib.ListN.{length, getD}
 use lib.Dec.{ltb}
 use Rattle.level.specs.Neighbours.{Quotient}
-use Rattle.book_rules.specs.Columns.{Book}
 use Rattle.book_rules.specs.History.{Movement, Made, emptyBook, booked, movements}
 use Rattle.load_rules.specs.Factors.{sumTo}
-use Rattle.load_rules.specs.Load.{bookLoad}
 use Rattle.load_rules.specs.Afresh.{computedIn, missingIn, energyOfGroup, loadAfter}
 use Rattle.text.specs.Line.{linesOf}
 use Rattle.text.specs.Field.{countOf, fieldOf}
@@ -83,7 +81,7 @@ pub record AllSay (pt v u upper lower p total : ℕ) (line : List ℕ) : Type 0 
   pub energy : fieldOf 44 7 line ≡ showNumber p
   pub counted : fieldOf 44 8 line ≡ showNumber total
 
--- the lines of point pt, where V, U and S of each group are these
+-- the lines of point pt, where these movements stand and the load has this total
 pub record PointSays (pt : ℕ) (ms : List Movement) (total : ℕ) (lines : List (List ℕ)) : Type 0 where
   -- a group with V > 0 gives S·(V+U)/V rounded down, any other nothing
   pub gives : ℕ → ℕ
