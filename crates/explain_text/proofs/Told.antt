@@ -1,19 +1,17 @@
 -- The numbers of an account are those of the text: V, U, S and what each group gives, both factors, P and the total.
 -- Assumes nothing.
-use mathlib.Core.Path.{_≡_, refl, sym, ap, _∙_}
-use mathlib.Core.Bool.{true}
-use mathlib.Core.List.{List, [], _++_, append-nil}
-use Prim.Native.Nat.{ℕ, zero, suc, _+_, _^_, _≤_, _<_}
+use mathlib.Core.Path.{_≡_, refl, ap, _∙_}
+use mathlib.Core.List.{List, [], append-nil}
+use Prim.Native.Nat.{ℕ, zero, suc, _+_, _≤_, _<_}
 use native.Mathlib.Omega.{arith}
 use lib.ListN.{length, getD, drop, drop-of-length-le}
 use borrow.Author.Tests.{le-leb}
 use Rattle.level.specs.Limits.{maxMovements}
 use Rattle.movement.specs.Limits.{groupCount}
-use Rattle.book_rules.specs.Columns.{Book, sound}
+use Rattle.book_rules.specs.Columns.{Book}
 use Rattle.room.specs.Room.{Writes}
 use Rattle.load_rules.specs.declared.Group.{Group}
 use Rattle.load_rules.specs.Shares.{bookShares}
-use Rattle.load_rules.specs.Tally.{tally}
 use Rattle.load_rules.specs.Factors.{sumTo}
 use Rattle.load_rules.specs.Load.{answer, bookLoad}
 use Rattle.load_rules.specs.Account.{groupNumbers, groupsOf, accountFrom, accountOf}

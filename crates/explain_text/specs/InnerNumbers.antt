@@ -15,7 +15,7 @@ numberAt n g k = getD n (4 * g + k) 0
 unfoldable pub wholeAt : List ℕ → ℕ → ℕ
 wholeAt n k = getD n (wholeFrom + k) 0
 
--- number k of the groups below n, added up
+-- number k of the groups below g, added up
 unfoldable pub sumAt : List ℕ → (k : ℕ) → ℕ → ℕ
 sumAt n k g = sumTo (λ i. numberAt n i k) g
 

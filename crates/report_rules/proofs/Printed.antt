@@ -52,11 +52,11 @@ lines-ended (l ∷ ls) free =
 -- Fields
 
 -- every byte is at least m
-atLeast : ℕ → List ℕ → Bool
+unfoldable pub atLeast : ℕ → List ℕ → Bool
 atLeast m [] = true
 atLeast m (c ∷ s) = leb m c && atLeast m s
 
-least-free : (m d : ℕ) → d < m → (s : List ℕ) → atLeast m s ≡ true → countOf d s ≡ 0
+pub least-free : (m d : ℕ) → d < m → (s : List ℕ) → atLeast m s ≡ true → countOf d s ≡ 0
 unfolding countOf atLeast
 least-free m d low [] h = refl
 least-free m d low (c ∷ s) h =

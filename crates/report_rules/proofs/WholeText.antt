@@ -60,11 +60,11 @@ unfolding shown
 ten-bytes = refl
 
 -- lines end in CRLF, the last one too
-record Ended (text : List ℕ) : Type 0 where
-  before : List ℕ
-  is : text ≡ before ++ crlf
+pub record Ended (text : List ℕ) : Type 0 where
+  pub before : List ℕ
+  pub is : text ≡ before ++ crlf
 
-last-ended : (l : List ℕ) (ls : List (List ℕ)) → Ended (ended (l ∷ ls))
+pub last-ended : (l : List ℕ) (ls : List (List ℕ)) → Ended (ended (l ∷ ls))
 unfolding ended
 last-ended l [] = record { before = l; is = refl }
 last-ended l (m ∷ ls) =

@@ -1,6 +1,6 @@
 -- `explain_text::amounts::group_amounts` meets its contract: V and U of a group are within the sums of all. Assumes
 -- nothing.
-use mathlib.Core.Path.{_≡_, refl, sym, ap, _∙_}
+use mathlib.Core.Path.{refl}
 use native.Mathlib.Omega.{arith}
 use Rattle.explain_text.specs.InnerNumbers.{groupIn}
 use Rattle.explain_text.proofs.Sums.{sum-within}

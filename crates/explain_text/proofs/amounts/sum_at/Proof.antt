@@ -1,6 +1,6 @@
 -- `explain_text::amounts::sum_at` meets its contract: the sum is that of the groups passed. Assumes nothing.
-use mathlib.Core.Path.{_≡_, refl, sym, ap, _∙_}
-use Prim.Native.Nat.{ℕ, _+_, _-_, _≤_, _<_}
+use mathlib.Core.Path.{_≡_, sym, ap, _∙_}
+use Prim.Native.Nat.{_-_, _≤_, _<_}
 use native.Mathlib.Omega.{arith}
 use Rattle.movement.specs.Limits.{groupCount}
 use Rattle.explain_text.specs.InnerNumbers.{sumAt}

@@ -3,7 +3,6 @@ use mathlib.Core.Path.{sym}
 use Prim.Native.Nat.{_+_}
 use native.Mathlib.Omega.{arith}
 use borrow.Author.Tests.{lt-ltb, le-ltb}
-use borrow.Author.Needs.{needs}
 use Rattle.explain_text.proofs.lines.has_movement.Statement.{statement}
 use Rattle.explain_text.proofs.lines.has_movement.Tie as tie
 

@@ -1,0 +1,4 @@
+pub mod Fields
+pub mod Places
+pub mod Says
+pub mod Example
