@@ -4,7 +4,7 @@
 -- Assumes nothing.
 use Prim.Native.Nat.{ℕ, _≤_}
 use mathlib.Core.Path.{_≡_}
-use mathlib.Core.Bool.{Bool, true}
+use mathlib.Core.Bool.{Bool, true, false}
 use mathlib.Core.List.{List, [], _++_}
 use lib.IntN.{ℤ, pos}
 use lib.ListN.{length, take}
@@ -25,12 +25,16 @@ Broken origin bytes = Unit
 pub Sent : (bytes : List ℕ) → Type 0
 Sent bytes = Unit
 
--- the program has so many arguments, and this is one of them, counted from 1
+-- a part that was handed to standard output was not taken whole
+pub Lost : Type 0
+Lost = Unit
+
+-- the program has so many arguments, and this is one of them, counted from 1, as it is handed over into so much room
 pub Arguments : (count : ℕ) → Type 0
 Arguments count = Unit
 
-pub Argument : (number : ℕ) (bytes : List ℕ) → Type 0
-Argument number bytes = Unit
+pub Argument : (number size : ℕ) (bytes : List ℕ) → Type 0
+Argument number size bytes = Unit
 
 -- before any call nothing came and nothing went
 pub none-came : (origin : ℕ) → First origin []
@@ -63,11 +67,16 @@ pub system-took : (answer : Bool) (part old : List ℕ) → answer ≡ true → 
 unfolding Sent
 system-took answer part old e f = tt
 
+-- Not all of a part was taken
+pub system-lost : (answer : Bool) → answer ≡ false → Lost
+unfolding Lost
+system-lost answer e = tt
+
 -- The arguments behind the program's own name
 pub system-counted : (count : ℕ) → Arguments count
 unfolding Arguments
 system-counted count = tt
 
-pub system-named : (number : ℕ) (bytes : List ℕ) → Argument number bytes
+pub system-named : (number n : ℕ) (room : List ℕ) → n ≤ length room → Argument number (length room) (take n room)
 unfolding Argument
-system-named number bytes = tt
+system-named number n room h = tt

@@ -8,4 +8,4 @@ use Rattle.channel.specs.System.{Argument}
 -- an argument at the front of the room; one that is longer than the room counts as empty
 pub record Named (number r : ℕ) (room : List ℕ) : Type 0 where
   pub within : Counts r room
-  pub is : Argument number (take r room)
+  pub is : Argument number (length room) (take r room)

@@ -6,20 +6,21 @@ mod input;
 mod print;
 mod say;
 
-use contours_steps::core::intake::COMPLETE;
-use contours_steps::core::intake::FAILED;
-use contours_steps::core::intake::Turn;
+use channel::whole::COMPLETE;
+use channel::whole::FAILED;
+use channel::whole::Filled;
 use contours_steps::core::intake::line_begun;
 use contours_steps::core::intake::overlong_line;
 use contours_steps::words::Given;
 use contours_steps::words::MAX_CONTOUR_LEVELS;
 use contours_steps::words::words_refusal;
+use libc::STDERR_FILENO;
 use network::Frame;
 use network::limits::MAX_SIDE;
 ghost use mathlib.Core.Path.{_≡_};
 ghost use lib.ListN.{length};
-ghost use Rattle.contours_steps.specs.Answer.{ReadWhole, ReadFailed, ReadFull};
-ghost use Rattle.contours_steps.specs.Intake.{TextRead};
+ghost use Rattle.channel.specs.Input.{Fills, input};
+ghost use Rattle.contours_steps.specs.Answer.{ReadWhole, ReadFailed, ReadFull, Run};
 ghost use Rattle.contours_steps.specs.Sheet.{textRefusal, refusedAt, maxText};
 ghost use Rattle.contours_steps.specs.Words.{Gathered, maxContourLevels, givenRefusal};
 ghost use Rattle.contours_steps.specs.InnerDrawing.{Stored};
@@ -34,78 +35,99 @@ const HEADER_NUMBERS: usize = 5;
 const MAX_POINTS: usize = MAX_SIDE as usize * MAX_SIDE as usize;
 
 fn main() {
+    let taken = run();
+    if !taken {
+        io::write_all(STDERR_FILENO, b"the output could not be written\n");
+    }
+}
+
+// All of it: what is read and given is answered. As each function from here on, it answers whether all was taken.
+fn run() -> bool
+    ensures { λ r. ⌜ Run r ⌝ }
+{
     let mut text = [0u8; MAX_TEXT];
     let mut asked = [0u32; MAX_CONTOUR_LEVELS];
-    let read = input::read_text(&mut text);
+    let read = channel::whole::read_all(&mut text);
     let given = input::gather(&mut asked);
-    answer(&text, read, &asked, given);
+    answer(&text, read, &asked, given)
 }
 
 // What the reading came to: only a network that was read to its end is judged.
-fn answer(text: &[u8], read: Turn, asked: &[u32], given: Given)
-    requires { ⌜ TextRead read (now text) ⌝ }
+fn answer(text: &[u8], read: Filled, asked: &[u32], given: Given) -> bool
+    requires { ⌜ Fills input read (now text) ⌝ }
     requires { ⌜ length (now text) ≡ maxText ⌝ }
     requires { ⌜ length (now asked) ≡ maxContourLevels ⌝ }
     requires { ⌜ Gathered given (now asked) ⌝ }
+    ensures { λ r. ⌜ Run r ⌝ }
 {
     let size = read.size;
     let state = read.state;
     if state == COMPLETE {
-        judged(&text[..size], read, asked, given);
-        return;
+        return judged(&text[..size], asked, given);
     }
     if state == FAILED {
-        failed(&text[..size], read, asked, given);
-        return;
+        return failed(&text[..size], asked, given);
     }
-    overlong(text, read, asked, given);
+    overlong(text, asked, given)
 }
 
 // The bytes can't be read on, which is never taken for their end.
-fn failed(text: &[u8], read: Turn, asked: &[u32], given: Given)
+fn failed(text: &[u8], asked: &[u32], given: Given) -> bool
+    requires { ⌜ ReadFailed (now text) ⌝ }
     requires { ⌜ Gathered given (now asked) ⌝ }
-    requires { ⌜ ReadFailed read (now text) ⌝ }
+    ensures { λ r. ⌜ Run r ⌝ }
 {
     let line = line_begun(text);
-    print::failure(text, read, asked, given, line as u64);
-    say::of_read_error(line as u64);
+    let taken = print::failure(text, asked, given, line as u64);
+    if taken {
+        say::of_read_error(line as u64);
+    }
+    taken
 }
 
 // The bytes fill the buffer.
-fn overlong(text: &[u8], read: Turn, asked: &[u32], given: Given)
+fn overlong(text: &[u8], asked: &[u32], given: Given) -> bool
+    requires { ⌜ ReadFull (now text) ⌝ }
     requires { ⌜ Gathered given (now asked) ⌝ }
-    requires { ⌜ ReadFull read (now text) ⌝ }
+    ensures { λ r. ⌜ Run r ⌝ }
 {
     let line = overlong_line(text);
-    print::overlong(text, read, asked, given, line as u64);
-    say::of_overlong(line as u64);
+    let taken = print::overlong(text, asked, given, line as u64);
+    if taken {
+        say::of_overlong(line as u64);
+    }
+    taken
 }
 
 // The whole network is judged, and then the words.
-fn judged(text: &[u8], read: Turn, asked: &[u32], given: Given)
-    requires { ⌜ ReadWhole read (now text) ⌝ }
+fn judged(text: &[u8], asked: &[u32], given: Given) -> bool
+    requires { ⌜ ReadWhole (now text) ⌝ }
     requires { ⌜ Gathered given (now asked) ⌝ }
     requires { ⌜ length (now asked) ≡ maxContourLevels ⌝ }
+    ensures { λ r. ⌜ Run r ⌝ }
 {
     let mut header = [0u32; HEADER_NUMBERS];
     let mut levels = [0u32; MAX_POINTS];
     let why = grid::read::read_network(text, &mut header, &mut levels);
     if why != 0 {
-        refuse_network(text, read, why, asked, given);
-        return;
+        return refuse_network(text, why, asked, given);
     }
-    with_words(text, read, &header, &levels, asked, given);
+    with_words(text, &header, &levels, asked, given)
 }
 
 // The network is refused.
-fn refuse_network(text: &[u8], read: Turn, why: u32, asked: &[u32], given: Given)
-    requires { ⌜ ReadWhole read (now text) ⌝ }
+fn refuse_network(text: &[u8], why: u32, asked: &[u32], given: Given) -> bool
+    requires { ⌜ ReadWhole (now text) ⌝ }
     requires { ⌜ Gathered given (now asked) ⌝ }
     requires { ⌜ (why ≡ textRefusal (now text)) × (why ≡ 0 → ⊥) ⌝ }
+    ensures { λ r. ⌜ Run r ⌝ }
 {
     let line = refused_line(text, why);
-    print::refusal(text, read, asked, given, why, line);
-    say::of_network(why, line);
+    let taken = print::refusal(text, asked, given, why, line);
+    if taken {
+        say::of_network(why, line);
+    }
+    taken
 }
 
 // The first line at fault where the text is off its layout; the other refusals are of the whole.
@@ -119,30 +141,34 @@ fn refused_line(text: &[u8], why: u32) -> u64
 }
 
 // The words, for a network that is not refused.
-fn with_words(text: &[u8], read: Turn, header: &[u32], levels: &[u32], asked: &[u32], given: Given)
-    requires { ⌜ ReadWhole read (now text) ⌝ }
+fn with_words(text: &[u8], header: &[u32], levels: &[u32], asked: &[u32], given: Given) -> bool
+    requires { ⌜ ReadWhole (now text) ⌝ }
     requires { ⌜ Gathered given (now asked) ⌝ }
     requires { ⌜ length (now asked) ≡ maxContourLevels ⌝ }
     requires { ⌜ textRefusal (now text) ≡ 0 ⌝ }
     requires { ⌜ Stored (now text) (now header) (now levels) ⌝ }
+    ensures { λ r. ⌜ Run r ⌝ }
 {
     let why = words_refusal(given);
-    if why != 0 {
-        print::refusal(text, read, asked, given, why, 0);
-        say::of_levels(why);
-        return;
+    if why == 0 {
+        return draw(text, header, levels, asked, given);
     }
-    draw(text, read, header, levels, asked, given);
+    let taken = print::refusal(text, asked, given, why, 0);
+    if taken {
+        say::of_levels(why);
+    }
+    taken
 }
 
 // The sheet of a network and words that are not refused.
-fn draw(text: &[u8], read: Turn, header: &[u32], levels: &[u32], asked: &[u32], given: Given)
-    requires { ⌜ ReadWhole read (now text) ⌝ }
+fn draw(text: &[u8], header: &[u32], levels: &[u32], asked: &[u32], given: Given) -> bool
+    requires { ⌜ ReadWhole (now text) ⌝ }
     requires { ⌜ Gathered given (now asked) ⌝ }
     requires { ⌜ length (now asked) ≡ maxContourLevels ⌝ }
     requires { ⌜ textRefusal (now text) ≡ 0 ⌝ }
     requires { ⌜ Stored (now text) (now header) (now levels) ⌝ }
     requires { ⌜ givenRefusal given ≡ 0 ⌝ }
+    ensures { λ r. ⌜ Run r ⌝ }
 {
     let frame = Frame {
         columns: header[0],
@@ -155,11 +181,10 @@ fn draw(text: &[u8], read: Turn, header: &[u32], levels: &[u32], asked: &[u32], 
     let count = given.count;
     print::sheet(
         text,
-        read,
         asked,
         given,
         &levels[..points],
         frame,
         &asked[..count],
-    );
+    )
 }

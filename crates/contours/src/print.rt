@@ -1,17 +1,15 @@
 // The sheet on standard output. Each part is put together in a buffer and handed to one write, where it is due: behind
 // the part before it. The text of a level's contours goes out in parts of up to 4,096 bytes, so it may have any length.
 use contour::core::Progress;
-use contours_steps::core::intake::Turn;
 use contours_steps::core::put::put_refused;
 use contours_steps::core::put::put_start;
 use contours_steps::words::Given;
-use libc::STDOUT_FILENO;
 use network::Frame;
 use network::limits::MAX_EDGES;
 use wkt::core::first;
 use wkt::core::print_part;
 ghost use mathlib.Core.Path.{_≡_};
-ghost use Prim.Native.Nat.{_+_, _≤_, _<_};
+ghost use Prim.Native.Nat.{_≤_, _<_};
 ghost use lib.ListN.{length, getD, take};
 ghost use Rattle.wkt.specs.Calls.{networkText};
 ghost use Rattle.wkt.specs.InnerParts.{Printable, linesFrom};
@@ -20,91 +18,94 @@ ghost use Rattle.contours_steps.specs.Sheet.{lineStart, levelLine, sheetOf, ref
 ghost use Rattle.contours_steps.specs.Words.{Gathered};
 ghost use Rattle.contours_steps.specs.Drawing.{Accepted, Refused};
 ghost use Rattle.contours_steps.specs.InnerDrawing.{Drawable};
-ghost use Rattle.contours_steps.specs.Due.{Due};
-ghost use Rattle.contours_steps.specs.Answer.{ReadWhole, ReadFailed, ReadFull, Answered};
+ghost use Rattle.contours_steps.specs.Due.{Due, Sends, Gives};
+ghost use Rattle.contours_steps.specs.Answer.{ReadWhole, ReadFailed, ReadFull, Answered, Run};
 
-// The one write of a part of the sheet, which is due past the `sent` bytes before it. The count goes on with it, so
-// that no part is due twice.
-fn written(levels: &[u32], frame: Frame, asked: &[u32], sent: &mut usize, part: &[u8])
+// The one write of a part of the sheet, which is due past the `sent` bytes before it. It answers, as each function
+// below, whether all was taken; where it was not, nothing more is written.
+fn written(levels: &[u32], frame: Frame, asked: &[u32], sent: &mut usize, part: &[u8]) -> bool
     requires { ⌜ Drawable (now levels) frame (now asked) ⌝ }
     requires { ⌜ Due (sheetOf (now levels) frame (now asked)) (now sent) (now part) ⌝ }
-    ensures { λ _. ⌜ now (sent .exit) ≡ now (sent .entry) + length (now (part .entry)) ⌝ }
+    ensures { λ r. ⌜ Sends (now (sent .entry)) (now (part .entry)) r (now (sent .exit)) ⌝ }
 {
-    io::write_all(STDOUT_FILENO, part);
-    *sent = *sent + part.len();
+    channel::core::write(sent, part)
 }
 
 // The sheet of a network and words that are not refused.
 pub(crate) fn sheet(
     text: &[u8],
-    read: Turn,
     room: &[u32],
     given: Given,
     levels: &[u32],
     frame: Frame,
     asked: &[u32],
-)
-    requires { ⌜ ReadWhole read (now text) ⌝ }
+) -> bool
+    requires { ⌜ ReadWhole (now text) ⌝ }
     requires { ⌜ Accepted (now text) given (now room) (now levels) frame (now asked) ⌝ }
+    ensures { λ r. ⌜ Run r ⌝ }
 {
-    let sent = lines(levels, frame, asked);
-    ended(levels, frame, asked, sent);
+    lines(levels, frame, asked)
 }
 
-// The end of the sheet, which asks that all of it was sent.
-fn ended(levels: &[u32], frame: Frame, asked: &[u32], sent: usize)
-    requires { ⌜ sent ≡ length (sheetOf (now levels) frame (now asked)) ⌝ }
-{}
-
 // Its heading and its lines, to its end.
-fn lines(levels: &[u32], frame: Frame, asked: &[u32]) -> usize
+fn lines(levels: &[u32], frame: Frame, asked: &[u32]) -> bool
     requires { ⌜ Drawable (now levels) frame (now asked) ⌝ }
-    ensures { λ r. ⌜ r ≡ length (sheetOf (now (levels .entry)) frame (now (asked .entry))) ⌝ }
+    ensures { λ r. ⌜ Gives (sheetOf (now (levels .entry)) frame (now (asked .entry))) r ⌝ }
 {
     let mut sent = 0;
-    written(levels, frame, asked, &mut sent, b"level;wkt\r\n");
+    let begun = written(levels, frame, asked, &mut sent, b"level;wkt\r\n");
+    if !begun {
+        return false;
+    }
     let mut i = 0;
     while i < asked.len() {
-        one_level(levels, frame, asked, i, &mut sent);
+        let taken = one_level(levels, frame, asked, i, &mut sent);
+        if !taken {
+            return false;
+        }
         i += 1;
     }
-    sent
+    true
 }
 
 // The line of level number i.
-fn one_level(levels: &[u32], frame: Frame, asked: &[u32], i: usize, sent: &mut usize)
+fn one_level(levels: &[u32], frame: Frame, asked: &[u32], i: usize, sent: &mut usize) -> bool
     requires { ⌜ Drawable (now levels) frame (now asked) ⌝ }
     requires { ⌜ i < length (now asked) ⌝ }
     requires { ⌜ Due (sheetOf (now levels) frame (now asked)) (now sent)
         (levelLine (now levels) frame (getD (now asked) i 0)) ⌝ }
-    ensures { λ _. ⌜ now (sent .exit) ≡ now (sent .entry)
-        + length (levelLine (now (levels .entry)) frame (getD (now (asked .entry)) i 0)) ⌝ }
+    ensures { λ r. ⌜ Sends (now (sent .entry)) (levelLine (now (levels .entry)) frame (getD (now (asked .entry)) i 0))
+        r (now (sent .exit)) ⌝ }
 {
     let v = asked[i];
-    start(levels, frame, asked, i, sent);
-    contours(levels, frame, asked, v, sent);
-    written(levels, frame, asked, sent, b"\r\n");
+    let begun = start(levels, frame, asked, i, sent);
+    if !begun {
+        return false;
+    }
+    let drawn = contours(levels, frame, asked, v, sent);
+    if !drawn {
+        return false;
+    }
+    written(levels, frame, asked, sent, b"\r\n")
 }
 
 // The level and its semicolon.
-fn start(levels: &[u32], frame: Frame, asked: &[u32], i: usize, sent: &mut usize)
+fn start(levels: &[u32], frame: Frame, asked: &[u32], i: usize, sent: &mut usize) -> bool
     requires { ⌜ Drawable (now levels) frame (now asked) ⌝ }
     requires { ⌜ i < length (now asked) ⌝ }
     requires { ⌜ Due (sheetOf (now levels) frame (now asked)) (now sent) (lineStart (getD (now asked) i 0)) ⌝ }
-    ensures { λ _. ⌜ now (sent .exit) ≡ now (sent .entry)
-        + length (lineStart (getD (now (asked .entry)) i 0)) ⌝ }
+    ensures { λ r. ⌜ Sends (now (sent .entry)) (lineStart (getD (now (asked .entry)) i 0)) r (now (sent .exit)) ⌝ }
 {
     let mut room = [0u8; 16];
     let n = put_start(&mut room, asked[i]);
-    written(levels, frame, asked, sent, &room[..n]);
+    written(levels, frame, asked, sent, &room[..n])
 }
 
 // The contours of a network at a level.
-fn contours(levels: &[u32], frame: Frame, asked: &[u32], v: u32, sent: &mut usize)
+fn contours(levels: &[u32], frame: Frame, asked: &[u32], v: u32, sent: &mut usize) -> bool
     requires { ⌜ Drawable (now levels) frame (now asked) ⌝ }
     requires { ⌜ Due (sheetOf (now levels) frame (now asked)) (now sent) (networkText (now levels) frame v) ⌝ }
-    ensures { λ _. ⌜ now (sent .exit) ≡ now (sent .entry)
-        + length (networkText (now (levels .entry)) frame v) ⌝ }
+    ensures { λ r. ⌜ Sends (now (sent .entry)) (networkText (now (levels .entry)) frame v) r (now (sent .exit)) ⌝ }
 {
     let mut edges = [0u32; MAX_EDGES];
     let mut counts = [0u32; MAX_EDGES];
@@ -112,7 +113,7 @@ fn contours(levels: &[u32], frame: Frame, asked: &[u32], v: u32, sent: &mut usiz
     let nx = frame.columns as usize;
     let ny = frame.rows as usize;
     let got = contour::core::list_contours(levels, nx, ny, v, &mut edges, &mut counts, &mut closed);
-    fronts(levels, frame, asked, v, &edges, &counts, &closed, got, sent);
+    fronts(levels, frame, asked, v, &edges, &counts, &closed, got, sent)
 }
 
 // The contours at the fronts of longer buffers.
@@ -126,7 +127,7 @@ fn fronts(
     closed: &[u32],
     got: Progress,
     sent: &mut usize,
-)
+) -> bool
     requires { ⌜ Drawable (now levels) frame (now asked) ⌝ }
     requires { ⌜ ((got .edges ≤ length (now edges))
         × ((got .contours ≤ length (now counts)) × (got .contours ≤ length (now closed))))
@@ -135,9 +136,9 @@ fn fronts(
     requires { ⌜ Due (sheetOf (now levels) frame (now asked)) (now sent) (textOf (now levels) frame v
         (linesFrom (take (got .edges) (now edges)) (take (got .contours) (now counts))
         (take (got .contours) (now closed)))) ⌝ }
-    ensures { λ _. ⌜ now (sent .exit) ≡ now (sent .entry) + length (textOf (now (levels .entry)) frame v
+    ensures { λ r. ⌜ Sends (now (sent .entry)) (textOf (now (levels .entry)) frame v
         (linesFrom (take (got .edges) (now (edges .entry))) (take (got .contours) (now (counts .entry)))
-        (take (got .contours) (now (closed .entry))))) ⌝ }
+        (take (got .contours) (now (closed .entry))))) r (now (sent .exit)) ⌝ }
 {
     let n = got.edges;
     let m = got.contours;
@@ -150,7 +151,7 @@ fn fronts(
         &counts[..m],
         &closed[..m],
         sent,
-    );
+    )
 }
 
 // The text, part by part.
@@ -163,64 +164,73 @@ fn parts(
     counts: &[u32],
     closed: &[u32],
     sent: &mut usize,
-)
+) -> bool
     requires { ⌜ Drawable (now levels) frame (now asked) ⌝ }
     requires { ⌜ Printable (now levels) frame v (now edges) (now counts) (now closed) ⌝ }
     requires { ⌜ Due (sheetOf (now levels) frame (now asked)) (now sent)
         (textOf (now levels) frame v (linesFrom (now edges) (now counts) (now closed))) ⌝ }
-    ensures { λ _. ⌜ now (sent .exit) ≡ now (sent .entry) + length (textOf (now (levels .entry)) frame v
-        (linesFrom (now (edges .entry)) (now (counts .entry)) (now (closed .entry)))) ⌝ }
+    ensures { λ r. ⌜ Sends (now (sent .entry)) (textOf (now (levels .entry)) frame v
+        (linesFrom (now (edges .entry)) (now (counts .entry)) (now (closed .entry)))) r (now (sent .exit)) ⌝ }
 {
     let mut room = io::buffer();
     let mut at = first();
     while at.line <= counts.len() {
         let part = print_part(levels, frame, v, edges, counts, closed, at, &mut room);
         let n = part.size;
-        written(levels, frame, asked, sent, &room[..n]);
+        let taken = written(levels, frame, asked, sent, &room[..n]);
+        if !taken {
+            return false;
+        }
         at = part.next;
     }
+    true
 }
 
 // The one line of a refusal: of a text and words that are refused, of bytes that can't be read on, and of bytes that
 // fill the buffer.
-pub(crate) fn refusal(text: &[u8], read: Turn, asked: &[u32], given: Given, number: u32, line: u64)
-    requires { ⌜ ReadWhole read (now text) ⌝ }
+pub(crate) fn refusal(text: &[u8], asked: &[u32], given: Given, number: u32, line: u64) -> bool
+    requires { ⌜ ReadWhole (now text) ⌝ }
     requires { ⌜ Refused (now text) given (now asked) number line ⌝ }
+    ensures { λ r. ⌜ Run r ⌝ }
 {
-    refused(text, read, asked, given, number, line);
+    refused(text, asked, given, number, line)
 }
 
-pub(crate) fn failure(text: &[u8], read: Turn, asked: &[u32], given: Given, line: u64)
-    requires { ⌜ ReadFailed read (now text) ⌝ }
+pub(crate) fn failure(text: &[u8], asked: &[u32], given: Given, line: u64) -> bool
+    requires { ⌜ ReadFailed (now text) ⌝ }
     requires { ⌜ Gathered given (now asked) ⌝ }
     requires { ⌜ line ≡ lineBegun (now text) ⌝ }
+    ensures { λ r. ⌜ Run r ⌝ }
 {
-    refused(text, read, asked, given, 17, line);
+    refused(text, asked, given, 17, line)
 }
 
-pub(crate) fn overlong(text: &[u8], read: Turn, asked: &[u32], given: Given, line: u64)
-    requires { ⌜ ReadFull read (now text) ⌝ }
+pub(crate) fn overlong(text: &[u8], asked: &[u32], given: Given, line: u64) -> bool
+    requires { ⌜ ReadFull (now text) ⌝ }
     requires { ⌜ Gathered given (now asked) ⌝ }
     requires { ⌜ line ≡ overlongLine (now text) ⌝ }
+    ensures { λ r. ⌜ Run r ⌝ }
 {
     if line == 0 {
-        refused(text, read, asked, given, 12, 0);
-        return;
+        return refused(text, asked, given, 12, 0);
     }
-    refused(text, read, asked, given, 17, line);
+    refused(text, asked, given, 17, line)
 }
 
-fn refused(text: &[u8], read: Turn, asked: &[u32], given: Given, number: u32, line: u64)
-    requires { ⌜ Answered read (now text) given (now asked) (refusedLine number line) ⌝ }
+fn refused(text: &[u8], asked: &[u32], given: Given, number: u32, line: u64) -> bool
+    requires { ⌜ Answered (now text) given (now asked) (refusedLine number line) ⌝ }
+    ensures { λ r. ⌜ Run r ⌝ }
 {
     let mut room = [0u8; 64];
     let n = put_refused(&mut room, number, line);
-    write(text, read, asked, given, &room[..n]);
+    write(text, asked, given, &room[..n])
 }
 
 // The one write of a refusal: no other text than what the reading and the words come to may be handed to it.
-fn write(text: &[u8], read: Turn, asked: &[u32], given: Given, out: &[u8])
-    requires { ⌜ Answered read (now text) given (now asked) (now out) ⌝ }
+fn write(text: &[u8], asked: &[u32], given: Given, out: &[u8]) -> bool
+    requires { ⌜ Answered (now text) given (now asked) (now out) ⌝ }
+    ensures { λ r. ⌜ Run r ⌝ }
 {
-    io::write_all(STDOUT_FILENO, out);
+    let mut sent = 0;
+    channel::core::write(&mut sent, out)
 }

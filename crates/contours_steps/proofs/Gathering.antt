@@ -5,17 +5,19 @@ use mathlib.Core.Bool.{Bool, true, false, _&&_, cond}
 use mathlib.Core.List.{List, [], _∷_, _++_, map}
 use native.Mathlib.Numerals.{add-one}
 use native.Mathlib.Omega.{arith}
-use lib.ListN.{length, take, set, length-append, length-set}
-use lib.Seq.{take-suc-set}
-use lib.Dec.{leb}
-use borrow.Author.Tests.{le-leb, lt-leb, leb-true, leb-false}
+use lib.ListN.{length, getD, take, set, length-append, length-set, List·getD-append}
+use lib.Seq.{take-suc-set, getD-at}
+use lib.Dec.{leb, ltb}
+use borrow.Author.Tests.{le-leb, lt-leb, leb-true, leb-false, ltb-true, ltb-false}
 use Rattle.text.proofs.Digits.{either}
 use Rattle.refusal.proofs.Laws.{and-left}
 use Rattle.grid.specs.Row.{all}
+use Rattle.channel.specs.System.{Arguments, Argument}
 use Rattle.contours_steps.proofs.Levels.{word-range}
 use Rattle.contours_steps.specs.declared.words.Given.{Given}
 use Rattle.contours_steps.specs.Words.{wordLevel, isContour, maxContourLevels, levelsIn, wordsRefusal}
-use Rattle.contours_steps.specs.Words.{givenRefusal, WordTaken, Gathered}
+use Rattle.contours_steps.specs.Words.{givenRefusal, maxWord, WordTaken, Gathered}
+use Rattle.contours_steps.specs.InnerIntake.{ArgumentTaken}
 
 -- ---- a word's step
 
@@ -87,27 +89,40 @@ levels-snoc : (ws : List (List ℕ)) (w : List ℕ)
 levels-snoc [] w = refl
 levels-snoc (x ∷ ws) w = ap (λ (l : List ℕ). wordLevel x ∷ l) (levels-snoc ws w)
 
--- the words before number i, which counts from 1
+-- each word is an argument, and one more
+named-snoc : (ws : List (List ℕ)) (w : List ℕ) → ((i : ℕ) → i < length ws → Argument (i + 1) maxWord (getD ws i []))
+    → Argument (length ws + 1) maxWord w
+    → (i : ℕ) → i < length (ws ++ (w ∷ [])) → Argument (i + 1) maxWord (getD (ws ++ (w ∷ [])) i [])
+named-snoc ws w each last i h =
+    either (ltb i (length ws))
+    (λ yes. let l = ltb-true i (length ws) yes in rw (List·getD-append ws (w ∷ []) [] i l) (each i l))
+    (λ no. let e : length ws ≡ i = omega (arith, ltb-false i (length ws) no, length-append ws (w ∷ [])) in
+    rw (getD-at ws w [] [] i e) (rw e at last))
+
+-- the words before place i
 pub record Gathering (asked : List ℕ) (fit : Bool) (i : ℕ) : Type 0 where
   pub words : List (List ℕ)
-  pub count : length words + 1 ≡ i
+  pub each : (i : ℕ) → i < length words → Argument (i + 1) maxWord (getD words i [])
+  pub count : length words ≡ i
   pub fits : fit ≡ all isContour words
   pub stored : fit ≡ true → length words ≤ length asked → take (length words) asked ≡ levelsIn words
 
-pub gathering-none : (asked : List ℕ) → Gathering asked true 1
+pub gathering-none : (asked : List ℕ) → Gathering asked true 0
 unfolding all
-gathering-none asked = record { words = []; count = refl; fits = refl; stored = λ _ _. refl }
+gathering-none asked =
+    record { words = []; each = λ i h. absurd (omega arith); count = refl; fits = refl; stored = λ _ _. refl }
 
-pub gathering-next : {asked asked′ word : List ℕ} {fit r both : Bool} {i : ℕ} → Gathering asked fit i
-    → WordTaken asked (i - 1) word r asked′ → both ≡ (fit && r)
+pub gathering-next : {asked asked′ : List ℕ} {fit r both : Bool} {i : ℕ} → Gathering asked fit i
+    → ArgumentTaken asked i r asked′ → both ≡ (fit && r)
     → Gathering asked′ both (i + 1)
-gathering-next {asked} {asked′} {word} {fit} {r} {both} {i} k w e =
-    let n = length-append (k .words) (word ∷ []) in
+gathering-next {asked} {asked′} {fit} {r} {both} {i} k t e =
+    let n = length-append (k .words) (t .word ∷ []) in
     record {
-      words = k .words ++ (word ∷ []);
+      words = k .words ++ (t .word ∷ []);
+      each = named-snoc (k .words) (t .word) (k .each) (rw (k .count) (t .named));
       count = omega (arith, k .count);
-      fits = e ∙ rw (k .fits, w .fit) (sym (all-snoc isContour (k .words) word));
-      stored = λ t l. there (and-left fit r (sym e ∙ t)) (right fit r (sym e ∙ t)) (omega (arith, n));
+      fits = e ∙ rw (k .fits, t .taken .fit) (sym (all-snoc isContour (k .words) (t .word)));
+      stored = λ b l. there (and-left fit r (sym e ∙ b)) (right fit r (sym e ∙ b)) (omega (arith, n));
     }
   where
     right : (a b : Bool) → (a && b) ≡ true → b ≡ true
@@ -115,22 +130,30 @@ gathering-next {asked} {asked′} {word} {fit} {r} {both} {i} k w e =
     right false b t = let n : _≡_ {A = ℕ} 0 1 = cc in absurd (omega arith)
 
     there : fit ≡ true → r ≡ true → length (k .words) < length asked′
-        → take (length (k .words ++ (word ∷ []))) asked′ ≡ levelsIn (k .words ++ (word ∷ []))
-    there f t l =
-        let m : length (k .words ++ (word ∷ [])) ≡ suc (length (k .words)) =
-        omega (arith, length-append (k .words) (word ∷ [])) in
-        let p : i - 1 ≡ length (k .words) = omega (arith, k .count) in
-        let s : asked′ ≡ set asked (length (k .words)) (wordLevel word) =
-        rw p at (w .stored t (omega (arith, k .count, w .long))) in
+        → take (length (k .words ++ (t .word ∷ []))) asked′ ≡ levelsIn (k .words ++ (t .word ∷ []))
+    there f b l =
+        let w = t .taken in
+        let m : length (k .words ++ (t .word ∷ [])) ≡ suc (length (k .words)) =
+        omega (arith, length-append (k .words) (t .word ∷ [])) in
+        let s : asked′ ≡ set asked (length (k .words)) (wordLevel (t .word)) =
+        rw (k .count) (w .stored b (omega (arith, k .count, w .long))) in
         rw (
           m,
           s,
-          take-suc-set asked (length (k .words)) (wordLevel word) (omega (arith, w .long)),
+          take-suc-set asked (length (k .words)) (wordLevel (t .word)) (omega (arith, w .long)),
           k .stored f (omega (arith, w .long)),
-          levels-snoc (k .words) word,
+          levels-snoc (k .words) (t .word),
         ) refl
 
-pub gathered : {asked : List ℕ} {fit : Bool} {i : ℕ} (count : ℕ) → Gathering asked fit i → count + 1 ≡ i
+-- all words are gathered
+pub gathered : {asked : List ℕ} {fit : Bool} {i count : ℕ} → Gathering asked fit i → Arguments count → i ≡ count
     → Gathered (record { count = count; fit = fit }) asked
-gathered {asked} {fit} {i} count k e =
-    record { words = k .words; count = omega (arith, k .count); fit = k .fits; stored = k .stored }
+gathered {asked} {fit} {i} {count} k told e =
+    record {
+      words = k .words;
+      told = rw (k .count, e) told;
+      each = k .each;
+      count = omega (arith, k .count);
+      fit = k .fits;
+      stored = k .stored;
+    }

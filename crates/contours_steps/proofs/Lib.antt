@@ -1,6 +1,5 @@
 pub mod Begun
 pub mod Dues
-pub mod Turns
 pub mod Writes
 pub mod Levels
 pub mod Gathering

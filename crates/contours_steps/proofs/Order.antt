@@ -1,24 +1,24 @@
 -- The sheet in its order: the heading, and the lines from a level on. Assumes nothing.
 use Prim.Native.Nat.{ℕ, _+_, _≤_, _<_}
-use mathlib.Core.Path.{_≡_, refl, ap, _∙_}
+use mathlib.Core.Path.{_≡_, refl}
+use mathlib.Core.Bool.{Bool, true}
 use mathlib.Core.List.{List, [], _++_}
 use native.Mathlib.Numerals.{add-one}
-use native.Mathlib.Omega.{arith}
-use lib.ListN.{length, getD, drop, length-append, drop-of-length-le}
+use lib.ListN.{length, getD, drop, drop-of-length-le}
 use lib.Seq.{drop-cons}
 use Rattle.network.specs.declared.Frame.{Frame}
-use Rattle.contours_steps.specs.Due.{Due}
-use Rattle.contours_steps.proofs.Dues.{due-whole, due-front, due-rest}
+use Rattle.contours_steps.specs.Due.{Due, Sends}
+use Rattle.contours_steps.proofs.Dues.{due-whole, due-front, due-rest, Rest, rest-all, rest-next}
 use Rattle.contours_steps.specs.Sheet.{heading, levelLine, levelLines, sheetOf}
 
 module _ (levels : List ℕ) (f : Frame) (vs : List ℕ) where
-  sheet-start : sheetOf levels f vs ≡ heading ++ levelLines levels f (drop 0 vs)
-  unfolding sheetOf
-  sheet-start = refl
-
   sheet-due : Due (sheetOf levels f vs) 0 (heading ++ levelLines levels f (drop 0 vs))
   unfolding sheetOf
   sheet-due = due-whole (heading ++ levelLines levels f vs)
+
+  sheet-rest : Rest 0 (sheetOf levels f vs) 0 (heading ++ levelLines levels f (drop 0 vs))
+  unfolding sheetOf
+  sheet-rest = rest-all 0 (heading ++ levelLines levels f vs)
 
   -- the heading is due, and then the lines from the first level on, which end the sheet
   pub heading-due : Due (sheetOf levels f vs) 0 heading
@@ -28,9 +28,9 @@ module _ (levels : List ℕ) (f : Frame) (vs : List ℕ) where
       → Due (sheetOf levels f vs) at (levelLines levels f (drop 0 vs))
   lines-due at e = rw e (due-rest heading (levelLines levels f (drop 0 vs)) sheet-due)
 
-  pub lines-long : (at : ℕ) → at ≡ 0 + length heading
-      → at + length (levelLines levels f (drop 0 vs)) ≡ length (sheetOf levels f vs)
-  lines-long at e = omega (arith, ap length sheet-start, length-append heading (levelLines levels f (drop 0 vs)))
+  pub lines-rest : {at : ℕ} {r : Bool} → r ≡ true → Sends 0 heading r at
+      → Rest 0 (sheetOf levels f vs) at (levelLines levels f (drop 0 vs))
+  lines-rest e s = rest-next heading (levelLines levels f (drop 0 vs)) sheet-rest e s
 
   pub lines-more : (i : ℕ) → i < length vs
       → levelLines levels f (drop i vs) ≡ levelLine levels f (getD vs i 0) ++ levelLines levels f

@@ -1,39 +1,48 @@
--- What the program contours may write on standard output, by how the reading of the network's bytes went.
+-- What the program contours may write on standard output, by what came of the network's bytes, and how a run of it ends.
 -- Assumes nothing.
-use Prim.Native.Nat.{ℕ, _≤_}
+use Prim.Native.Nat.{ℕ}
 use mathlib.Core.Path.{_≡_}
+use mathlib.Core.Bool.{Bool, true, false}
 use mathlib.Core.List.{List}
-use lib.ListN.{length, take}
-use Rattle.contours_steps.specs.declared.core.intake.Turn.{Turn}
+use lib.ListN.{length}
+use Rattle.channel.specs.System.{First, Whole, Broken, Sent, Lost}
+use Rattle.channel.specs.Input.{input}
 use Rattle.contours_steps.specs.declared.words.Given.{Given}
-use Rattle.contours_steps.specs.Intake.{reading, complete, failed, TextRead}
 use Rattle.contours_steps.specs.Words.{Gathered}
 use Rattle.contours_steps.specs.Sheet.{maxText, writtenOf, failedOf, overlongOf}
 
--- the bytes that a reading came to, at the front of the program's room, and its state
-pub record Came (state : ℕ) (t : Turn) (bytes : List ℕ) : Type 0 where
-  pub room : List ℕ
-  pub long : length room ≡ maxText
-  pub read : TextRead t room
-  pub front : bytes ≡ take (t .size) room
-  pub is : t .state ≡ state
+-- these bytes were read to their end, they can't be read on, or they fill the program's room
+abbrev pub ReadWhole : List ℕ → Type 0
+ReadWhole bytes = Whole input bytes
 
--- they were read to their end, they can't be read on, or they fill the room
-abbrev pub ReadWhole : Turn → List ℕ → Type 0
-ReadWhole t bytes = Came complete t bytes
+abbrev pub ReadFailed : List ℕ → Type 0
+ReadFailed bytes = Broken input bytes
 
-abbrev pub ReadFailed : Turn → List ℕ → Type 0
-ReadFailed t bytes = Came failed t bytes
+abbrev pub ReadFull : List ℕ → Type 0
+ReadFull bytes = (First input bytes) × (length bytes ≡ maxText)
 
-abbrev pub ReadFull : Turn → List ℕ → Type 0
-ReadFull t bytes = (Came reading t bytes) × (length bytes ≡ maxText)
-
--- A text that may be written: that of the whole network and the words, that of a failed read, which is never taken for
+-- The text that goes with it: that of the whole network and the words, that of a failed read, which is never taken for
 -- the end, or that of a full room; there is no fourth
-pub record Answered (t : Turn) (bytes : List ℕ) (g : Given) (asked : List ℕ) (out : List ℕ) : Type 0 where
-  pub came : Came (t .state) t bytes
+pub data TextFor (bytes : List ℕ) (words : List (List ℕ)) (out : List ℕ) : Type 0 where
+  whole : ReadWhole bytes → out ≡ writtenOf bytes words → TextFor bytes words out
+  fails : ReadFailed bytes → out ≡ failedOf bytes → TextFor bytes words out
+  full : ReadFull bytes → out ≡ overlongOf bytes → TextFor bytes words out
+
+-- a text that may be written, where these words were given
+pub record Answered (bytes : List ℕ) (g : Given) (asked out : List ℕ) : Type 0 where
   pub given : Gathered g asked
-  pub known : t .state ≤ 2
-  pub ended : t .state ≡ complete → out ≡ writtenOf bytes (given .words)
-  pub fails : t .state ≡ failed → out ≡ failedOf bytes
-  pub full : t .state ≡ reading → out ≡ overlongOf bytes
+  pub is : TextFor bytes (given .words) out
+
+-- A run whose text went, all of it and nothing before it
+pub record Ran : Type 0 where
+  pub bytes : List ℕ
+  pub given : Given
+  pub asked : List ℕ
+  pub out : List ℕ
+  pub answered : Answered bytes given asked out
+  pub sent : Sent out
+
+-- how a run ends: so, or with a write that was not taken whole
+pub record Run (r : Bool) : Type 0 where
+  pub all : r ≡ true → Ran
+  pub lost : r ≡ false → Lost

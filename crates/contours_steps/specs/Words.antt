@@ -1,16 +1,17 @@
 -- The arguments of the program contours: one contour level or more, each as the rules write a level.
 -- Assumes nothing.
-use Prim.Native.Nat.{ℕ, _≤_, _<_}
+use Prim.Native.Nat.{ℕ, _+_, _≤_, _<_}
 use mathlib.Core.Path.{_≡_}
 use mathlib.Core.Bool.{Bool, true, _&&_}
-use mathlib.Core.List.{List, map}
-use lib.ListN.{length, set, take}
+use mathlib.Core.List.{List, [], map}
+use lib.ListN.{length, getD, set, take}
 use lib.Dec.{leb}
 use Rattle.refusal.specs.Refuse.{refuse}
 use Rattle.text.specs.Number.{levelOf, isGot, valueOf}
 use Rattle.network.specs.Limits.{leastContour, maxContour}
 use Rattle.network.specs.Refusals.{between}
 use Rattle.grid.specs.Row.{all}
+use Rattle.channel.specs.System.{Arguments, Argument}
 use Rattle.contours_steps.specs.declared.words.Given.{Given}
 
 -- the level that a word spells, and whether it is a contour's: from 0.01 to 150.00
@@ -44,9 +45,15 @@ pub record WordTaken (asked : List ℕ) (place : ℕ) (word : List ℕ) (r : Boo
   pub stored : r ≡ true → place < length asked → asked′ ≡ set asked place (wordLevel word)
   pub long : length asked′ ≡ length asked
 
--- all words: as an argument is handed over, one that is longer than any level as an empty one
+-- room for any word that spells a level, and more
+abbrev pub maxWord : ℕ
+maxWord = 16
+
+-- all words, which are the program's arguments as they are handed over: one longer than the room as an empty one
 pub record Gathered (g : Given) (asked : List ℕ) : Type 0 where
   pub words : List (List ℕ)
+  pub told : Arguments (length words)
+  pub each : (i : ℕ) → i < length words → Argument (i + 1) maxWord (getD words i [])
   pub count : g .count ≡ length words
   pub fit : g .fit ≡ all isContour words
   pub stored : g .fit ≡ true → length words ≤ length asked → take (length words) asked ≡ levelsIn words

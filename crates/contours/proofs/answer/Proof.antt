@@ -2,7 +2,7 @@
 use mathlib.Core.Path.{sym}
 use native.Mathlib.Omega.{arith}
 use lib.Seq.{length-take-le}
-use Rattle.contours_steps.proofs.Answers.{came, came-full}
+use Rattle.contours_steps.proofs.Answers.{came-full}
 use borrow.Author.Needs.{needs}
 use Rattle.contours.proofs.answer.Statement.{statement}
 use Rattle.contours.proofs.answer.Tie as tie
@@ -12,8 +12,9 @@ slice-aggregate-judged c = sym (length-take-le _ _ (omega arith))
 
 judged-requires : tie.Need-judged-requires
 judged-requires c κs =
-    let s = c .before .before .before .before in
-    (came (s .pre .0) (s .pre .1 .0) (c .before .if1 .taken), (s .pre .1 .1 .1, s .pre .1 .1 .0))
+    let s : tie.Start = search in
+    let whole : tie.Then1 = search in
+    (s .pre .0 .ends (whole .if1 .taken), (s .pre .1 .1 .1, s .pre .1 .1 .0))
 
 returns : tie.Need-returns
 returns c = search needs
@@ -23,16 +24,19 @@ slice-aggregate-failed c = sym (length-take-le _ _ (omega arith))
 
 failed-requires : tie.Need-failed-requires
 failed-requires c κs =
-    let s = c .before .before .before .before .before in
-    (s .pre .1 .1 .1, came (s .pre .0) (s .pre .1 .0) (c .before .if2 .taken))
+    let s : tie.Start = search in
+    let broken : tie.Then2 = search in
+    (s .pre .0 .fails (broken .if2 .taken), s .pre .1 .1 .1)
 
 returns-2 : tie.Need-returns-2
 returns-2 c = search needs
 
 overlong-requires : tie.Need-overlong-requires
 overlong-requires c κs =
-    let s = c .before .before .before .before in
-    (s .pre .1 .1 .1, came-full (s .pre .0) (s .pre .1 .0) (c .before .if1 .left) (c .if2 .left))
+    let s : tie.Start = search in
+    let not-whole : tie.Else1 = search in
+    let not-broken : tie.Else2 = search in
+    (came-full (s .pre .0) (s .pre .1 .0) (not-whole .if1 .left) (not-broken .if2 .left), s .pre .1 .1 .1)
 
 returns-3 : tie.Need-returns-3
 returns-3 c = search needs

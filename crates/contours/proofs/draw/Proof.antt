@@ -26,69 +26,39 @@ inside s =
     let p = s .pre .1 .1 .1 in
     omega (arith, points (p .1 .0) (p .0), p .1 .0 .fits)
 
-shared-slice-read-t11 : tie.Need-shared-slice-read-t11
-shared-slice-read-t11 c = search needs
-
-shared-slice-read-t13 : tie.Need-shared-slice-read-t13
-shared-slice-read-t13 c = search needs
-
-shared-slice-read-t15 : tie.Need-shared-slice-read-t15
-shared-slice-read-t15 c = search needs
-
-shared-slice-read-t17 : tie.Need-shared-slice-read-t17
-shared-slice-read-t17 c = search needs
-
-shared-slice-read-t19 : tie.Need-shared-slice-read-t19
-shared-slice-read-t19 c = search needs
-
-cast-points : tie.Need-cast-points
-cast-points c = search needs
-
-cast-points-2 : tie.Need-cast-points-2
-cast-points-2 c = search needs
-
 mul-points : tie.Need-mul-points
-mul-points c =
-    let read = c .before .before .before in
-    omega (arith, inside (read .before .before .before .before .before .before .before .before))
+mul-points c = let s : tie.Start = search in omega (arith, inside s)
 
 slice-aggregate-sheet : tie.Need-slice-aggregate-sheet
-slice-aggregate-sheet c =
-    let read = c .before .before .before .before in
-    sym (length-take-le _ _ (inside (read .before .before .before .before .before .before .before .before)))
+slice-aggregate-sheet c = let s : tie.Start = search in sym (length-take-le _ _ (inside s))
 
 slice-aggregate-sheet-2 : tie.Need-slice-aggregate-sheet-2
 slice-aggregate-sheet-2 c =
-    let read = c .before .before .before .before .before in
-    let s = read .before .before .before .before .before .before .before .before in
+    let s : tie.Start = search in
     sym (length-take-le _ _ (omega (arith, given-fine (s .args .given) (s .pre .1 .1 .1 .1 .1) .1, s .pre .1 .1 .0)))
 
 sheet-requires : tie.Need-sheet-requires
 sheet-requires c κs =
-    let read = c .before .before .before .before .before in
-    let s = read .before .before .before .before .before .before .before .before in
+    let s : tie.Start = search in
     let p = s .pre .1 in
     let st = p .1 .1 .1 .0 in
     let frame = frame-back (now (s .args .header)) (textFrame (now (s .args .text))) (st .numbers) in
     let words = words-front (p .0) (p .1 .1 .1 .1) (p .1 .0) in
     (s .pre .0, accepted (p .0) (p .1 .1 .0) (p .1 .1 .1 .1) (rw (points st (p .1 .1 .0)) (st .front)) frame words)
 
-returns : tie.Need-returns
-returns c = search needs
-
 pub draw-spec : {M : Type 1} → statement M
 draw-spec =
     tie.close
     (tie.spec
-    shared-slice-read-t11
-    shared-slice-read-t13
-    shared-slice-read-t15
-    shared-slice-read-t17
-    shared-slice-read-t19
-    cast-points
-    cast-points-2
+    (λ c. search needs)
+    (λ c. search needs)
+    (λ c. search needs)
+    (λ c. search needs)
+    (λ c. search needs)
+    (λ c. search needs)
+    (λ c. search needs)
     mul-points
     slice-aggregate-sheet
     slice-aggregate-sheet-2
     sheet-requires
-    returns)
+    (λ c. search needs))

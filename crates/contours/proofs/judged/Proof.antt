@@ -21,9 +21,10 @@ read-network-requires c κs = search needs
 
 refuse-network-requires : tie.Need-refuse-network-requires
 refuse-network-requires c κs =
-    let read = c .before .before .before in
-    let s = read .before .before .before .before .before in
-    (s .pre .0, (s .pre .1 .0, (read .read-network .ensures .0, c .if1 .taken)))
+    let s : tie.Start = search in
+    let read : tie.After-read-network = search in
+    let some : tie.Then1 = search in
+    (s .pre .0, (s .pre .1 .0, (read .read-network .ensures .0, some .if1 .taken)))
 
 returns : tie.Need-returns
 returns c = search needs
@@ -36,8 +37,8 @@ slice-aggregate-with-words-2 c = search needs
 
 with-words-requires : tie.Need-with-words-requires
 with-words-requires c κs =
-    let read = c .before .before .before .before .before in
-    let s = read .before .before .before .before .before in
+    let s : tie.Start = search in
+    let read : tie.After-read-network = search in
     let r = read .read-network in
     let e = r .ensures in
     let none : r .result ≡ 0 = omega arith in

@@ -9,15 +9,17 @@ refused-line-requires c κs = search needs
 
 refusal-requires : tie.Need-refusal-requires
 refusal-requires c κs =
-    let p = c .before .before .before .pre in
-    (p .0, refused-text (p .1 .0) (p .1 .1 .0) (p .1 .1 .1) (c .refused-line .ensures))
-
-of-network-requires : tie.Need-of-network-requires
-of-network-requires c κs = search needs
-
-returns : tie.Need-returns
-returns c = search needs
+    let s : tie.Start = search in
+    let line : tie.After-refused-line = search in
+    let p = s .pre in
+    (p .0, refused-text (p .1 .0) (p .1 .1 .0) (p .1 .1 .1) (line .refused-line .ensures))
 
 pub refuse-network-spec : {M : Type 1} → statement M
 refuse-network-spec =
-    tie.close (tie.spec refused-line-requires refusal-requires of-network-requires returns)
+    tie.close
+    (tie.spec
+    refused-line-requires
+    refusal-requires
+    (λ c κs. search needs)
+    (λ c. search needs)
+    (λ c. search needs))

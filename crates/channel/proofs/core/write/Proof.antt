@@ -4,7 +4,7 @@ use mathlib.Core.Path.{refl, ap, _∙_}
 use Prim.Native.Nat.{ℕ, _+_}
 use lib.ListN.{length, length-append}
 use borrow.Author.Needs.{needs}
-use Rattle.channel.specs.System.{system-took}
+use Rattle.channel.specs.System.{system-took, system-lost}
 use Rattle.channel.proofs.core.write.Statement.{statement}
 use Rattle.channel.proofs.core.write.Tie as tie
 
@@ -18,6 +18,7 @@ returns c =
         long = length-append old (start .args .part .now)
             ∙ ap (λ (n : ℕ). n + length (start .args .part .now)) (came .long);
       };
+      lost = λ left. system-lost _ left;
     }
 
 pub write-spec : {M : Type 1} → statement M

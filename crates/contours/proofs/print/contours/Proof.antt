@@ -1,8 +1,6 @@
 -- `contours::print::contours` meets its contract: the buffers have room for the edges of every network, and the listed
 -- contours are the network's. Assumes nothing.
-use mathlib.Core.Path.{ap, _∙_}
-use mathlib.Core.List.{List}
-use Prim.Native.Nat.{ℕ, _+_, _≤_}
+use Prim.Native.Nat.{ℕ, _≤_}
 use native.Mathlib.Omega.{arith}
 use denote.Ref.{now}
 use lib.ListN.{length, replicate, length-replicate}
@@ -71,10 +69,11 @@ fronts-requires c κs =
 
 returns : tie.Need-returns
 returns c =
-    let listed = c .before .before .before .before .before .before .before .before in
-    let a = listed .before .before .before .before .before .before .before .before .args in
-    let same = text-front (listed .list-contours .ensures) (now (a .levels)) (a .frame) (a .v) in
-    c .fronts .ensures ∙ ap (λ (t : List ℕ). a .sent .now + length t) same
+    let s : tie.Start = search in
+    let listed : tie.After-list-contours = search in
+    let sent : tie.After-fronts = search in
+    let a = s .args in
+    rw (text-front (listed .list-contours .ensures) (now (a .levels)) (a .frame) (a .v)) at (sent .fronts .ensures)
 
 pub contours-spec : {M : Type 1} → statement M
 contours-spec =

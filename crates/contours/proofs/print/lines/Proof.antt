@@ -1,24 +1,24 @@
 -- `contours::print::lines` meets its contract: the lines of the levels from i on are due. Assumes nothing.
-use mathlib.Core.Path.{_≡_, ap}
 use Prim.Native.Nat.{_+_, _-_, _≤_}
 use native.Mathlib.Omega.{arith}
 use denote.Ref.{now}
-use lib.ListN.{length, getD, drop, length-append}
+use lib.ListN.{length, getD, drop}
 use borrow.Author.Needs.{needs}
+use borrow.Author.Tests.{not-true, not-false}
 use Rattle.contours_steps.specs.Sheet.{levelLine, levelLines, sheetOf}
 use Rattle.contours_steps.specs.Due.{Due}
-use Rattle.contours_steps.proofs.Dues.{due-front, due-rest}
-use Rattle.contours_steps.proofs.Order.{heading-due, lines-due, lines-long, lines-more, lines-none}
+use Rattle.contours_steps.proofs.Dues.{due-front, due-rest, sends-lost, gives, Rest, rest-next, rest-none}
+use Rattle.contours_steps.proofs.Order.{heading-due, lines-due, lines-rest, lines-more, lines-none}
 use Rattle.contours.proofs.print.lines.Statement.{statement}
 use Rattle.contours.proofs.print.lines.Tie as tie
 
 abbrev Inv-loop : tie.InvT-loop
-Inv-loop levels frame asked sent₀ i₀ sent i =
+Inv-loop levels frame asked sent₀ begun i₀ sent i =
     (i ≤ length asked) × (Due (sheetOf levels frame asked) sent (levelLines levels frame (drop i asked)))
-    × (sent + length (levelLines levels frame (drop i asked)) ≡ length (sheetOf levels frame asked))
+    × Rest 0 (sheetOf levels frame asked) sent (levelLines levels frame (drop i asked))
 
 abbrev μ-loop : tie.MeasureT-loop
-μ-loop levels frame asked sent₀ i₀ sent i = length asked - i
+μ-loop levels frame asked sent₀ begun i₀ sent i = length asked - i
 
 slice-aggregate-written : tie.Need-slice-aggregate-written Inv-loop μ-loop
 slice-aggregate-written c = search needs
@@ -28,24 +28,41 @@ written-requires c κs =
     let s = c .before .before .before .before in
     (s .pre, heading-due (now (s .args .levels)) (s .args .frame) (now (s .args .asked)))
 
+returns : tie.Need-returns Inv-loop μ-loop
+returns c =
+    let begun : tie.After-written Inv-loop μ-loop = search in
+    let lost : tie.Then1 Inv-loop μ-loop = search in
+    gives (sends-lost {sent′ = 0} _ (begun .written .ensures .lost (not-true _ (lost .if1 .taken))))
+
 loop-holds : tie.Need-loop-holds Inv-loop μ-loop
 loop-holds c =
-    let a = c .before .before .before .before .before .args in (
+    let s : tie.Start Inv-loop μ-loop = search in
+    let begun : tie.After-written Inv-loop μ-loop = search in
+    let a = s .args in
+    let sent = begun .written .ensures in
+    let taken : tie.Else1 Inv-loop μ-loop = search in
+    let all = not-false _ (taken .if1 .left) in (
       omega arith,
-      lines-due (now (a .levels)) (a .frame) (now (a .asked)) _ (c .written .ensures),
-      lines-long (now (a .levels)) (a .frame) (now (a .asked)) _ (c .written .ensures),
+      lines-due (now (a .levels)) (a .frame) (now (a .asked)) _ (sent .count all),
+      lines-rest (now (a .levels)) (a .frame) (now (a .asked)) all sent,
     )
 
 one-level-requires : tie.Need-one-level-requires Inv-loop μ-loop
 one-level-requires c κs =
-    let loop = c .before .before in
-    let s = loop .before .before .before .before .before .before in
+    let loop : tie.At-loop Inv-loop μ-loop = search in
+    let s : tie.Start Inv-loop μ-loop = search in
     let a = s .args in
     let l = loop .loop in
     let one = levelLine (now (a .levels)) (a .frame) (getD (now (a .asked)) (l .i) 0) in
     let rest = levelLines (now (a .levels)) (a .frame) (drop (l .i + 1) (now (a .asked))) in
     let e = lines-more (now (a .levels)) (a .frame) (now (a .asked)) (l .i) (omega arith) in
     (s .pre, (omega arith, due-front one rest (rw e at (l .inv .1))))
+
+returns-2 : tie.Need-returns-2 Inv-loop μ-loop
+returns-2 c =
+    let one : tie.After-one-level Inv-loop μ-loop = search in
+    let lost : tie.Then2 Inv-loop μ-loop = search in
+    gives (sends-lost {sent′ = 0} _ (one .one-level .ensures .lost (not-true _ (lost .if2 .taken))))
 
 add-i : tie.Need-add-i Inv-loop μ-loop
 add-i c = search needs
@@ -55,23 +72,29 @@ loop-less c = omega arith
 
 loop-again : tie.Need-loop-again Inv-loop μ-loop
 loop-again c =
-    let loop = c .before .before .before in
-    let a = loop .before .before .before .before .before .before .args in
+    let loop : tie.At-loop Inv-loop μ-loop = search in
+    let s : tie.Start Inv-loop μ-loop = search in
+    let w : tie.After-one-level Inv-loop μ-loop = search in
+    let taken : tie.Else2 Inv-loop μ-loop = search in
+    let a = s .args in
     let l = loop .loop in
+    let sent = w .one-level .ensures in
+    let all = not-false _ (taken .if2 .left) in
     let one = levelLine (now (a .levels)) (a .frame) (getD (now (a .asked)) (l .i) 0) in
     let rest = levelLines (now (a .levels)) (a .frame) (drop (l .i + 1) (now (a .asked))) in
     let e = lines-more (now (a .levels)) (a .frame) (now (a .asked)) (l .i) (omega arith) in (
       omega arith,
-      rw (c .one-level .ensures) (due-rest one rest (rw e at (l .inv .1))),
-      omega (arith, c .one-level .ensures, ap length e, length-append one rest, l .inv .2),
+      rw (sent .count all) (due-rest one rest (rw e at (l .inv .1))),
+      rest-next one rest (rw e at (l .inv .2)) all sent,
     )
 
-returns : tie.Need-returns Inv-loop μ-loop
-returns c =
-    let loop = c .before in
-    let a = loop .before .before .before .before .before .before .args in
+returns-3 : tie.Need-returns-3 Inv-loop μ-loop
+returns-3 c =
+    let loop : tie.At-loop Inv-loop μ-loop = search in
+    let s : tie.Start Inv-loop μ-loop = search in
+    let a = s .args in
     let l = loop .loop in
-    omega (arith, l .inv .2, ap length (lines-none (now (a .levels)) (a .frame) (now (a .asked)) (l .i) (omega arith)))
+    gives (rest-none (l .inv .2) (lines-none (now (a .levels)) (a .frame) (now (a .asked)) (l .i) (omega arith)))
 
 pub lines-spec : {M : Type 1} → statement M
 lines-spec =
@@ -81,9 +104,11 @@ lines-spec =
     μ-loop
     slice-aggregate-written
     written-requires
+    returns
     loop-holds
     one-level-requires
+    returns-2
     add-i
     loop-less
     loop-again
-    returns)
+    returns-3)

@@ -2,15 +2,13 @@
 -- Assumes nothing.
 use mathlib.Core.List.{List, _++_}
 use Prim.Native.Nat.{ℕ}
-use native.Mathlib.Omega.{arith}
 use denote.Ref.{now}
 use lib.ListN.{getD}
 use Rattle.wkt.specs.Calls.{networkText}
-use Rattle.contours_steps.specs.Sheet.{lineEnd, lineStart, sheetOf}
-use Rattle.contours_steps.specs.Due.{Due}
-use Rattle.contours_steps.proofs.Dues.{due-front, due-rest}
-use Rattle.contours_steps.proofs.Short.{line-length}
+use Rattle.contours_steps.specs.Sheet.{lineEnd, lineStart}
+use Rattle.contours_steps.proofs.Dues.{due-front, due-rest, sends-lost, sends-then}
 use borrow.Author.Needs.{needs}
+use borrow.Author.Tests.{not-true, not-false}
 use Rattle.contours.proofs.print.one_level.Statement.{statement}
 use Rattle.contours.proofs.print.one_level.Tie as tie
 
@@ -29,34 +27,56 @@ shared-slice-read-v c = search needs
 
 start-requires : tie.Need-start-requires
 start-requires c κs =
-    let s = c .before .before .before .before in
+    let s : tie.Start = search in
     (s .pre .0, (s .pre .1 .0, due-front (lineStart (v s)) (text s ++ lineEnd) (s .pre .1 .1)))
+
+returns : tie.Need-returns
+returns c =
+    let begun : tie.After-start = search in
+    sends-lost _ (begun .start .ensures .lost (not-true _ (c .if1 .taken)))
 
 contours-requires : tie.Need-contours-requires
 contours-requires c κs =
-    let started = c .before in
-    let s = started .before .before .before .before .before in
+    let s : tie.Start = search in
+    let begun : tie.After-start = search in
+    let else1 : tie.Else1 = search in
+    let all = not-false _ (else1 .if1 .left) in
     let rest = due-rest (lineStart (v s)) (text s ++ lineEnd) (s .pre .1 .1) in
-    (s .pre .0, rw (started .start .ensures) (due-front (text s) lineEnd rest))
+    (s .pre .0, rw (begun .start .ensures .count all) (due-front (text s) lineEnd rest))
+
+returns-2 : tie.Need-returns-2
+returns-2 c =
+    let drawn : tie.After-contours = search in
+    sends-lost _ (drawn .contours .ensures .lost (not-true _ (c .if2 .taken)))
 
 slice-aggregate-written : tie.Need-slice-aggregate-written
 slice-aggregate-written c = search needs
 
 written-requires : tie.Need-written-requires
 written-requires c κs =
-    let drawn = c .before .before in
-    let started = drawn .before .before in
-    let s = started .before .before .before .before .before in
-    let rest = due-rest (lineStart (v s)) (text s ++ lineEnd) (s .pre .1 .1) in
-    (s .pre .0, rw (drawn .contours .ensures, started .start .ensures) (due-rest (text s) lineEnd rest))
+    let s : tie.Start = search in
+    let begun : tie.After-start = search in
+    let drawn : tie.After-contours = search in
+    let else1 : tie.Else1 = search in
+    let else2 : tie.Else2 = search in
+    let rest = due-rest (lineStart (v s)) (text s ++ lineEnd) (s .pre .1 .1) in (
+      s .pre .0,
+      rw (
+        drawn .contours .ensures .count (not-false _ (else2 .if2 .left)),
+        begun .start .ensures .count (not-false _ (else1 .if1 .left)),
+      ) (due-rest (text s) lineEnd rest),
+    )
 
-returns : tie.Need-returns
-returns c =
-    let drawn = c .before .before .before in
-    let started = drawn .before .before in
-    let s = started .before .before .before .before .before in
-    let long = line-length (now (s .args .levels)) (s .args .frame) (v s) in
-    omega (arith, c .written .ensures, drawn .contours .ensures, started .start .ensures, long)
+returns-3 : tie.Need-returns-3
+returns-3 c =
+    let s : tie.Start = search in
+    let begun : tie.After-start = search in
+    let drawn : tie.After-contours = search in
+    let sent : tie.After-written = search in
+    let else1 : tie.Else1 = search in
+    let else2 : tie.Else2 = search in
+    sends-then (lineStart (v s)) (text s ++ lineEnd) (not-false _ (else1 .if1 .left)) (begun .start .ensures)
+    (sends-then (text s) lineEnd (not-false _ (else2 .if2 .left)) (drawn .contours .ensures) (sent .written .ensures))
 
 pub one-level-spec : {M : Type 1} → statement M
 one-level-spec =
@@ -65,7 +85,9 @@ one-level-spec =
     mul-v
     shared-slice-read-v
     start-requires
+    returns
     contours-requires
+    returns-2
     slice-aggregate-written
     written-requires
-    returns)
+    returns-3)

@@ -8,13 +8,14 @@ use denote.Ref.{now}
 use lib.ListN.{length, take, length-append}
 use lib.Seq.{length-take-le}
 use borrow.Author.Needs.{needs}
+use borrow.Author.Tests.{not-true, not-false}
 use Rattle.wkt.specs.Text.{textOf}
 use Rattle.wkt.specs.InnerParts.{Reached, leftOf, linesFrom}
 use Rattle.wkt.proofs.Lengths.{piece-short}
 use Rattle.wkt.proofs.Steps.{left-first, left-end, reached-first}
 use Rattle.contours_steps.specs.Sheet.{sheetOf}
 use Rattle.contours_steps.specs.Due.{Due}
-use Rattle.contours_steps.proofs.Dues.{due-front, due-rest}
+use Rattle.contours_steps.proofs.Dues.{due-front, due-rest, sends-lost, Rest, rest-all, rest-next, rest-none}
 use Rattle.contours.proofs.print.parts.Statement.{statement}
 use Rattle.contours.proofs.print.parts.Tie as tie
 
@@ -22,8 +23,8 @@ abbrev Inv-loop : tie.InvT-loop
 Inv-loop levels frame asked v edges counts closed sent₀ room₀ at₀ sent room at =
     (Reached edges counts closed at) × (length room ≡ 4096)
     × (Due (sheetOf levels frame asked) sent (leftOf levels frame v edges counts closed at))
-    × (sent + length (leftOf levels frame v edges counts closed at)
-    ≡ sent₀ + length (textOf levels frame v (linesFrom edges counts closed)))
+    × Rest sent₀ (textOf levels frame v (linesFrom edges counts closed)) sent
+    (leftOf levels frame v edges counts closed at)
 
 abbrev μ-loop : tie.MeasureT-loop
 μ-loop levels frame asked v edges counts closed sent₀ room₀ at₀ sent room at =
@@ -49,7 +50,8 @@ loop-holds c =
           (from .ensures),
       sym (c .before .buffer .ensures),
       rw e (s .pre .1 .1),
-      rw e refl,
+      rw e (rest-all (a .sent .now) (textOf (now (a .levels)) (a .frame) (a .v)
+          (linesFrom (now (a .edges)) (now (a .counts)) (now (a .closed))))),
     )
 
 slice-aggregate-print-part : tie.Need-slice-aggregate-print-part Inv-loop μ-loop
@@ -80,11 +82,18 @@ written-requires c κs =
     leftOf (now (a .levels)) (a .frame) (a .v) (now (a .edges)) (now (a .counts)) (now (a .closed)) (p .result .next) in
     (s .pre .0, due-front bytes left (rw (p .ensures .joined) at (loop .loop .inv .2)))
 
+returns : tie.Need-returns Inv-loop μ-loop
+returns c =
+    let w : tie.After-written Inv-loop μ-loop = search in
+    let lost : tie.Then2 Inv-loop μ-loop = search in
+    sends-lost _ (w .written .ensures .lost (not-true _ (lost .if2 .taken)))
+
 loop-less : tie.Need-loop-less Inv-loop μ-loop
 loop-less c =
-    let part = c .before .before .before .before .before in
-    let loop = part .before .before .before .before in
-    let a = loop .before .before .before .before .before .before .before .before .args in
+    let part : tie.After-print-part Inv-loop μ-loop = search in
+    let loop : tie.At-loop Inv-loop μ-loop = search in
+    let start : tie.Start Inv-loop μ-loop = search in
+    let a = start .args in
     let p = part .print-part in
     let e = p .ensures in
     let l = loop .loop in
@@ -108,8 +117,11 @@ loop-less c =
 
 loop-again : tie.Need-loop-again Inv-loop μ-loop
 loop-again c =
-    let part = c .before .before .before .before .before in
-    let loop = part .before .before .before .before in
+    let w : tie.After-written Inv-loop μ-loop = search in
+    let taken : tie.Else2 Inv-loop μ-loop = search in
+    let all = not-false _ (taken .if2 .left) in
+    let part : tie.After-print-part Inv-loop μ-loop = search in
+    let loop : tie.At-loop Inv-loop μ-loop = search in
     let a = loop .before .before .before .before .before .before .before .before .args in
     let p = part .print-part in
     let e = p .ensures in
@@ -120,19 +132,20 @@ loop-again c =
     (p .result .next) in (
       e .reached,
       omega (arith, e .long, l .inv .1),
-      rw (c .before .written .ensures) (due-rest bytes left (rw (e .joined) at (l .inv .2))),
-      omega (arith, c .before .written .ensures, ap length (e .joined), length-append bytes left, l .inv .3),
+      rw (w .written .ensures .count all) (due-rest bytes left (rw (e .joined) at (l .inv .2))),
+      rest-next bytes left (rw (e .joined) at (l .inv .3)) all (w .written .ensures),
     )
 
-returns : tie.Need-returns Inv-loop μ-loop
-returns c =
-    let loop = c .before .before in
-    let a = loop .before .before .before .before .before .before .before .before .args in
+returns-2 : tie.Need-returns-2 Inv-loop μ-loop
+returns-2 c =
+    let loop : tie.At-loop Inv-loop μ-loop = search in
+    let start : tie.Start Inv-loop μ-loop = search in
+    let a = start .args in
     let l = loop .loop in
     let none =
     left-end (now (a .levels)) (a .frame) (a .v) (now (a .edges)) (now (a .counts)) (now (a .closed)) (l .at)
     (omega arith) in
-    omega (arith, l .inv .3, ap length none)
+    rest-none (l .inv .3) none
 
 pub parts-spec : {M : Type 1} → statement M
 parts-spec =
@@ -148,6 +161,7 @@ parts-spec =
     array-share-prefix-room
     slice-aggregate-written
     written-requires
+    returns
     loop-less
     loop-again
-    returns)
+    returns-2)

@@ -1,9 +1,6 @@
 -- `contours::print::start` meets its contract: what is written is what is due. Assumes nothing.
-use mathlib.Core.Path.{sym, ap, _∙_}
-use mathlib.Core.List.{List}
-use Prim.Native.Nat.{ℕ, _+_}
+use mathlib.Core.Path.{sym}
 use native.Mathlib.Omega.{arith}
-use lib.ListN.{length}
 use lib.Seq.{length-take-le}
 use Rattle.room.proofs.Laws.{wrote-front, wrote-fits}
 use borrow.Author.Needs.{needs}
@@ -38,10 +35,9 @@ written-requires c κs =
 
 returns : tie.Need-returns
 returns c =
-    let put = c .before .before .before .before in
-    let s = put .before .before .before .before .before in
-    c .written .ensures
-    ∙ ap (λ (t : List ℕ). s .args .sent .now + length t) (wrote-front (put .put-start .ensures))
+    let put : tie.After-put-start = search in
+    let sent : tie.After-written = search in
+    rw (wrote-front (put .put-start .ensures)) at (sent .written .ensures)
 
 pub start-spec : {M : Type 1} → statement M
 start-spec =

@@ -1,16 +1,16 @@
--- `contours::main`: what was read and gathered is handed on. Assumes nothing.
+-- `contours::run`: what was read and gathered is handed on. Assumes nothing.
 use mathlib.Core.Path.{_∙_}
 use Prim.Native.Nat.{ℕ}
 use lib.ListN.{length-replicate}
 use borrow.Author.Needs.{needs}
-use Rattle.contours.proofs.main.Statement.{statement}
-use Rattle.contours.proofs.main.Tie as tie
+use Rattle.contours.proofs.run.Statement.{statement}
+use Rattle.contours.proofs.run.Tie as tie
 
-slice-aggregate-read-text : tie.Need-slice-aggregate-read-text
-slice-aggregate-read-text c = search needs
+slice-aggregate-read-all : tie.Need-slice-aggregate-read-all
+slice-aggregate-read-all c = search needs
 
-read-text-requires : tie.Need-read-text-requires
-read-text-requires c κs = search needs
+read-all-requires : tie.Need-read-all-requires
+read-all-requires c κs = search needs
 
 slice-aggregate-gather : tie.Need-slice-aggregate-gather
 slice-aggregate-gather c = search needs
@@ -26,8 +26,10 @@ slice-aggregate-answer-2 c = search needs
 
 answer-requires : tie.Need-answer-requires
 answer-requires c κs =
-    let t = c .before .before .before .before .before .before .read-text in
-    let g = c .before .before .before .gather in (
+    let read : tie.After-read-all = search in
+    let given : tie.After-gather = search in
+    let t = read .read-all in
+    let g = given .gather in (
       t .ensures,
       (
         t .kept .0 ∙ length-replicate {A = ℕ} 600000 0,
@@ -38,12 +40,12 @@ answer-requires c κs =
 returns : tie.Need-returns
 returns c = search needs
 
-pub main-spec : {M : Type 1} → statement M
-main-spec =
+pub run-spec : {M : Type 1} → statement M
+run-spec =
     tie.close
     (tie.spec
-    slice-aggregate-read-text
-    read-text-requires
+    slice-aggregate-read-all
+    read-all-requires
     slice-aggregate-gather
     gather-requires
     slice-aggregate-answer
