@@ -35,50 +35,55 @@ const HEADER_NUMBERS: usize = 5;
 const MAX_POINTS: usize = MAX_SIDE as usize * MAX_SIDE as usize;
 
 fn main() {
-    let taken = run();
+    let mut sent = 0;
+    let taken = run(&mut sent);
     if !taken {
         io::write_all(STDERR_FILENO, b"the output could not be written\n");
     }
 }
 
-// All of it: what is read and given is answered. As each function from here on, it answers whether all was taken.
-fn run() -> bool
-    ensures { λ r. ⌜ Run r ⌝ }
+// All of it: what is read and given is answered. As each function from here on, it answers whether all was taken, and
+// moves the one count of bytes that went.
+fn run(sent: &mut usize) -> bool
+    requires { ⌜ now sent ≡ 0 ⌝ }
+    ensures { λ r. ⌜ Run r (now (sent .exit)) ⌝ }
 {
     let mut text = [0u8; MAX_TEXT];
     let mut asked = [0u32; MAX_CONTOUR_LEVELS];
     let read = channel::whole::read_all(&mut text);
     let given = input::gather(&mut asked);
-    answer(&text, read, &asked, given)
+    answer(&text, read, &asked, given, sent)
 }
 
 // What the reading came to: only a network that was read to its end is judged.
-fn answer(text: &[u8], read: Filled, asked: &[u32], given: Given) -> bool
+fn answer(text: &[u8], read: Filled, asked: &[u32], given: Given, sent: &mut usize) -> bool
     requires { ⌜ Fills input read (now text) ⌝ }
     requires { ⌜ length (now text) ≡ maxText ⌝ }
     requires { ⌜ length (now asked) ≡ maxContourLevels ⌝ }
     requires { ⌜ Gathered given (now asked) ⌝ }
-    ensures { λ r. ⌜ Run r ⌝ }
+    requires { ⌜ now sent ≡ 0 ⌝ }
+    ensures { λ r. ⌜ Run r (now (sent .exit)) ⌝ }
 {
     let size = read.size;
     let state = read.state;
     if state == COMPLETE {
-        return judged(&text[..size], asked, given);
+        return judged(&text[..size], asked, given, sent);
     }
     if state == FAILED {
-        return failed(&text[..size], asked, given);
+        return failed(&text[..size], asked, given, sent);
     }
-    overlong(text, asked, given)
+    overlong(text, asked, given, sent)
 }
 
 // The bytes can't be read on, which is never taken for their end.
-fn failed(text: &[u8], asked: &[u32], given: Given) -> bool
+fn failed(text: &[u8], asked: &[u32], given: Given, sent: &mut usize) -> bool
     requires { ⌜ ReadFailed (now text) ⌝ }
     requires { ⌜ Gathered given (now asked) ⌝ }
-    ensures { λ r. ⌜ Run r ⌝ }
+    requires { ⌜ now sent ≡ 0 ⌝ }
+    ensures { λ r. ⌜ Run r (now (sent .exit)) ⌝ }
 {
     let line = line_begun(text);
-    let taken = print::failure(text, asked, given, line as u64);
+    let taken = print::failure(text, asked, given, line as u64, sent);
     if taken {
         say::of_read_error(line as u64);
     }
@@ -86,13 +91,14 @@ fn failed(text: &[u8], asked: &[u32], given: Given) -> bool
 }
 
 // The bytes fill the buffer.
-fn overlong(text: &[u8], asked: &[u32], given: Given) -> bool
+fn overlong(text: &[u8], asked: &[u32], given: Given, sent: &mut usize) -> bool
     requires { ⌜ ReadFull (now text) ⌝ }
     requires { ⌜ Gathered given (now asked) ⌝ }
-    ensures { λ r. ⌜ Run r ⌝ }
+    requires { ⌜ now sent ≡ 0 ⌝ }
+    ensures { λ r. ⌜ Run r (now (sent .exit)) ⌝ }
 {
     let line = overlong_line(text);
-    let taken = print::overlong(text, asked, given, line as u64);
+    let taken = print::overlong(text, asked, given, line as u64, sent);
     if taken {
         say::of_overlong(line as u64);
     }
@@ -100,30 +106,32 @@ fn overlong(text: &[u8], asked: &[u32], given: Given) -> bool
 }
 
 // The whole network is judged, and then the words.
-fn judged(text: &[u8], asked: &[u32], given: Given) -> bool
+fn judged(text: &[u8], asked: &[u32], given: Given, sent: &mut usize) -> bool
     requires { ⌜ ReadWhole (now text) ⌝ }
     requires { ⌜ Gathered given (now asked) ⌝ }
     requires { ⌜ length (now asked) ≡ maxContourLevels ⌝ }
-    ensures { λ r. ⌜ Run r ⌝ }
+    requires { ⌜ now sent ≡ 0 ⌝ }
+    ensures { λ r. ⌜ Run r (now (sent .exit)) ⌝ }
 {
     let mut header = [0u32; HEADER_NUMBERS];
     let mut levels = [0u32; MAX_POINTS];
     let why = grid::read::read_network(text, &mut header, &mut levels);
     if why != 0 {
-        return refuse_network(text, why, asked, given);
+        return refuse_network(text, why, asked, given, sent);
     }
-    with_words(text, &header, &levels, asked, given)
+    with_words(text, &header, &levels, asked, given, sent)
 }
 
 // The network is refused.
-fn refuse_network(text: &[u8], why: u32, asked: &[u32], given: Given) -> bool
+fn refuse_network(text: &[u8], why: u32, asked: &[u32], given: Given, sent: &mut usize) -> bool
     requires { ⌜ ReadWhole (now text) ⌝ }
     requires { ⌜ Gathered given (now asked) ⌝ }
     requires { ⌜ (why ≡ textRefusal (now text)) × (why ≡ 0 → ⊥) ⌝ }
-    ensures { λ r. ⌜ Run r ⌝ }
+    requires { ⌜ now sent ≡ 0 ⌝ }
+    ensures { λ r. ⌜ Run r (now (sent .exit)) ⌝ }
 {
     let line = refused_line(text, why);
-    let taken = print::refusal(text, asked, given, why, line);
+    let taken = print::refusal(text, asked, given, why, line, sent);
     if taken {
         say::of_network(why, line);
     }
@@ -141,19 +149,27 @@ fn refused_line(text: &[u8], why: u32) -> u64
 }
 
 // The words, for a network that is not refused.
-fn with_words(text: &[u8], header: &[u32], levels: &[u32], asked: &[u32], given: Given) -> bool
+fn with_words(
+    text: &[u8],
+    header: &[u32],
+    levels: &[u32],
+    asked: &[u32],
+    given: Given,
+    sent: &mut usize,
+) -> bool
     requires { ⌜ ReadWhole (now text) ⌝ }
     requires { ⌜ Gathered given (now asked) ⌝ }
     requires { ⌜ length (now asked) ≡ maxContourLevels ⌝ }
     requires { ⌜ textRefusal (now text) ≡ 0 ⌝ }
     requires { ⌜ Stored (now text) (now header) (now levels) ⌝ }
-    ensures { λ r. ⌜ Run r ⌝ }
+    requires { ⌜ now sent ≡ 0 ⌝ }
+    ensures { λ r. ⌜ Run r (now (sent .exit)) ⌝ }
 {
     let why = words_refusal(given);
     if why == 0 {
-        return draw(text, header, levels, asked, given);
+        return draw(text, header, levels, asked, given, sent);
     }
-    let taken = print::refusal(text, asked, given, why, 0);
+    let taken = print::refusal(text, asked, given, why, 0, sent);
     if taken {
         say::of_levels(why);
     }
@@ -161,14 +177,22 @@ fn with_words(text: &[u8], header: &[u32], levels: &[u32], asked: &[u32], given:
 }
 
 // The sheet of a network and words that are not refused.
-fn draw(text: &[u8], header: &[u32], levels: &[u32], asked: &[u32], given: Given) -> bool
+fn draw(
+    text: &[u8],
+    header: &[u32],
+    levels: &[u32],
+    asked: &[u32],
+    given: Given,
+    sent: &mut usize,
+) -> bool
     requires { ⌜ ReadWhole (now text) ⌝ }
     requires { ⌜ Gathered given (now asked) ⌝ }
     requires { ⌜ length (now asked) ≡ maxContourLevels ⌝ }
     requires { ⌜ textRefusal (now text) ≡ 0 ⌝ }
     requires { ⌜ Stored (now text) (now header) (now levels) ⌝ }
     requires { ⌜ givenRefusal given ≡ 0 ⌝ }
-    ensures { λ r. ⌜ Run r ⌝ }
+    requires { ⌜ now sent ≡ 0 ⌝ }
+    ensures { λ r. ⌜ Run r (now (sent .exit)) ⌝ }
 {
     let frame = Frame {
         columns: header[0],
@@ -186,5 +210,6 @@ fn draw(text: &[u8], header: &[u32], levels: &[u32], asked: &[u32], given: Given
         &levels[..points],
         frame,
         &asked[..count],
+        sent,
     )
 }

@@ -18,7 +18,7 @@ ghost use Rattle.contours_steps.specs.Sheet.{lineStart, levelLine, sheetOf, ref
 ghost use Rattle.contours_steps.specs.Words.{Gathered};
 ghost use Rattle.contours_steps.specs.Drawing.{Accepted, Refused};
 ghost use Rattle.contours_steps.specs.InnerDrawing.{Drawable};
-ghost use Rattle.contours_steps.specs.Due.{Due, Sends, Gives};
+ghost use Rattle.contours_steps.specs.Due.{Due, Sends};
 ghost use Rattle.contours_steps.specs.Answer.{ReadWhole, ReadFailed, ReadFull, Answered, Run};
 
 // The one write of a part of the sheet, which is due past the `sent` bytes before it. It answers, as each function
@@ -39,27 +39,29 @@ pub(crate) fn sheet(
     levels: &[u32],
     frame: Frame,
     asked: &[u32],
+    sent: &mut usize,
 ) -> bool
     requires { ⌜ ReadWhole (now text) ⌝ }
     requires { ⌜ Accepted (now text) given (now room) (now levels) frame (now asked) ⌝ }
-    ensures { λ r. ⌜ Run r ⌝ }
+    requires { ⌜ now sent ≡ 0 ⌝ }
+    ensures { λ r. ⌜ Run r (now (sent .exit)) ⌝ }
 {
-    lines(levels, frame, asked)
+    lines(levels, frame, asked, sent)
 }
 
 // Its heading and its lines, to its end.
-fn lines(levels: &[u32], frame: Frame, asked: &[u32]) -> bool
+fn lines(levels: &[u32], frame: Frame, asked: &[u32], sent: &mut usize) -> bool
     requires { ⌜ Drawable (now levels) frame (now asked) ⌝ }
-    ensures { λ r. ⌜ Gives (sheetOf (now (levels .entry)) frame (now (asked .entry))) r ⌝ }
+    requires { ⌜ now sent ≡ 0 ⌝ }
+    ensures { λ r. ⌜ Sends 0 (sheetOf (now (levels .entry)) frame (now (asked .entry))) r (now (sent .exit)) ⌝ }
 {
-    let mut sent = 0;
-    let begun = written(levels, frame, asked, &mut sent, b"level;wkt\r\n");
+    let begun = written(levels, frame, asked, sent, b"level;wkt\r\n");
     if !begun {
         return false;
     }
     let mut i = 0;
     while i < asked.len() {
-        let taken = one_level(levels, frame, asked, i, &mut sent);
+        let taken = one_level(levels, frame, asked, i, sent);
         if !taken {
             return false;
         }
@@ -188,49 +190,73 @@ fn parts(
 
 // The one line of a refusal: of a text and words that are refused, of bytes that can't be read on, and of bytes that
 // fill the buffer.
-pub(crate) fn refusal(text: &[u8], asked: &[u32], given: Given, number: u32, line: u64) -> bool
+pub(crate) fn refusal(
+    text: &[u8],
+    asked: &[u32],
+    given: Given,
+    number: u32,
+    line: u64,
+    sent: &mut usize,
+) -> bool
     requires { ⌜ ReadWhole (now text) ⌝ }
     requires { ⌜ Refused (now text) given (now asked) number line ⌝ }
-    ensures { λ r. ⌜ Run r ⌝ }
+    requires { ⌜ now sent ≡ 0 ⌝ }
+    ensures { λ r. ⌜ Run r (now (sent .exit)) ⌝ }
 {
-    refused(text, asked, given, number, line)
+    refused(text, asked, given, number, line, sent)
 }
 
-pub(crate) fn failure(text: &[u8], asked: &[u32], given: Given, line: u64) -> bool
+pub(crate) fn failure(text: &[u8], asked: &[u32], given: Given, line: u64, sent: &mut usize) -> bool
     requires { ⌜ ReadFailed (now text) ⌝ }
     requires { ⌜ Gathered given (now asked) ⌝ }
     requires { ⌜ line ≡ lineBegun (now text) ⌝ }
-    ensures { λ r. ⌜ Run r ⌝ }
+    requires { ⌜ now sent ≡ 0 ⌝ }
+    ensures { λ r. ⌜ Run r (now (sent .exit)) ⌝ }
 {
-    refused(text, asked, given, 17, line)
+    refused(text, asked, given, 17, line, sent)
 }
 
-pub(crate) fn overlong(text: &[u8], asked: &[u32], given: Given, line: u64) -> bool
+pub(crate) fn overlong(
+    text: &[u8],
+    asked: &[u32],
+    given: Given,
+    line: u64,
+    sent: &mut usize,
+) -> bool
     requires { ⌜ ReadFull (now text) ⌝ }
     requires { ⌜ Gathered given (now asked) ⌝ }
     requires { ⌜ line ≡ overlongLine (now text) ⌝ }
-    ensures { λ r. ⌜ Run r ⌝ }
+    requires { ⌜ now sent ≡ 0 ⌝ }
+    ensures { λ r. ⌜ Run r (now (sent .exit)) ⌝ }
 {
     if line == 0 {
-        return refused(text, asked, given, 12, 0);
+        return refused(text, asked, given, 12, 0, sent);
     }
-    refused(text, asked, given, 17, line)
+    refused(text, asked, given, 17, line, sent)
 }
 
-fn refused(text: &[u8], asked: &[u32], given: Given, number: u32, line: u64) -> bool
+fn refused(
+    text: &[u8],
+    asked: &[u32],
+    given: Given,
+    number: u32,
+    line: u64,
+    sent: &mut usize,
+) -> bool
     requires { ⌜ Answered (now text) given (now asked) (refusedLine number line) ⌝ }
-    ensures { λ r. ⌜ Run r ⌝ }
+    requires { ⌜ now sent ≡ 0 ⌝ }
+    ensures { λ r. ⌜ Run r (now (sent .exit)) ⌝ }
 {
     let mut room = [0u8; 64];
     let n = put_refused(&mut room, number, line);
-    write(text, asked, given, &room[..n])
+    write(text, asked, given, sent, &room[..n])
 }
 
 // The one write of a refusal: no other text than what the reading and the words come to may be handed to it.
-fn write(text: &[u8], asked: &[u32], given: Given, out: &[u8]) -> bool
+fn write(text: &[u8], asked: &[u32], given: Given, sent: &mut usize, out: &[u8]) -> bool
     requires { ⌜ Answered (now text) given (now asked) (now out) ⌝ }
-    ensures { λ r. ⌜ Run r ⌝ }
+    requires { ⌜ now sent ≡ 0 ⌝ }
+    ensures { λ r. ⌜ Run r (now (sent .exit)) ⌝ }
 {
-    let mut sent = 0;
-    channel::core::write(&mut sent, out)
+    channel::core::write(sent, out)
 }

@@ -2,12 +2,12 @@
 use Prim.Native.Nat.{ℕ}
 use mathlib.Core.Path.{_≡_, refl, sym, ap, subst, _∙_}
 use mathlib.Core.Bool.{Bool}
-use mathlib.Core.List.{List}
+use mathlib.Core.List.{List, []}
 use native.Mathlib.Omega.{arith}
 use borrow.Author.Tests.{eq-eqb, ne-eqb}
 use lib.ListN.{length, take}
 use lib.Seq.{take-length}
-use Rattle.channel.specs.System.{First}
+use Rattle.channel.specs.System.{First, none-went}
 use Rattle.channel.specs.Input.{Fills, input, complete, failed}
 use Rattle.channel.specs.declared.whole.Filled.{Filled}
 use Rattle.network.specs.declared.Frame.{Frame}
@@ -15,7 +15,7 @@ use Rattle.contours_steps.specs.declared.words.Given.{Given}
 use Rattle.contours_steps.specs.Words.{Gathered}
 use Rattle.contours_steps.specs.Sheet.{refusedLine, sheetOf, lineBegun, maxText, overlongLine, overlongOf}
 use Rattle.contours_steps.specs.Drawing.{Accepted, Refused}
-use Rattle.contours_steps.specs.Due.{Gives}
+use Rattle.contours_steps.specs.Due.{Sends}
 use Rattle.contours_steps.specs.Answer.{ReadWhole, ReadFailed, ReadFull, TextFor, Answered, Run}
 use Rattle.contours_steps.specs.Answer.TextFor.{whole, fails, full}
 use Rattle.contours_steps.proofs.Drawings.{refused-written, accepted-written}
@@ -51,9 +51,10 @@ module _ {bytes asked : List ℕ} {g : Given} where
     unfolding overlongOf
     answered-line ne = record { given = w; is = full k (rw (← e, ne-eqb line 0 ne) refl) }
 
-  -- the run that it ends
-  pub ran : {out : List ℕ} {r : Bool} → Answered bytes g asked out → Gives out r → Run r
-  ran {out} a s =
+  -- the run that it ends, from nothing sent on
+  pub ran : {out : List ℕ} {r : Bool} {sent sent′ : ℕ} → Answered bytes g asked out → sent ≡ 0
+      → Sends sent out r sent′ → Run r sent′
+  ran {out} a z s =
       record {
         all = λ e. record {
           bytes = bytes;
@@ -61,7 +62,7 @@ module _ {bytes asked : List ℕ} {g : Given} where
           asked = asked;
           out = out;
           answered = a;
-          sent = s .all e;
+          went = s .went e [] (record { first = none-went; long = sym z });
         };
         lost = s .lost;
       }

@@ -5,9 +5,9 @@ use mathlib.Core.Bool.{Bool, true, false}
 use mathlib.Core.List.{List, [], _∷_, _++_, append-assoc, append-nil}
 use native.Mathlib.Omega.{arith}
 use lib.ListN.{length, length-append}
-use Rattle.channel.specs.System.{Lost, none-went}
+use Rattle.channel.specs.System.{Lost}
 use Rattle.channel.specs.Output.{Went, Writes}
-use Rattle.contours_steps.specs.Due.{Due, Sends, Gives}
+use Rattle.contours_steps.specs.Due.{Due, Sends}
 
 -- the whole is due from its start
 pub due-whole : (whole : List ℕ) → Due whole 0 whole
@@ -76,10 +76,6 @@ sends-then {a} {b} {c} s t all x y =
       went = λ e old w. subst (Went c) (append-assoc old s t) (y .went e (old ++ s) (x .went all old w));
       lost = y .lost;
     }
-
--- from nothing sent on
-pub gives : {text : List ℕ} {r : Bool} {sent : ℕ} → Sends 0 text r sent → Gives text r
-gives s = record { all = λ e. s .went e [] (record { first = none-went; long = refl }) .first; lost = s .lost }
 
 -- with what is left, all is sent
 pub record Rest (sent₀ : ℕ) (whole : List ℕ) (sent : ℕ) (left : List ℕ) : Type 0 where

@@ -4,7 +4,7 @@ use mathlib.Core.Path.{_≡_}
 use mathlib.Core.Bool.{Bool, true, false}
 use mathlib.Core.List.{List, _++_}
 use lib.ListN.{length}
-use Rattle.channel.specs.System.{Sent, Lost}
+use Rattle.channel.specs.System.{Lost}
 use Rattle.channel.specs.Output.{Went}
 
 -- the part stands in the whole at `at`
@@ -18,9 +18,4 @@ pub record Due (whole : List ℕ) (at : ℕ) (part : List ℕ) : Type 0 where
 pub record Sends (sent : ℕ) (text : List ℕ) (r : Bool) (sent′ : ℕ) : Type 0 where
   pub count : r ≡ true → sent′ ≡ sent + length text
   pub went : r ≡ true → (old : List ℕ) → Went sent old → Went sent′ (old ++ text)
-  pub lost : r ≡ false → Lost
-
--- the same of a text with nothing before it
-pub record Gives (text : List ℕ) (r : Bool) : Type 0 where
-  pub all : r ≡ true → Sent text
   pub lost : r ≡ false → Lost

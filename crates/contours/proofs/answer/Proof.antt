@@ -14,7 +14,7 @@ judged-requires : tie.Need-judged-requires
 judged-requires c κs =
     let s : tie.Start = search in
     let whole : tie.Then1 = search in
-    (s .pre .0 .ends (whole .if1 .taken), (s .pre .1 .1 .1, s .pre .1 .1 .0))
+    (s .pre .0 .ends (whole .if1 .taken), (s .pre .1 .1 .1 .0, (s .pre .1 .1 .0, s .pre .1 .1 .1 .1)))
 
 returns : tie.Need-returns
 returns c = search needs

@@ -35,7 +35,7 @@ slice-aggregate-sheet c = let s : tie.Start = search in sym (length-take-le _ _ 
 slice-aggregate-sheet-2 : tie.Need-slice-aggregate-sheet-2
 slice-aggregate-sheet-2 c =
     let s : tie.Start = search in
-    sym (length-take-le _ _ (omega (arith, given-fine (s .args .given) (s .pre .1 .1 .1 .1 .1) .1, s .pre .1 .1 .0)))
+    sym (length-take-le _ _ (omega (arith, given-fine (s .args .given) (s .pre .1 .1 .1 .1 .1 .0) .1, s .pre .1 .1 .0)))
 
 sheet-requires : tie.Need-sheet-requires
 sheet-requires c κs =
@@ -43,8 +43,9 @@ sheet-requires c κs =
     let p = s .pre .1 in
     let st = p .1 .1 .1 .0 in
     let frame = frame-back (now (s .args .header)) (textFrame (now (s .args .text))) (st .numbers) in
-    let words = words-front (p .0) (p .1 .1 .1 .1) (p .1 .0) in
-    (s .pre .0, accepted (p .0) (p .1 .1 .0) (p .1 .1 .1 .1) (rw (points st (p .1 .1 .0)) (st .front)) frame words)
+    let words = words-front (p .0) (p .1 .1 .1 .1 .0) (p .1 .0) in
+    let given = accepted (p .0) (p .1 .1 .0) (p .1 .1 .1 .1 .0) in
+    (s .pre .0, (given (rw (points st (p .1 .1 .0)) (st .front)) frame words, p .1 .1 .1 .1 .1))
 
 pub draw-spec : {M : Type 1} → statement M
 draw-spec =

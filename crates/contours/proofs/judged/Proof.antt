@@ -24,7 +24,7 @@ refuse-network-requires c κs =
     let s : tie.Start = search in
     let read : tie.After-read-network = search in
     let some : tie.Then1 = search in
-    (s .pre .0, (s .pre .1 .0, (read .read-network .ensures .0, some .if1 .taken)))
+    (s .pre .0, (s .pre .1 .0, ((read .read-network .ensures .0, some .if1 .taken), s .pre .1 .1 .1)))
 
 returns : tie.Need-returns
 returns c = search needs
@@ -44,7 +44,7 @@ with-words-requires c κs =
     let none : r .result ≡ 0 = omega arith in
     let z : textRefusal (now (s .args .text)) ≡ 0 = sym (e .0) ∙ none in
     let kept = stored (replicate 65536 0) z refl (length-replicate {A = ℕ} 65536 0) (e .1) (e .2) in
-    (s .pre .0, (s .pre .1 .0, (s .pre .1 .1, (z, kept))))
+    (s .pre .0, (s .pre .1 .0, (s .pre .1 .1 .0, (z, (kept, s .pre .1 .1 .1)))))
 
 returns-2 : tie.Need-returns-2
 returns-2 c = search needs

@@ -11,8 +11,10 @@ refusal-requires : tie.Need-refusal-requires
 refusal-requires c κs =
     let s : tie.Start = search in
     let line : tie.After-refused-line = search in
-    let p = s .pre in
-    (p .0, refused-text (p .1 .0) (p .1 .1 .0) (p .1 .1 .1) (line .refused-line .ensures))
+    let p = s .pre in (
+      p .0,
+      (refused-text (p .1 .0) (p .1 .1 .0 .0) (p .1 .1 .0 .1) (line .refused-line .ensures), p .1 .1 .1),
+    )
 
 pub refuse-network-spec : {M : Type 1} → statement M
 refuse-network-spec =

@@ -28,12 +28,13 @@ answer-requires : tie.Need-answer-requires
 answer-requires c κs =
     let read : tie.After-read-all = search in
     let given : tie.After-gather = search in
+    let start : tie.Start = search in
     let t = read .read-all in
     let g = given .gather in (
       t .ensures,
       (
         t .kept .0 ∙ length-replicate {A = ℕ} 600000 0,
-        (g .kept .0 ∙ length-replicate {A = ℕ} 15000 0, g .ensures),
+        (g .kept .0 ∙ length-replicate {A = ℕ} 15000 0, (g .ensures, start .pre)),
       ),
     )
 

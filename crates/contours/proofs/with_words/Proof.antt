@@ -10,15 +10,18 @@ draw-requires c κs =
     let s : tie.Start = search in
     let judged : tie.After-words-refusal = search in
     let p = s .pre in
-    let none = sym (judged .words-refusal .ensures) ∙ c .if1 .taken in
-    (p .0, (p .1 .0, (p .1 .1 .0, (p .1 .1 .1 .0, (p .1 .1 .1 .1, none)))))
+    let fine : tie.Then1 = search in
+    let none = sym (judged .words-refusal .ensures) ∙ fine .if1 .taken in
+    (p .0, (p .1 .0, (p .1 .1 .0, (p .1 .1 .1 .0, (p .1 .1 .1 .1 .0, (none, p .1 .1 .1 .1 .1))))))
 
 refusal-requires : tie.Need-refusal-requires
 refusal-requires c κs =
     let s : tie.Start = search in
     let judged : tie.After-words-refusal = search in
     let p = s .pre in
-    (p .0, refused-words (p .1 .0) (p .1 .1 .1 .0) (judged .words-refusal .ensures) (c .if1 .left))
+    let some : tie.Else1 = search in
+    let why = refused-words (p .1 .0) (p .1 .1 .1 .0) (judged .words-refusal .ensures) (some .if1 .left) in
+    (p .0, (why, p .1 .1 .1 .1 .1))
 
 pub with-words-spec : {M : Type 1} → statement M
 with-words-spec =

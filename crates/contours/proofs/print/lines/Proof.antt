@@ -5,9 +5,9 @@ use denote.Ref.{now}
 use lib.ListN.{length, getD, drop}
 use borrow.Author.Needs.{needs}
 use borrow.Author.Tests.{not-true, not-false}
-use Rattle.contours_steps.specs.Sheet.{levelLine, levelLines, sheetOf}
-use Rattle.contours_steps.specs.Due.{Due}
-use Rattle.contours_steps.proofs.Dues.{due-front, due-rest, sends-lost, gives, Rest, rest-next, rest-none}
+use Rattle.contours_steps.specs.Sheet.{heading, levelLine, levelLines, sheetOf}
+use Rattle.contours_steps.specs.Due.{Due, Sends}
+use Rattle.contours_steps.proofs.Dues.{due-front, due-rest, sends-lost, Rest, rest-next, rest-none}
 use Rattle.contours_steps.proofs.Order.{heading-due, lines-due, lines-rest, lines-more, lines-none}
 use Rattle.contours.proofs.print.lines.Statement.{statement}
 use Rattle.contours.proofs.print.lines.Tie as tie
@@ -25,21 +25,21 @@ slice-aggregate-written c = search needs
 
 written-requires : tie.Need-written-requires Inv-loop μ-loop
 written-requires c κs =
-    let s = c .before .before .before .before in
-    (s .pre, heading-due (now (s .args .levels)) (s .args .frame) (now (s .args .asked)))
+    let s : tie.Start Inv-loop μ-loop = search in
+    (s .pre .0, rw (s .pre .1) (heading-due (now (s .args .levels)) (s .args .frame) (now (s .args .asked))))
 
 returns : tie.Need-returns Inv-loop μ-loop
 returns c =
     let begun : tie.After-written Inv-loop μ-loop = search in
     let lost : tie.Then1 Inv-loop μ-loop = search in
-    gives (sends-lost {sent′ = 0} _ (begun .written .ensures .lost (not-true _ (lost .if1 .taken))))
+    sends-lost _ (begun .written .ensures .lost (not-true _ (lost .if1 .taken)))
 
 loop-holds : tie.Need-loop-holds Inv-loop μ-loop
 loop-holds c =
     let s : tie.Start Inv-loop μ-loop = search in
     let begun : tie.After-written Inv-loop μ-loop = search in
     let a = s .args in
-    let sent = begun .written .ensures in
+    let sent : Sends 0 heading _ _ = rw (s .pre .1) at (begun .written .ensures) in
     let taken : tie.Else1 Inv-loop μ-loop = search in
     let all = not-false _ (taken .if1 .left) in (
       omega arith,
@@ -56,13 +56,13 @@ one-level-requires c κs =
     let one = levelLine (now (a .levels)) (a .frame) (getD (now (a .asked)) (l .i) 0) in
     let rest = levelLines (now (a .levels)) (a .frame) (drop (l .i + 1) (now (a .asked))) in
     let e = lines-more (now (a .levels)) (a .frame) (now (a .asked)) (l .i) (omega arith) in
-    (s .pre, (omega arith, due-front one rest (rw e at (l .inv .1))))
+    (s .pre .0, (omega arith, due-front one rest (rw e at (l .inv .1))))
 
 returns-2 : tie.Need-returns-2 Inv-loop μ-loop
 returns-2 c =
     let one : tie.After-one-level Inv-loop μ-loop = search in
     let lost : tie.Then2 Inv-loop μ-loop = search in
-    gives (sends-lost {sent′ = 0} _ (one .one-level .ensures .lost (not-true _ (lost .if2 .taken))))
+    sends-lost _ (one .one-level .ensures .lost (not-true _ (lost .if2 .taken)))
 
 add-i : tie.Need-add-i Inv-loop μ-loop
 add-i c = search needs
@@ -94,7 +94,7 @@ returns-3 c =
     let s : tie.Start Inv-loop μ-loop = search in
     let a = s .args in
     let l = loop .loop in
-    gives (rest-none (l .inv .2) (lines-none (now (a .levels)) (a .frame) (now (a .asked)) (l .i) (omega arith)))
+    rest-none (l .inv .2) (lines-none (now (a .levels)) (a .frame) (now (a .asked)) (l .i) (omega arith))
 
 pub lines-spec : {M : Type 1} → statement M
 lines-spec =

@@ -15,15 +15,18 @@ put-refused-requires : tie.Need-put-refused-requires
 put-refused-requires c κs = search needs
 
 array-share-prefix-room : tie.Need-array-share-prefix-room
-array-share-prefix-room c = wrote-fits (c .before .put-refused .ensures)
+array-share-prefix-room c = let put : tie.After-put-refused = search in wrote-fits (put .put-refused .ensures)
 
 slice-aggregate-write : tie.Need-slice-aggregate-write
-slice-aggregate-write c = sym (length-take-le _ _ (wrote-fits (c .before .before .put-refused .ensures)))
+slice-aggregate-write c =
+    let put : tie.After-put-refused = search in
+    sym (length-take-le _ _ (wrote-fits (put .put-refused .ensures)))
 
 write-requires : tie.Need-write-requires
 write-requires c κs =
-    rw (wrote-front (c .before .before .put-refused .ensures))
-    (c .before .before .before .before .before .before .pre)
+    let s : tie.Start = search in
+    let put : tie.After-put-refused = search in
+    (rw (wrote-front (put .put-refused .ensures)) (s .pre .0), s .pre .1)
 
 returns : tie.Need-returns
 returns c = search needs
