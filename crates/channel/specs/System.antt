@@ -77,6 +77,7 @@ pub system-counted : (count : ℕ) → Arguments count
 unfolding Arguments
 system-counted count = tt
 
-pub system-named : (number n : ℕ) (room : List ℕ) → n ≤ length room → Argument number (length room) (take n room)
+pub system-named : (number n : ℕ) (room : List ℕ) → n ≤ length room
+    → Argument number (length room) (take n room)
 unfolding Argument
 system-named number n room h = tt

@@ -76,8 +76,8 @@ fn one_level(levels: &[u32], frame: Frame, asked: &[u32], i: usize, sent: &mut u
     requires { ⌜ i < length (now asked) ⌝ }
     requires { ⌜ Due (sheetOf (now levels) frame (now asked)) (now sent)
         (levelLine (now levels) frame (getD (now asked) i 0)) ⌝ }
-    ensures { λ r. ⌜ Sends (now (sent .entry)) (levelLine (now (levels .entry)) frame (getD (now (asked .entry)) i 0))
-        r (now (sent .exit)) ⌝ }
+    ensures { λ r. ⌜ Sends (now (sent .entry))
+        (levelLine (now (levels .entry)) frame (getD (now (asked .entry)) i 0)) r (now (sent .exit)) ⌝ }
 {
     let v = asked[i];
     let begun = start(levels, frame, asked, i, sent);

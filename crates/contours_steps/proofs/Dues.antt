@@ -47,7 +47,8 @@ due-rest {whole} {at} a b d =
 
 -- ---- what was sent
 
-pub sends-one : {sent sent′ : ℕ} {part : List ℕ} {r : Bool} → Writes sent part r sent′ → Sends sent part r sent′
+pub sends-one : {sent sent′ : ℕ} {part : List ℕ} {r : Bool} → Writes sent part r sent′
+    → Sends sent part r sent′
 sends-one w = record { count = λ _. w .count; went = w .went; lost = w .lost }
 
 pub sends-none : (sent : ℕ) → Sends sent [] true sent
@@ -85,7 +86,8 @@ pub rest-all : (sent : ℕ) (whole : List ℕ) → Rest sent whole sent whole
 rest-all sent whole = record { with = λ r end s. s }
 
 pub rest-next : {sent₀ sent sent′ : ℕ} {whole : List ℕ} {r : Bool} (part left : List ℕ)
-    → Rest sent₀ whole sent (part ++ left) → r ≡ true → Sends sent part r sent′ → Rest sent₀ whole sent′ left
+    → Rest sent₀ whole sent (part ++ left) → r ≡ true → Sends sent part r sent′
+    → Rest sent₀ whole sent′ left
 rest-next part left k all s = record { with = λ r end t. k .with r end (sends-then part left all s t) }
 
 pub rest-none : {sent₀ sent : ℕ} {whole left : List ℕ} → Rest sent₀ whole sent left → left ≡ []

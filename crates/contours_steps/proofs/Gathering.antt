@@ -90,7 +90,8 @@ levels-snoc [] w = refl
 levels-snoc (x ∷ ws) w = ap (λ (l : List ℕ). wordLevel x ∷ l) (levels-snoc ws w)
 
 -- each word is an argument, and one more
-named-snoc : (ws : List (List ℕ)) (w : List ℕ) → ((i : ℕ) → i < length ws → Argument (i + 1) maxWord (getD ws i []))
+named-snoc : (ws : List (List ℕ)) (w : List ℕ)
+    → ((i : ℕ) → i < length ws → Argument (i + 1) maxWord (getD ws i []))
     → Argument (length ws + 1) maxWord w
     → (i : ℕ) → i < length (ws ++ (w ∷ [])) → Argument (i + 1) maxWord (getD (ws ++ (w ∷ [])) i [])
 named-snoc ws w each last i h =
@@ -146,7 +147,8 @@ gathering-next {asked} {asked′} {fit} {r} {both} {i} k t e =
         ) refl
 
 -- all words are gathered
-pub gathered : {asked : List ℕ} {fit : Bool} {i count : ℕ} → Gathering asked fit i → Arguments count → i ≡ count
+pub gathered : {asked : List ℕ} {fit : Bool} {i count : ℕ} → Gathering asked fit i
+    → Arguments count → i ≡ count
     → Gathered (record { count = count; fit = fit }) asked
 gathered {asked} {fit} {i} {count} k told e =
     record {

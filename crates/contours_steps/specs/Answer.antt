@@ -1,4 +1,4 @@
--- What the program contours may write on standard output, by what came of the network's bytes, and how a run of it ends.
+-- What the program contours may write on standard output, by what came of the network's bytes, and how a run ends.
 -- Assumes nothing.
 use Prim.Native.Nat.{ℕ}
 use mathlib.Core.Path.{_≡_}

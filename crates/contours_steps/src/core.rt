@@ -1,3 +1,3 @@
-// Steps that ask something of their caller: lines of bytes that were cut off, and texts put into a buffer that has room.
+// Steps that ask something of their caller: lines of bytes that were cut off, and texts put where there is room.
 pub mod intake;
 pub mod put;

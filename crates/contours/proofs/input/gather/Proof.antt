@@ -9,7 +9,8 @@ use Rattle.contours.proofs.input.gather.Statement.{statement}
 use Rattle.contours.proofs.input.gather.Tie as tie
 
 abbrev Inv-loop : tie.InvT-loop
-Inv-loop asked₀ count fit₀ i₀ asked fit i = (Gathering asked fit i) × (length asked ≡ length asked₀) × (i ≤ count)
+Inv-loop asked₀ count fit₀ i₀ asked fit i =
+    (Gathering asked fit i) × (length asked ≡ length asked₀) × (i ≤ count)
 
 abbrev μ-loop : tie.MeasureT-loop
 μ-loop asked₀ count fit₀ i₀ asked fit i = count - i

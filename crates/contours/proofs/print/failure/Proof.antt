@@ -5,7 +5,9 @@ use Rattle.contours.proofs.print.failure.Statement.{statement}
 use Rattle.contours.proofs.print.failure.Tie as tie
 
 refused-requires : tie.Need-refused-requires
-refused-requires c κs = let s : tie.Start = search in (answered-failed (s .pre .0) (s .pre .1 .0) (s .pre .1 .1 .0), s .pre .1 .1 .1)
+refused-requires c κs =
+    let s : tie.Start = search in
+    (answered-failed (s .pre .0) (s .pre .1 .0) (s .pre .1 .1 .0), s .pre .1 .1 .1)
 
 returns : tie.Need-returns
 returns c = search needs
