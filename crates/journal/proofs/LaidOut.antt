@@ -25,7 +25,8 @@ enter-front (a ∷ b ∷ []) k h = absurd (omega arith)
 enter-front (a ∷ b ∷ c ∷ []) k h = absurd (omega arith)
 enter-front (a ∷ b ∷ c ∷ d ∷ []) k h = absurd (omega arith)
 enter-front (a ∷ b ∷ c ∷ d ∷ e ∷ []) k h = absurd (omega arith)
-enter-front (a ∷ b ∷ c ∷ d ∷ e ∷ f ∷ j) k h = ap (λ (x : ℕ). x ∷ b ∷ c ∷ d ∷ e ∷ f ∷ j) (sym k)
+enter-front (a ∷ b ∷ c ∷ d ∷ e ∷ f ∷ j) k h =
+    ap (λ (x : ℕ). x ∷ b ∷ c ∷ d ∷ e ∷ f ∷ j) (sym k)
 
 supply-front : (j : List ℕ) → getD j 0 0 ≡ 2 → 3 + getD j 2 0 ≤ length j
     → let levels = take (getD j 2 0) (drop 3 j) in
@@ -35,14 +36,17 @@ supply-front (a ∷ []) k h = absurd (omega arith)
 supply-front (a ∷ b ∷ []) k h = absurd (omega arith)
 supply-front (a ∷ b ∷ c ∷ j) k h =
     rw (← drop-drop c 3 (a ∷ b ∷ c ∷ j), length-take-le c j (omega arith))
-    (ap (λ (l : List ℕ). 2 ∷ b ∷ c ∷ l) (take-append-drop c j) ∙ ap (λ (x : ℕ). x ∷ b ∷ c ∷ j) (sym k))
+    (ap (λ (l : List ℕ). 2 ∷ b ∷ c ∷ l) (take-append-drop c j)
+    ∙ ap (λ (x : ℕ). x ∷ b ∷ c ∷ j) (sym k))
 
-two-front : (j : List ℕ) (n : ℕ) → getD j 0 0 ≡ n → 2 ≤ length j → (n ∷ getD j 1 0 ∷ []) ++ drop 2 j ≡ j
+two-front : (j : List ℕ) (n : ℕ) → getD j 0 0 ≡ n → 2 ≤ length j
+    → (n ∷ getD j 1 0 ∷ []) ++ drop 2 j ≡ j
 two-front [] n k h = absurd (omega arith)
 two-front (a ∷ []) n k h = absurd (omega arith)
 two-front (a ∷ b ∷ j) n k h = ap (λ (x : ℕ). x ∷ b ∷ j) (sym k)
 
-call-front : (j : List ℕ) → 1 ≤ widthOf j → widthOf j ≤ length j → spelled (callAt j) ++ drop (widthOf j) j ≡ j
+call-front : (j : List ℕ) → 1 ≤ widthOf j → widthOf j ≤ length j
+    → spelled (callAt j) ++ drop (widthOf j) j ≡ j
 unfolding widthOf callAt spelled
 call-front j some all =
     by (eqb (getD j 0 0) 1) (eqb (getD j 0 0) 2) (eqb (getD j 0 0) 3) (eqb (getD j 0 0) 4) refl refl refl refl some all
