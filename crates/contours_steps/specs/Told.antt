@@ -53,6 +53,10 @@ pub record Judged (text : List ℕ) (words : List (List ℕ)) : Type 0 where
   pub drawn : textRefusal text ≡ 0 → AllSpell words → 1 ≤ length words → length words ≤ 15000
       → refusalOf text words ≡ 0
 
+-- The program's own room is never too small for a network: what is right but for the room is drawn
+pub record NeverShort (text : List ℕ) : Type 0 where
+  pub network : textRefusal text ≡ 14 → ⊥
+
 -- The line of a refusal: `refused,`, the number, a comma and the line, each in as many digits as it needs, and a line
 -- end
 pub record RefusalSpelled : Type 0 where

@@ -6,3 +6,4 @@ pub mod Layouts
 pub mod Ordered
 pub mod Sound
 pub mod Order
+pub mod Writing

@@ -1,11 +1,12 @@
 -- How calls are spelled as the numbers of a journal. Assumes nothing.
 use Prim.Native.Nat.{ℕ}
 use mathlib.Core.Path.{_≡_}
+use mathlib.Core.Bool.{true}
 use mathlib.Core.List.{List, [], _∷_, _++_}
 use lib.ListN.{length}
 use Rattle.book_rules.specs.Calls.{Call}
 use Rattle.book_rules.specs.Calls.Call.{enter, supply, takeBack, withdraw}
-use Rattle.journal.specs.Journal.{callsOf}
+use Rattle.journal.specs.Journal.{callsOf, laidOut}
 
 unfoldable pub spelled : Call → List ℕ
 spelled (enter x t k s m) = 1 ∷ x ∷ t ∷ k ∷ s ∷ m ∷ []
@@ -26,3 +27,8 @@ pub record Spelled : Type 0 where
       → callsOf (2 ∷ x ∷ length ls ∷ (ls ++ rest)) ≡ supply x ls ∷ callsOf rest
   pub take-back= : (x : ℕ) (rest : List ℕ) → callsOf (3 ∷ x ∷ rest) ≡ takeBack x ∷ callsOf rest
   pub withdraw= : (x : ℕ) (rest : List ℕ) → callsOf (4 ∷ x ∷ rest) ≡ withdraw x ∷ callsOf rest
+
+-- a journal is on its layout exactly if its numbers are those of calls, to the last one; and these calls are read
+pub record LaidExactly (j : List ℕ) : Type 0 where
+  pub on : laidOut j ≡ true → j ≡ journalOf (callsOf j)
+  pub only : (cs : List Call) → j ≡ journalOf cs → (laidOut j ≡ true) × (callsOf j ≡ cs)

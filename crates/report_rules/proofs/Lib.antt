@@ -15,3 +15,4 @@ pub mod Orders
 pub mod WholeText
 pub mod RowExact
 pub mod FullBook
+pub mod Accepted

@@ -7,3 +7,4 @@ pub mod RowOrders
 pub mod WholeText
 pub mod RowExact
 pub mod FullBook
+pub mod Accepted

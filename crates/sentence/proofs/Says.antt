@@ -13,7 +13,7 @@ use Rattle.text.specs.Same.{sameText}
 use Rattle.text.proofs.Digits.{either}
 use Rattle.text.proofs.Indices.{every-each}
 use Rattle.sentence.specs.Sentence.{sentences, sentenceOf, maxSentence}
-use Rattle.sentence.specs.Told.{maxRefusal, subjects, says, EachSays}
+use Rattle.sentence.specs.Told.{maxRefusal, subjects, bounds, says, EachSays}
 
 agree : Bool → Bool → Bool
 agree true b = b
@@ -46,6 +46,25 @@ each-subject zero other low high o = absurd (omega arith)
 each-subject (suc k) other low high o =
     let tests = every-each subjects-test other 18 (omega arith) all-subjects in
     agreed (said other (suc k)) (eqb (suc k) other) (every-each (subject-test other) k 17 (omega arith) tests)
+
+-- The bounds of each
+
+bound-test : (number i : ℕ) → Bool
+bound-test number i = says (sentenceOf number) (getD (getD bounds number []) i [])
+
+bounds-test : ℕ → Bool
+bounds-test number = every (bound-test number) (length (getD bounds number []))
+
+all-bounds : every bounds-test 18 ≡ true
+unfolding every bounds-test bound-test says sameText sentenceOf sentences bounds
+all-bounds = refl
+
+each-bound : (number i : ℕ) → number ≤ maxRefusal → i < length (getD bounds number [])
+    → says (sentenceOf number) (getD (getD bounds number []) i []) ≡ true
+unfolding bounds-test bound-test
+each-bound number i high h =
+    every-each (bound-test number) i (length (getD bounds number []))
+    h (every-each bounds-test number 18 (omega arith) all-bounds)
 
 -- Plain and short
 
@@ -96,4 +115,12 @@ each-plain number i h =
 
 pub each-says : EachSays
 unfolding sentenceOf sentences
-each-says = record { subject = each-subject; plain = each-plain; short = each-short; none = refl; past = past-all }
+each-says =
+    record {
+      subject = each-subject;
+      bound = each-bound;
+      plain = each-plain;
+      short = each-short;
+      none = refl;
+      past = past-all;
+    }

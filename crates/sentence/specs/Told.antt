@@ -36,6 +36,29 @@ subjects =
     ∷ bytes "CRLF"
     ∷ []
 
+-- the bounds that each sentence has to tell, and which side of them is wrong
+unfoldable pub bounds : List (List (List ℕ))
+bounds =
+    []
+    ∷ (bytes "out of range" ∷ bytes "a small aircraft has 6,000 kg or more" ∷ [])
+    ∷ (bytes "the mass is 150 kg or less" ∷ [])
+    ∷ (bytes "is not from 1 to 99,999" ∷ [])
+    ∷ []
+    ∷ []
+    ∷ []
+    ∷ (bytes "is not the number of points" ∷ bytes "a level is over 120.00" ∷ [])
+    ∷ (bytes "has no levels" ∷ [])
+    ∷ (bytes "points are not 1 to 8" ∷ [])
+    ∷ []
+    ∷ (bytes "have to be from 1 to 366" ∷ [])
+    ∷ (bytes "2 to 256 a side" ∷ bytes "1 to 500 m" ∷ bytes "0 to 900,000 m" ∷ [])
+    ∷ (bytes "a level is over 150.00" ∷ [])
+    ∷ (bytes "too small" ∷ [])
+    ∷ (bytes "a limit is over 120.00" ∷ bytes "is not from 0.01 to 150.00" ∷ [])
+    ∷ (bytes "off its layout" ∷ [])
+    ∷ (bytes "off its layout" ∷ [])
+    ∷ []
+
 -- whether a word stands somewhere in a text
 unfoldable pub says : (text word : List ℕ) → Bool
 says [] word = false
@@ -46,6 +69,8 @@ says (c ∷ s) word = cond (sameText (take (length word) (c ∷ s)) word) true (
 pub record EachSays : Type 0 where
   pub subject : (number other : ℕ) → 1 ≤ number → number ≤ maxRefusal → other ≤ maxRefusal
       → says (sentenceOf other) (getD subjects number []) ≡ eqb number other
+  pub bound : (number i : ℕ) → number ≤ maxRefusal → i < length (getD bounds number [])
+      → says (sentenceOf number) (getD (getD bounds number []) i []) ≡ true
   pub plain : (number i : ℕ) → i < length (sentenceOf number)
       → (32 ≤ getD (sentenceOf number) i 0) × (getD (sentenceOf number) i 0 ≤ 126)
   pub short : (number : ℕ) → length (sentenceOf number) ≤ maxSentence

@@ -1,18 +1,18 @@
 -- A CRLF ends a line and nothing else does. Assumes nothing.
 use mathlib.Core.Path.{_≡_, refl, ap, _∙_}
-use mathlib.Core.Bool.{false, _&&_, and-false}
+use mathlib.Core.Bool.{true, false, _&&_, and-false}
 use mathlib.Core.List.{List, [], _∷_, _++_}
-use Prim.Native.Nat.{ℕ, suc, _+_, _≤_}
+use Prim.Native.Nat.{ℕ, suc, _+_, _-_, _≤_}
 use native.Mathlib.Omega.{arith}
-use lib.Dec.{eqb}
-use lib.ListN.{length, getD, drop, length-append, drop-of-length-le}
-use lib.Seq.{drop-append-add}
-use borrow.Author.Tests.{eqb-true}
+use lib.Dec.{eqb, leb}
+use lib.ListN.{length, getD, take, drop, length-append, drop-of-length-le}
+use lib.Seq.{drop-append-add, drop-length, drop-cons, split-at}
+use borrow.Author.Tests.{eqb-true, leb-true}
 use Rattle.refusal.proofs.Laws.{and-left, and-right}
-use Rattle.text.specs.Line.{firstLine, linesOf}
+use Rattle.text.specs.Line.{endAt, firstLine, linesOf, bareLine}
 use Rattle.text.proofs.Digits.{either}
-use Rattle.text.proofs.Lines.{lines-step, lines-none}
-use Rattle.text_rules.specs.Texts.{Unbroken, LinesAre}
+use Rattle.text.proofs.Lines.{lines-step, lines-none, bare-back}
+use Rattle.text_rules.specs.Texts.{Unbroken, LinesAre, EndsInCrlf, BareIs}
 
 -- past its first byte
 behind : (c : ℕ) (l : List ℕ) → Unbroken (c ∷ l) → Unbroken l
@@ -56,3 +56,29 @@ lines-last l h some =
 
 pub lines-are : LinesAre
 lines-are = record { none = lines-none; ended = lines-ended; last = lines-last }
+
+-- the last two bytes of a text, where they are CR and LF
+ends-so : (s : List ℕ) → 2 ≤ length s → endAt s (length s - 2) ≡ true → EndsInCrlf s
+ends-so s two e =
+    let at = length s - 2 in
+    let cr = eqb-true (getD s at 0) 13 (and-left (eqb (getD s at 0) 13) (eqb (getD s (at + 1) 0) 10) e) in
+    let lf = eqb-true (getD s (at + 1) 0) 10 (and-right (eqb (getD s at 0) 13) (eqb (getD s (at + 1) 0) 10) e) in
+    let one : suc at ≡ at + 1 = omega arith in
+    let all : suc (at + 1) ≡ length s = omega arith in
+    record {
+      before = take at s;
+      is = split-at s at 0 (omega arith)
+          ∙ rw (cr, one, drop-cons s (at + 1) 0 (omega arith), lf, all, drop-length s) refl;
+    }
+
+plain-line : (s : List ℕ) → (EndsInCrlf s → ⊥) → bareLine s ≡ s
+unfolding bareLine
+plain-line s none =
+    either (leb 2 (length s) && endAt s (length s - 2))
+    (λ yes. absurd (none (ends-so s
+    (leb-true 2 (length s) (and-left (leb 2 (length s)) (endAt s (length s - 2)) yes))
+    (and-right (leb 2 (length s)) (endAt s (length s - 2)) yes))))
+    (λ no. rw no refl)
+
+pub bare-is : BareIs
+bare-is = record { ended = bare-back; plain = plain-line }

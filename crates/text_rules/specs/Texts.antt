@@ -5,7 +5,7 @@ use mathlib.Core.Path.{_≡_}
 use mathlib.Core.Logic.{_↔_}
 use mathlib.Core.List.{List, [], _∷_, _++_}
 use lib.ListN.{length, getD}
-use Rattle.text.specs.Line.{linesOf}
+use Rattle.text.specs.Line.{linesOf, bareLine}
 use Rattle.text.specs.Field.{countOf, fieldOf}
 use Rattle.text.specs.Number.{wholeOf, levelOf, showWhole, showNumber, showDigits, showLevel}
 use Rattle.text.specs.declared.number.Number.the-variants.{Got}
@@ -22,6 +22,16 @@ pub record LinesAre : Type 0 where
   pub ended : (line rest : List ℕ) → Unbroken line
       → linesOf (line ++ (13 ∷ 10 ∷ rest)) ≡ line ∷ linesOf rest
   pub last : (line : List ℕ) → Unbroken line → 1 ≤ length line → linesOf line ≡ line ∷ []
+
+-- bytes that end in CR and LF
+pub record EndsInCrlf (s : List ℕ) : Type 0 where
+  pub before : List ℕ
+  pub is : s ≡ before ++ (13 ∷ 10 ∷ [])
+
+-- of one line that may have its end with it only a CRLF goes, and one only; every other byte is the line's
+pub record BareIs : Type 0 where
+  pub ended : (line : List ℕ) → bareLine (line ++ (13 ∷ 10 ∷ [])) ≡ line
+  pub plain : (line : List ℕ) → (EndsInCrlf line → ⊥) → bareLine line ≡ line
 
 -- Fields
 

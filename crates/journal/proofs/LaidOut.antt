@@ -1,0 +1,103 @@
+-- A journal on its layout is calls spelled one after the other, and no number more. Assumes nothing.
+use mathlib.Core.Path.{_≡_, refl, sym, ap, _∙_}
+use mathlib.Core.Bool.{Bool, true, false, cond, _||_}
+use mathlib.Core.List.{List, [], _∷_, _++_}
+use Prim.Native.Nat.{ℕ, zero, suc, _+_, _≤_, _<_}
+use native.Mathlib.Omega.{arith}
+use lib.ListN.{length, take, drop, getD, length-drop, take-append-drop}
+use lib.Seq.{length-take-le, drop-drop}
+use lib.Dec.{eqb}
+use borrow.Author.Tests.{eqb-true}
+use Rattle.book_rules.specs.Calls.{Call}
+use Rattle.book_rules.specs.Calls.Call.{enter, supply, takeBack, withdraw}
+use Rattle.journal.specs.Journal.{widthOf, callAt, callsOf, laidOut}
+use Rattle.journal.specs.Spelling.{spelled, journalOf, LaidExactly}
+use Rattle.journal.proofs.Reading.{complete-width, calls-more, laid-more, laid-complete, nothing-left}
+use Rattle.journal.proofs.Audit.{journal-calls}
+
+-- The numbers of a call in front of the others
+
+enter-front : (j : List ℕ) → getD j 0 0 ≡ 1 → 6 ≤ length j
+    → (1 ∷ getD j 1 0 ∷ getD j 2 0 ∷ getD j 3 0 ∷ getD j 4 0 ∷ getD j 5 0 ∷ []) ++ drop 6 j ≡ j
+enter-front [] k h = absurd (omega arith)
+enter-front (a ∷ []) k h = absurd (omega arith)
+enter-front (a ∷ b ∷ []) k h = absurd (omega arith)
+enter-front (a ∷ b ∷ c ∷ []) k h = absurd (omega arith)
+enter-front (a ∷ b ∷ c ∷ d ∷ []) k h = absurd (omega arith)
+enter-front (a ∷ b ∷ c ∷ d ∷ e ∷ []) k h = absurd (omega arith)
+enter-front (a ∷ b ∷ c ∷ d ∷ e ∷ f ∷ j) k h =
+    ap (λ (x : ℕ). x ∷ b ∷ c ∷ d ∷ e ∷ f ∷ j) (sym k)
+
+supply-front : (j : List ℕ) → getD j 0 0 ≡ 2 → 3 + getD j 2 0 ≤ length j
+    → let levels = take (getD j 2 0) (drop 3 j) in
+    (2 ∷ getD j 1 0 ∷ length levels ∷ levels) ++ drop (3 + getD j 2 0) j ≡ j
+supply-front [] k h = absurd (omega arith)
+supply-front (a ∷ []) k h = absurd (omega arith)
+supply-front (a ∷ b ∷ []) k h = absurd (omega arith)
+supply-front (a ∷ b ∷ c ∷ j) k h =
+    rw (← drop-drop c 3 (a ∷ b ∷ c ∷ j), length-take-le c j (omega arith))
+    (ap (λ (l : List ℕ). 2 ∷ b ∷ c ∷ l) (take-append-drop c j)
+    ∙ ap (λ (x : ℕ). x ∷ b ∷ c ∷ j) (sym k))
+
+two-front : (j : List ℕ) (n : ℕ) → getD j 0 0 ≡ n → 2 ≤ length j
+    → (n ∷ getD j 1 0 ∷ []) ++ drop 2 j ≡ j
+two-front [] n k h = absurd (omega arith)
+two-front (a ∷ []) n k h = absurd (omega arith)
+two-front (a ∷ b ∷ j) n k h = ap (λ (x : ℕ). x ∷ b ∷ j) (sym k)
+
+call-front : (j : List ℕ) → 1 ≤ widthOf j → widthOf j ≤ length j
+    → spelled (callAt j) ++ drop (widthOf j) j ≡ j
+unfolding widthOf callAt spelled
+call-front j some all =
+    by (eqb (getD j 0 0) 1) (eqb (getD j 0 0) 2) (eqb (getD j 0 0) 3) (eqb (getD j 0 0) 4) refl refl refl refl some all
+  where
+    by : (a b c d : Bool) → eqb (getD j 0 0) 1 ≡ a → eqb (getD j 0 0) 2 ≡ b → eqb (getD j 0 0) 3 ≡ c
+        → eqb (getD j 0 0) 4 ≡ d
+        → 1 ≤ cond a 6 (cond b (3 + getD j 2 0) (cond (c || d) 2 0))
+        → cond a 6 (cond b (3 + getD j 2 0) (cond (c || d) 2 0)) ≤ length j
+        → spelled
+        (cond a (enter (getD j 1 0) (getD j 2 0) (getD j 3 0) (getD j 4 0) (getD j 5 0))
+        (cond b (supply (getD j 1 0) (take (getD j 2 0) (drop 3 j)))
+        (cond c (takeBack (getD j 1 0)) (withdraw (getD j 1 0)))))
+        ++ drop (cond a 6 (cond b (3 + getD j 2 0) (cond (c || d) 2 0))) j
+        ≡ j
+    by true b c d p q r s m l = enter-front j (eqb-true (getD j 0 0) 1 p) l
+    by false true c d p q r s m l = supply-front j (eqb-true (getD j 0 0) 2 q) l
+    by false false true d p q r s m l = two-front j 3 (eqb-true (getD j 0 0) 3 r) l
+    by false false false true p q r s m l = two-front j 4 (eqb-true (getD j 0 0) 4 s) l
+    by false false false false p q r s m l = absurd (omega arith)
+
+-- All of them
+
+-- the calls of j, where those of any shorter journal are spelled so
+abbrev Spells : List ℕ → Type 0
+Spells j = laidOut j ≡ true → journalOf (callsOf j) ≡ j
+
+one-more : (most : ℕ) → ((rest : List ℕ) → length rest ≤ most → Spells rest) → (j : List ℕ)
+    → length j ≤ suc most → Spells j
+unfolding journalOf
+one-more most again [] h e = rw (nothing-left [] (omega arith) .1) refl
+one-more most again (x ∷ j) h e =
+    let n : 0 < length (x ∷ j) = omega arith in
+    let whole = laid-complete (x ∷ j) n e in
+    let width = complete-width (x ∷ j) whole in
+    let rest = drop (widthOf (x ∷ j)) (x ∷ j) in
+    let fewer : length rest ≤ most = omega (arith, length-drop (widthOf (x ∷ j)) (x ∷ j), width .0) in
+    let later = again rest fewer (sym (laid-more (x ∷ j) n whole) ∙ e) in
+    rw (calls-more (x ∷ j) n whole, later) (call-front (x ∷ j) (width .0) (width .1))
+
+no-number : (j : List ℕ) → length j ≤ 0 → Spells j
+unfolding journalOf
+no-number [] h e = rw (nothing-left [] (omega arith) .1) refl
+no-number (x ∷ j) h e = absurd (omega arith)
+
+spelled-from : (most : ℕ) (j : List ℕ) → length j ≤ most → Spells j
+spelled-from zero = no-number
+spelled-from (suc most) = one-more most (spelled-from most)
+
+pub laid-exactly : (j : List ℕ) → LaidExactly j
+laid-exactly j =
+    record {
+      on = λ e. sym (spelled-from (length j) j (omega arith) e);
+      only = λ cs e. rw e (journal-calls cs);
+    }
