@@ -36,8 +36,8 @@ const MAX_POINTS: usize = MAX_SIDE as usize * MAX_SIDE as usize;
 
 fn main() {
     let mut sent = 0;
-    let taken = run(&mut sent);
-    if !taken {
+    let went = run(&mut sent);
+    if !went {
         io::write_all(STDERR_FILENO, b"the output could not be written\n");
     }
 }
@@ -83,11 +83,11 @@ fn failed(text: &[u8], asked: &[u32], given: Given, sent: &mut usize) -> bool
     ensures { λ r. ⌜ Run r (now (sent .exit)) ⌝ }
 {
     let line = line_begun(text);
-    let taken = print::failure(text, asked, given, line as u64, sent);
-    if taken {
+    let went = print::failure(text, asked, given, line as u64, sent);
+    if went {
         say::of_read_error(line as u64);
     }
-    taken
+    went
 }
 
 // The bytes fill the buffer.
@@ -98,11 +98,11 @@ fn overlong(text: &[u8], asked: &[u32], given: Given, sent: &mut usize) -> bool
     ensures { λ r. ⌜ Run r (now (sent .exit)) ⌝ }
 {
     let line = overlong_line(text);
-    let taken = print::overlong(text, asked, given, line as u64, sent);
-    if taken {
+    let went = print::overlong(text, asked, given, line as u64, sent);
+    if went {
         say::of_overlong(line as u64);
     }
-    taken
+    went
 }
 
 // The whole network is judged, and then the words.
@@ -131,11 +131,11 @@ fn refuse_network(text: &[u8], why: u32, asked: &[u32], given: Given, sent: &mut
     ensures { λ r. ⌜ Run r (now (sent .exit)) ⌝ }
 {
     let line = refused_line(text, why);
-    let taken = print::refusal(text, asked, given, why, line, sent);
-    if taken {
+    let went = print::refusal(text, asked, given, why, line, sent);
+    if went {
         say::of_network(why, line);
     }
-    taken
+    went
 }
 
 // The first line at fault where the text is off its layout; the other refusals are of the whole.
@@ -169,11 +169,11 @@ fn with_words(
     if why == 0 {
         return draw(text, header, levels, asked, given, sent);
     }
-    let taken = print::refusal(text, asked, given, why, 0, sent);
-    if taken {
+    let went = print::refusal(text, asked, given, why, 0, sent);
+    if went {
         say::of_levels(why);
     }
-    taken
+    went
 }
 
 // The sheet of a network and words that are not refused.

@@ -61,8 +61,8 @@ fn lines(levels: &[u32], frame: Frame, asked: &[u32], sent: &mut usize) -> bool
     }
     let mut i = 0;
     while i < asked.len() {
-        let taken = one_level(levels, frame, asked, i, sent);
-        if !taken {
+        let went = one_level(levels, frame, asked, i, sent);
+        if !went {
             return false;
         }
         i += 1;
@@ -179,8 +179,8 @@ fn parts(
     while at.line <= counts.len() {
         let part = print_part(levels, frame, v, edges, counts, closed, at, &mut room);
         let n = part.size;
-        let taken = written(levels, frame, asked, sent, &room[..n]);
-        if !taken {
+        let went = written(levels, frame, asked, sent, &room[..n]);
+        if !went {
             return false;
         }
         at = part.next;
