@@ -3,14 +3,13 @@
 use mathlib.Core.Path.{_≡_, refl, sym, ap, _∙_}
 use mathlib.Core.List.{List}
 use Prim.Native.Nat.{ℕ}
-use borrow.Author.Tests.{ne-eqb}
 use Rattle.book_rules.specs.History.{emptyBook, booked}
 use Rattle.register.specs.declared.limits_csv.LimitsFile.{LimitsFile}
 use Rattle.register.specs.LimitsFile.{limitsOf}
 use Rattle.report_steps.specs.Reading.{Reading}
 use Rattle.report_steps.proofs.Bookings.{register-booked}
-use Rattle.report_text.specs.Text.{refusedText, bookRefusal}
-use Rattle.report_rules.specs.Report.{bookRows, reportOf}
+use Rattle.report_text.specs.Text.{bookText, bookRefusal}
+use Rattle.report_rules.specs.Report.{bookRows, Telling, readingText, answerOf, reportOf}
 use Rattle.report_rules.specs.Flights.{bookIn}
 use Rattle.report_rules.specs.WholeText.{readIn}
 use Rattle.report_rules.proofs.Answers.{reading-refused, reading-reported, register-text, report-refused}
@@ -18,30 +17,8 @@ use Rattle.report_rules.proofs.Answers.{report-accepted}
 use Rattle.report_rules.proofs.Flights.{all-stand}
 use Rattle.explain_text.specs.Text.{explainText}
 use Rattle.explain_rules.specs.Says.{textAfter, ExplainSays}
-use Rattle.explain_rules.specs.Explain.{readingExplained, registerExplained, explainOf, callsIn, ExplainWhole}
+use Rattle.explain_rules.specs.Explain.{explainOf, callsIn, ExplainWhole}
 use Rattle.explain_rules.proofs.Says.{refused-is, explain-text}
-
--- by how far a register is read
-pub explained-refused : (l : LimitsFile) (s : Reading) → (s .refusal ≡ 0 → ⊥)
-    → readingExplained l s ≡ refusedText (s .refusal) (s .line)
-unfolding readingExplained
-explained-refused l s ne = rw (ne-eqb (s .refusal) 0 ne) refl
-
-pub explained-read : (l : LimitsFile) (s : Reading) → s .refusal ≡ 0
-    → readingExplained l s ≡ explainText l (s .book)
-unfolding readingExplained
-explained-read l s z = rw z refl
-
--- limits.csv is refused, whatever the register is; or accepted, and the register is answered
-pub explain-refused : (limits register : List ℕ) → (limitsOf limits .refusal ≡ 0 → ⊥)
-    → explainOf limits register ≡ refusedText (limitsOf limits .refusal) (limitsOf limits .line)
-unfolding explainOf
-explain-refused limits register ne = rw (ne-eqb (limitsOf limits .refusal) 0 ne) refl
-
-pub explain-accepted : (limits register : List ℕ) → limitsOf limits .refusal ≡ 0
-    → explainOf limits register ≡ registerExplained (limitsOf limits) register
-unfolding explainOf
-explain-accepted limits register z = rw z refl
 
 module _ (limits register : List ℕ) (fine : limitsOf limits .refusal ≡ 0) where
   abbrev l : LimitsFile
@@ -50,19 +27,17 @@ module _ (limits register : List ℕ) (fine : limitsOf limits .refusal ≡ 0) wh
   abbrev s : Reading
   s = readIn limits register
 
-  explain-read : explainOf limits register ≡ readingExplained l s
-  unfolding registerExplained
-  explain-read = explain-accepted limits register fine
+  -- the text that either program makes of the register's reading
+  read : (tell : Telling) → answerOf tell limits register ≡ readingText tell l s
+  read tell = report-accepted tell limits register fine ∙ sym (register-text tell l register s refl)
 
   as-report : (s .refusal ≡ 0 → ⊥) → explainOf limits register ≡ reportOf limits register
   as-report ne =
-      explain-read ∙ explained-refused l s ne
-      ∙ sym (report-accepted limits register fine ∙ sym (register-text l register s refl)
-      ∙ reading-refused l s ne)
+      read explainText ∙ reading-refused explainText l s ne ∙ sym (read bookText ∙ reading-refused bookText l s ne)
 
   module _ (accepted : s .refusal ≡ 0) where
     book-explained : explainOf limits register ≡ explainText l (bookIn (l .points) register)
-    book-explained = explain-read ∙ explained-read l s accepted
+    book-explained = read explainText ∙ reading-reported explainText l s accepted
 
     made : bookIn (l .points) register ≡ booked (emptyBook (l .points) bookRows) (callsIn limits register)
     made = register-booked (l .points) (emptyBook (l .points) bookRows) register
@@ -74,8 +49,7 @@ module _ (limits register : List ℕ) (fine : limitsOf limits .refusal ≡ 0) wh
         → explainOf limits register ≡ reportOf limits register
     book-refused ne =
         book-explained ∙ refused-is l (bookIn (l .points) register) ne
-        ∙ sym (report-accepted limits register fine ∙ sym (register-text l register s refl)
-        ∙ reading-reported l s accepted)
+        ∙ sym (read bookText ∙ reading-reported bookText l s accepted)
 
     book-says : bookRefusal l (bookIn (l .points) register) ≡ 0
         → ExplainSays l bookRows (callsIn limits register)
@@ -85,7 +59,8 @@ module _ (limits register : List ℕ) (fine : limitsOf limits .refusal ≡ 0) wh
 pub explain-whole : (limits register : List ℕ) → ExplainWhole limits register
 explain-whole limits register =
     record {
-      by-limits = λ ne. explain-refused limits register ne ∙ sym (report-refused limits register ne);
+      by-limits = λ ne. report-refused explainText limits register ne
+          ∙ sym (report-refused bookText limits register ne);
       by-register = as-report limits register;
       by-book = book-refused limits register;
       text = text-is limits register;

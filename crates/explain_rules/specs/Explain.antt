@@ -2,34 +2,20 @@
 -- Assumes nothing.
 use Prim.Native.Nat.{ℕ}
 use mathlib.Core.Path.{_≡_}
-use mathlib.Core.Bool.{cond}
 use mathlib.Core.List.{List}
-use lib.Dec.{eqb}
 use Rattle.book_rules.specs.History.{Made, emptyBook}
-use Rattle.register.specs.declared.limits_csv.LimitsFile.{LimitsFile}
 use Rattle.register.specs.LimitsFile.{limitsOf}
-use Rattle.report_steps.specs.Reading.{Reading, registered}
 use Rattle.report_steps.specs.Booking.{registerCalls}
-use Rattle.report_text.specs.Text.{refusedText, bookRefusal}
-use Rattle.report_rules.specs.Report.{bookRows, reportOf}
+use Rattle.report_text.specs.Text.{bookRefusal}
+use Rattle.report_rules.specs.Report.{bookRows, answerOf, reportOf}
 use Rattle.report_rules.specs.Flights.{bookIn, AllStand}
 use Rattle.report_rules.specs.WholeText.{readIn}
 use Rattle.explain_text.specs.Text.{explainText}
 use Rattle.explain_rules.specs.Says.{textAfter, ExplainSays}
 
--- the answer to a register that was read: the text of its book, or its refusal and line
-unfoldable pub readingExplained : LimitsFile → Reading → List ℕ
-readingExplained l s = cond (eqb (s .refusal) 0) (explainText l (s .book)) (refusedText (s .refusal) (s .line))
-
--- the answer to a register, where limits.csv is accepted: it is read into an empty book
-unfoldable pub registerExplained : LimitsFile → List ℕ → List ℕ
-registerExplained l register = readingExplained l (registered (l .points) (emptyBook (l .points) bookRows) register)
-
--- the bytes of limits.csv, judged first, and the bytes of the register give the bytes of the output
-unfoldable pub explainOf : (limits register : List ℕ) → List ℕ
-explainOf limits register =
-    cond (eqb (limitsOf limits .refusal) 0) (registerExplained (limitsOf limits) register)
-    (refusedText (limitsOf limits .refusal) (limitsOf limits .line))
+-- the bytes of limits.csv and the bytes of the register give the bytes of the output
+abbrev pub explainOf : (limits register : List ℕ) → List ℕ
+explainOf limits register = answerOf explainText limits register
 
 -- the calls that a register makes
 abbrev pub callsIn : (limits register : List ℕ) → List Made
