@@ -1,10 +1,10 @@
--- `contour_cases::checker` meets its contract. Assumes nothing.
+-- `contour_cases::full::checker` meets its contract. Assumes nothing.
 use borrow.Author.Needs.{needs}
 use mathlib.Core.Path.{_≡_, _∙_}
 use Prim.Native.Nat.{_-_, _≤_}
 use lib.ListN.{length, length-set}
-use Rattle.contour_cases.proofs.checker.Statement.{statement}
-use Rattle.contour_cases.proofs.checker.Tie as tie
+use Rattle.contour_cases.proofs.full.checker.Statement.{statement}
+use Rattle.contour_cases.proofs.full.checker.Tie as tie
 
 abbrev Inv-loop : tie.InvT-loop
 Inv-loop levels₀ i₀ levels i = (length levels ≡ length levels₀) × (i ≤ length levels₀)
