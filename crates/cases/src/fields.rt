@@ -1,5 +1,5 @@
-// The fields of a line: words, numbers with a space between them, and texts, in which `/` stands for CRLF, `^` for a CR
-// and `~` for an LF.
+// The fields of a line: words, numbers with a space or an LF between them, and texts, in which `/` stands for CRLF, `^`
+// for a CR and `~` for an LF.
 ghost use Prim.Native.Nat.{_≤_};
 ghost use mathlib.Core.Path.{_≡_};
 ghost use lib.ListN.{length};
@@ -106,15 +106,15 @@ pub fn place(line: &[u8], k: usize) -> usize {
     number(line, k) as usize
 }
 
-// The place of the next number of a field, or where the field ends.
+// The place past the number at `at`, and past the space or the LF behind it; or where the field ends.
 fn value_past(line: &[u8], at: usize) -> usize {
     let mut i = at;
     while i < line.len() {
         let c = line[i];
-        if ends_field(c) {
+        if c == b'|' {
             return i;
         }
-        if c == b' ' {
+        if !is_digit(c) {
             return i + 1;
         }
         i += 1;
