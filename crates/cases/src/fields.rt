@@ -1,7 +1,6 @@
 // The fields of a line: words, numbers with a space or an LF between them, and texts, in which `/` stands for CRLF, `^`
 // for a CR and `~` for an LF.
 ghost use Prim.Native.Nat.{_≤_};
-ghost use mathlib.Core.Path.{_≡_};
 ghost use lib.ListN.{length};
 ghost use Rattle.io.specs.Counts.{Counts};
 
