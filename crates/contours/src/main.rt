@@ -4,7 +4,6 @@
 // libraries below.
 mod input;
 mod print;
-mod say;
 
 use contours_steps::core::intake::COMPLETE;
 use contours_steps::core::intake::FAILED;
@@ -16,6 +15,8 @@ use contours_steps::words::MAX_CONTOUR_LEVELS;
 use contours_steps::words::words_refusal;
 use network::Frame;
 use network::limits::MAX_SIDE;
+use said_contours::of_network;
+use said_contours::of_words;
 ghost use mathlib.Core.Path.{_≡_};
 ghost use lib.ListN.{length};
 ghost use Rattle.contours_steps.specs.Answer.{ReadWhole, ReadFailed, ReadFull};
@@ -68,7 +69,7 @@ fn failed(text: &[u8], read: Turn, asked: &[u32], given: Given)
 {
     let line = line_begun(text);
     print::failure(text, read, asked, given, line as u64);
-    say::of_read_error(line as u64);
+    of_network::unread(b"network", line as u64);
 }
 
 // The bytes fill the buffer.
@@ -78,7 +79,7 @@ fn overlong(text: &[u8], read: Turn, asked: &[u32], given: Given)
 {
     let line = overlong_line(text);
     print::overlong(text, read, asked, given, line as u64);
-    say::of_overlong(line as u64);
+    of_network::overlong(b"network", line as u64, text);
 }
 
 // The whole network is judged, and then the words.
@@ -105,7 +106,7 @@ fn refuse_network(text: &[u8], read: Turn, why: u32, asked: &[u32], given: Given
 {
     let line = refused_line(text, why);
     print::refusal(text, read, asked, given, why, line);
-    say::of_network(why, line);
+    of_network::refused(b"network", why, line, text);
 }
 
 // The first line at fault where the text is off its layout; the other refusals are of the whole.
@@ -129,7 +130,7 @@ fn with_words(text: &[u8], read: Turn, header: &[u32], levels: &[u32], asked: &[
     let why = words_refusal(given);
     if why != 0 {
         print::refusal(text, read, asked, given, why, 0);
-        say::of_levels(why);
+        of_words::refused(why, given.count);
         return;
     }
     draw(text, read, header, levels, asked, given);

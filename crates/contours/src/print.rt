@@ -8,6 +8,7 @@ use contours_steps::words::Given;
 use libc::STDOUT_FILENO;
 use network::Frame;
 use network::limits::MAX_EDGES;
+use said_contours::of_lines;
 use wkt::core::first;
 use wkt::core::print_part;
 ghost use mathlib.Core.Path.{_≡_};
@@ -115,7 +116,7 @@ fn contours(levels: &[u32], frame: Frame, asked: &[u32], v: u32, sent: &mut usiz
     fronts(levels, frame, asked, v, &edges, &counts, &closed, got, sent);
 }
 
-// The contours at the fronts of longer buffers.
+// The contours at the fronts of longer buffers; a person is told where there are none, or open ones.
 fn fronts(
     levels: &[u32],
     frame: Frame,
@@ -151,6 +152,7 @@ fn fronts(
         &closed[..m],
         sent,
     );
+    of_lines::drawn(v, levels, &closed[..m]);
 }
 
 // The text, part by part.

@@ -1,9 +1,8 @@
 // The report program: limits.csv in the current folder and a register on standard input make the report on standard
 // output. It moves bytes; what it decides is decided in the libraries below. For a person, a refusal also gets a
-// sentence on standard error.
+// sentence on standard error, and so do rows that an answer passed over.
 mod explain;
 mod feed;
-mod say;
 
 use feed::ENDED;
 use feed::Turn;
@@ -53,7 +52,7 @@ fn answer(text: &[u8], out: &mut [u8]) -> usize
     let limits = register::limits_csv::read_limits(text);
     let refusal = limits.refusal;
     if refusal != 0 {
-        say::of_limits(refusal, limits.line as u64, text);
+        said_report::of_limits::refused(b"limits.csv", limits.line as u64, refusal, text);
         return put_refused(out, refusal, limits.line as u64);
     }
     let mut ids = [0u32; BOOK_ROWS];
@@ -122,9 +121,7 @@ fn answer_whole(
         return refuse(bytes, read, limits, out);
     }
     let report = put_report(out, ids, groups, marks, levels, limits);
-    if report.refused != 0 {
-        say::of_book(report.refused);
-    }
+    explain::answer(report.refused, read.line, ids);
     report.size
 }
 

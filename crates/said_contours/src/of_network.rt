@@ -17,6 +17,7 @@ use said::note::words;
 use said::odd;
 use said::part::column;
 use said::part::line;
+use said::part::one_more;
 
 // The lines before the rows, where the no-data value is named and where it isn't.
 const NAMED: u64 = 6;
@@ -85,7 +86,7 @@ fn told(file: &[u8], refusal: u32, number: u64, text: &[u8], nodata: &[u8], befo
         layout(file, number, text, nodata, before);
         return;
     }
-    let rows = line(text, before + 1);
+    let rows = line(text, one_more(before));
     let start = rows.start;
     if refusal == 12 {
         size_off(file, text, &text[start..], before);

@@ -12,12 +12,12 @@ refusal-requires c κs =
     let p = c .before .before .before .pre in
     (p .0, refused-text (p .1 .0) (p .1 .1 .0) (p .1 .1 .1) (c .refused-line .ensures))
 
-of-network-requires : tie.Need-of-network-requires
-of-network-requires c κs = search needs
+refused-requires : tie.Need-refused-requires
+refused-requires c κs = search needs
 
 returns : tie.Need-returns
 returns c = search needs
 
 pub refuse-network-spec : {M : Type 1} → statement M
 refuse-network-spec =
-    tie.close (tie.spec refused-line-requires refusal-requires of-network-requires returns)
+    tie.close (tie.spec refused-line-requires refusal-requires (λ c. search needs) refused-requires returns)

@@ -9,10 +9,9 @@ use Rattle.report.proofs.answer.Tie as tie
 
 returns : tie.Need-returns
 returns c =
-    let written = c .before .before in
-    let cast = written .before in
-    let test = cast .before .before .before .before in
-    let read = test .before in
+    let written : tie.After-put-refused = search in
+    let test : tie.Then1 = search in
+    let read : tie.After-read-limits = search in
     limits-refused (read .before .before .before .args .text .now) (read .read-limits .ensures) (test .if1 .taken)
     (written .put-refused .ensures)
 
@@ -41,6 +40,7 @@ answer-spec =
     tie.close
     (tie.spec
     (λ c κs. search needs)
+    (λ c. search needs)
     (λ c. search needs)
     (λ c κs. search needs)
     (λ c. search needs)
