@@ -52,7 +52,7 @@ fn answer(text: &[u8], out: &mut [u8]) -> usize
     let limits = register::limits_csv::read_limits(text);
     let refusal = limits.refusal;
     if refusal != 0 {
-        said_report::of_limits::refused(b"limits.csv", limits.line as u64, refusal, text);
+        explain::limits(limits.line as u64, refusal, text);
         return put_refused(out, refusal, limits.line as u64);
     }
     let mut ids = [0u32; BOOK_ROWS];

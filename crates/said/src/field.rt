@@ -15,17 +15,26 @@ pub fn found(out: &mut [u8; ROOM], at: usize, t: &[u8]) -> usize {
     words(out, end, b"'")
 }
 
+// Whether digits begin with a needless zero.
+fn is_padded(t: &[u8]) -> bool {
+    if t.len() < 2 {
+        return false;
+    }
+    if !is_digits(t) {
+        return false;
+    }
+    t[0] == b'0'
+}
+
 // A field that should be a whole number.
 pub fn whole(out: &mut [u8; ROOM], at: usize, t: &[u8]) -> usize {
     let next = found(out, at, t);
-    if 1 < t.len() {
-        if t[0] == b'0' {
-            return words(
-                out,
-                next,
-                b", expected a whole number without a zero in front",
-            );
-        }
+    if is_padded(t) {
+        return words(
+            out,
+            next,
+            b", expected a whole number without a zero in front",
+        );
     }
     words(
         out,

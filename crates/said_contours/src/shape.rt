@@ -35,22 +35,29 @@ pub(crate) fn cell(out: &mut [u8; ROOM], at: usize, row: u64, column: u64) -> us
     number(out, comma, column)
 }
 
-// The size of a network as its header says it, and as its rows are.
-fn header_size(out: &mut [u8; ROOM], at: usize, text: &[u8]) -> usize {
-    let word = words(out, at, b"; the header says ");
-    let rows = number(out, word, number_of(text, 2) as u64);
-    let of = words(out, rows, b" rows of ");
-    let columns = number(out, of, number_of(text, 1) as u64);
-    words(out, columns, b" values")
+// How many values a header asks for.
+fn product(rows: u32, columns: u32) -> u64 {
+    rows as u64 * columns as u64
 }
 
-fn file_size(out: &mut [u8; ROOM], at: usize, body: &[u8]) -> usize {
-    let rows = first_row(body, b"", Sought::Nothing).number;
-    let word = words(out, at, b", the file has ");
-    let count = number(out, word, rows);
-    let and = words(out, count, b" rows and ");
-    let values = number(out, and, sum(rows, last(body, b' ') as u64));
-    words(out, values, b" values")
+// What the header says and what the file has.
+fn against(out: &mut [u8; ROOM], at: usize, header: u64, file: u64) -> usize {
+    let first = number(out, at, header);
+    let and = words(out, first, b" by the header and ");
+    let second = number(out, and, file);
+    words(out, second, b" in the file")
+}
+
+// The size of a network: its rows and its values.
+fn sizes(out: &mut [u8; ROOM], at: usize, text: &[u8], body: &[u8]) -> usize {
+    let columns = number_of(text, 1);
+    let rows = number_of(text, 2);
+    let found = first_row(body, b"", Sought::Nothing).number;
+    let values = sum(found, last(body, b' ') as u64);
+    let start = words(out, at, b"; rows: ");
+    let middle = against(out, start, rows as u64, found);
+    let word = words(out, middle, b"; values: ");
+    against(out, word, product(rows, columns), values)
 }
 
 // The end of a sentence: both sizes and the refusal, and below it the line.
@@ -62,9 +69,8 @@ fn ended(
     body: &[u8],
     row: &[u8],
 ) -> usize {
-    let header = header_size(out, at, text);
-    let file = file_size(out, header, body);
-    let end = rule(out, file, refusal);
+    let size = sizes(out, at, text, body);
+    let end = rule(out, size, refusal);
     below(out, end, row)
 }
 

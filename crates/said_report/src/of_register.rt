@@ -189,7 +189,7 @@ fn reason(
     of_rule(out, at, refusal, line, points)
 }
 
-// The register is refused at the first line of the `left` bytes from `at` on; `ended` says whether its input ended there.
+// The register is refused at the first line of the `left` bytes from `at` on; `ended` says whether they are its last.
 pub fn refused_in(
     file: &[u8],
     bytes: &[u8],

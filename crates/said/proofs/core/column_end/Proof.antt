@@ -7,7 +7,11 @@ use Rattle.said.proofs.core.column_end.Statement.{statement}
 use Rattle.said.proofs.core.column_end.Tie as tie
 
 returns : tie.Need-returns
-returns c = omega (arith, c .field-end .ensures, up-length (c .before .before .args .d) (drop (c .before .before .args .from) (c .before .before .args .s .now)), length-drop (c .before .before .args .from) (c .before .before .args .s .now))
+returns c =
+    let s : tie.Start = search in
+    let a = s .args in
+    let rest = drop (a .from) (a .s .now) in
+    omega (arith, c .field-end .ensures, up-length (a .d) rest, length-drop (a .from) (a .s .now))
 
 pub column-end-spec : {M : Type 1} → statement M
 column-end-spec =
