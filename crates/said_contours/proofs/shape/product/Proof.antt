@@ -14,4 +14,4 @@ mul-result c =
     omega (arith, mul-le-mul r k)
 
 pub product-spec : {M : Type 1} → statement M
-product-spec = tie.close (tie.spec (λ c. search needs) (λ c. search needs) mul-result (λ c. search needs))
+product-spec = tie.close (tie.spec mul-result (λ c. search needs))
