@@ -4,6 +4,7 @@
 // libraries below.
 mod input;
 mod print;
+mod say;
 
 use contours_steps::core::intake::COMPLETE;
 use contours_steps::core::intake::FAILED;
@@ -16,7 +17,6 @@ use contours_steps::words::words_refusal;
 use network::Frame;
 use network::limits::MAX_SIDE;
 use said_contours::of_network;
-use said_contours::of_words;
 ghost use mathlib.Core.Path.{_≡_};
 ghost use lib.ListN.{length};
 ghost use Rattle.contours_steps.specs.Answer.{ReadWhole, ReadFailed, ReadFull};
@@ -130,7 +130,7 @@ fn with_words(text: &[u8], read: Turn, header: &[u32], levels: &[u32], asked: &[
     let why = words_refusal(given);
     if why != 0 {
         print::refusal(text, read, asked, given, why, 0);
-        of_words::refused(why, given.count);
+        say::words_off(why, given.count);
         return;
     }
     draw(text, read, header, levels, asked, given);

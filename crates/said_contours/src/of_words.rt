@@ -1,6 +1,4 @@
 // Why an argument is refused.
-use network::limits::LEAST_CONTOUR;
-use network::limits::MAX_CONTOUR;
 use said::field;
 use said::note::ROOM;
 use said::note::number;
@@ -17,38 +15,6 @@ fn is_level(word: &[u8]) -> bool {
     }
 }
 
-// Whether a word is a contour level.
-fn is_contour(word: &[u8]) -> bool {
-    match text::number::level(word) {
-        Number::Got(v) => {
-            if v < LEAST_CONTOUR {
-                return false;
-            }
-            v <= MAX_CONTOUR
-        }
-        Number::Off => false,
-    }
-}
-
-// Whether argument i is one.
-fn fits(i: usize) -> bool {
-    let mut word = [0u8; 16];
-    let n = os::arg(i, &mut word);
-    is_contour(&word[..n])
-}
-
-// The first argument that is none, or the last.
-fn first_off(count: usize) -> usize {
-    let mut i = 0;
-    while i < count {
-        if !fits(i + 1) {
-            return i + 1;
-        }
-        i += 1;
-    }
-    i
-}
-
 // What is wrong with a word.
 fn reason(out: &mut [u8; ROOM], at: usize, word: &[u8]) -> usize {
     if is_level(word) {
@@ -58,15 +24,8 @@ fn reason(out: &mut [u8; ROOM], at: usize, word: &[u8]) -> usize {
     field::level(out, at, word)
 }
 
-// Argument i.
-fn word_off(i: usize) {
-    let mut word = io::buffer();
-    let n = os::arg(i, &mut word);
-    told(i, &word[..n]);
-}
-
-// The sentence on it.
-fn told(i: usize, word: &[u8]) {
+// Argument number i, which has this text, is no contour level.
+pub fn refused(i: usize, word: &[u8]) {
     let mut out = [0u8; ROOM];
     let start = words(&mut out, 0, b"arguments: level ");
     let name = number(&mut out, start, i as u64);
@@ -76,7 +35,7 @@ fn told(i: usize, word: &[u8]) {
 }
 
 // More levels than there is room for.
-fn too_many(count: usize) {
+pub fn too_many(count: usize) {
     let mut out = [0u8; ROOM];
     let start = words(&mut out, 0, b"arguments: the number of contour levels is ");
     let comma = number(&mut out, start, count as u64);
@@ -86,7 +45,7 @@ fn too_many(count: usize) {
 }
 
 // No level at all.
-fn too_few() {
+pub fn too_few() {
     let mut out = [0u8; ROOM];
     let end = words(
         &mut out,
@@ -95,17 +54,4 @@ fn too_few() {
     );
     let size = rule(&mut out, end, 15);
     send(&out, size);
-}
-
-// The arguments are refused, of which there are `count`.
-pub fn refused(refusal: u32, count: usize) {
-    if refusal == 14 {
-        too_many(count);
-        return;
-    }
-    if count == 0 {
-        too_few();
-        return;
-    }
-    word_off(first_off(count));
 }

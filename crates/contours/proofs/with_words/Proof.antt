@@ -14,8 +14,8 @@ refusal-requires c κs =
     let s = judged .before .before .before .before .before in
     (s .pre .0, refused-words (s .pre .1 .0) (s .pre .1 .1 .1 .0) (judged .words-refusal .ensures) (c .if1 .taken))
 
-refused-requires : tie.Need-refused-requires
-refused-requires c κs = search needs
+words-off-requires : tie.Need-words-off-requires
+words-off-requires c κs = search needs
 
 returns : tie.Need-returns
 returns c = search needs
@@ -36,7 +36,7 @@ with-words-spec =
     (tie.spec
     words-refusal-requires
     refusal-requires
-    refused-requires
+    words-off-requires
     returns
     draw-requires
     returns-2)

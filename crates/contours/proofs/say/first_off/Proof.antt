@@ -1,8 +1,8 @@
--- `said_contours::of_words::first_off` is safe: the loop stays within the arguments. Assumes nothing.
+-- `contours::say::first_off` is safe: the loop stays within the arguments. Assumes nothing.
 use Prim.Native.Nat.{_-_, _≤_}
 use borrow.Author.Needs.{needs}
-use Rattle.said_contours.proofs.of_words.first_off.Statement.{statement}
-use Rattle.said_contours.proofs.of_words.first_off.Tie as tie
+use Rattle.contours.proofs.say.first_off.Statement.{statement}
+use Rattle.contours.proofs.say.first_off.Tie as tie
 
 abbrev Inv-loop : tie.InvT-loop
 Inv-loop count i₀ i = i ≤ count
