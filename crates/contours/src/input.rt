@@ -5,7 +5,6 @@ use contours_steps::words::Given;
 use contours_steps::words::take_word;
 use refusal::both;
 ghost use mathlib.Core.Path.{_≡_};
-ghost use mathlib.Core.Bool.{_&&_};
 ghost use Prim.Native.Nat.{_+_, _<_, _^_};
 ghost use Rattle.contours_steps.specs.Words.{Gathered};
 ghost use Rattle.contours_steps.specs.InnerIntake.{ArgumentTaken};

@@ -17,6 +17,7 @@ use contours_steps::words::words_refusal;
 use libc::STDERR_FILENO;
 use network::Frame;
 use network::limits::MAX_SIDE;
+use said_contours::of_network;
 ghost use mathlib.Core.Path.{_≡_};
 ghost use lib.ListN.{length};
 ghost use Rattle.channel.specs.Input.{Fills, input};
@@ -85,7 +86,7 @@ fn failed(text: &[u8], asked: &[u32], given: Given, sent: &mut usize) -> bool
     let line = line_begun(text);
     let went = print::failure(text, asked, given, line as u64, sent);
     if went {
-        say::of_read_error(line as u64);
+        of_network::unread(b"network", line as u64);
     }
     went
 }
@@ -100,7 +101,7 @@ fn overlong(text: &[u8], asked: &[u32], given: Given, sent: &mut usize) -> bool
     let line = overlong_line(text);
     let went = print::overlong(text, asked, given, line as u64, sent);
     if went {
-        say::of_overlong(line as u64);
+        of_network::overlong(b"network", line as u64, text);
     }
     went
 }
@@ -133,7 +134,7 @@ fn refuse_network(text: &[u8], why: u32, asked: &[u32], given: Given, sent: &mut
     let line = refused_line(text, why);
     let went = print::refusal(text, asked, given, why, line, sent);
     if went {
-        say::of_network(why, line);
+        of_network::refused(b"network", why, line, text);
     }
     went
 }
@@ -171,7 +172,7 @@ fn with_words(
     }
     let went = print::refusal(text, asked, given, why, 0, sent);
     if went {
-        say::of_levels(why);
+        say::words_off(why, given.count);
     }
     went
 }

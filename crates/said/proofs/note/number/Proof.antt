@@ -1,4 +1,4 @@
--- `said::number` is safe: a number has at most 20 digits. Assumes nothing.
+-- `said::note::number` is safe: a number has at most 20 digits. Assumes nothing.
 use mathlib.Core.Path.{sym}
 use Prim.Native.Nat.{_≤_}
 use native.Mathlib.Omega.{arith}
@@ -8,22 +8,25 @@ use borrow.Author.Needs.{needs}
 use Rattle.room.proofs.Laws.{wrote-fits}
 use Rattle.text.specs.Number.{showNumber}
 use Rattle.text.proofs.Shown.{number-short}
-use Rattle.said.proofs.number.Statement.{statement}
-use Rattle.said.proofs.number.Tie as tie
+use Rattle.said.proofs.note.number.Statement.{statement}
+use Rattle.said.proofs.note.number.Tie as tie
 
 few : (s : tie.Start) → length (showNumber (s .args .n)) ≤ 20
 few s = number-short (s .args .n)
 
 put-number-requires : tie.Need-put-number-requires
-put-number-requires c κs = omega (arith, few (c .before))
+put-number-requires c κs = let s : tie.Start = search in omega (arith, few s)
 
 array-share-prefix : tie.Need-array-share-prefix-digits
 array-share-prefix c =
-    let put = c .before in
-    omega (arith, few (put .before .before), put .put-number .ensures .place)
+    let s : tie.Start = search in
+    let put : tie.After-put-number = search in
+    omega (arith, few s, put .put-number .ensures .place)
 
-slice-aggregate : tie.Need-slice-aggregate-write-all
-slice-aggregate c = sym (length-take-le _ _ (wrote-fits (c .before .before .put-number .ensures)))
+slice-aggregate : tie.Need-slice-aggregate-words
+slice-aggregate c =
+    let put : tie.After-put-number = search in
+    sym (length-take-le _ _ (wrote-fits (put .put-number .ensures)))
 
 pub number-spec : {M : Type 1} → statement M
 number-spec =
