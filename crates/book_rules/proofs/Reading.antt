@@ -11,7 +11,7 @@ use lib.Seq.{length-take-le}
 use lib.Dec.{eqb, leb, ltb}
 use borrow.Author.Tests.{leb-true, ltb-true, eqb-true, eqb-false, ne-eqb}
 use Rattle.refusal.specs.Range.{allWithin}
-use Rattle.refusal.proofs.Laws.{and-left, and-right}
+use Rattle.refusal.proofs.Laws.{and-left, and-right, nil-of}
 use Rattle.book_rules.specs.Columns.{Book, sound, rising, followed, follows, headSound, topLevel, rowSound}
 use Rattle.book_rules.specs.Columns.{rowsSound}
 use Rattle.book_rules.specs.History.{Held, Movement, movement, markOf, levelsOf, column, identityCell}
@@ -45,10 +45,6 @@ row-zero p g m l e h =
     let w : allWithin 0 l ≡ true =
     subst (λ k. allWithin (topLevel k) l ≡ true) z (and-right (eqb g 0 && eqb m 0) _ e) in
     (eqb-true g 0 (and-left (eqb g 0) _ head), z, zeros-of l w ∙ ap (λ k. replicate k 0) h)
-
-nil-of : (ls : List ℕ) → length ls ≡ 0 → ls ≡ []
-nil-of [] e = refl
-nil-of (l ∷ ls) e = absurd (omega arith)
 
 follows-zero : (x : ℕ) → follows 0 x ≡ true → x ≡ 0
 unfolding follows

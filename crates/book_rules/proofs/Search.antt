@@ -1,7 +1,7 @@
 -- Laws for the binary search of a place: identities rise, so a row that the place is not after has the place at or
 -- before it. Assumes nothing.
 use mathlib.Core.Path.{_≡_, refl, sym, ap, _∙_}
-use mathlib.Core.Bool.{Bool, true, false, cond, _&&_, _||_, true≢false}
+use mathlib.Core.Bool.{Bool, true, false, cond, _&&_, _||_, true≢false, or-true}
 use mathlib.Core.List.{List, [], _∷_}
 use Prim.Native.Nat.{ℕ, zero, suc, _+_, _≤_, _<_}
 use native.Mathlib.Nat.{le-of-suc-le-suc, not-suc-le-zero}
@@ -148,12 +148,8 @@ pub place-index≤ : (x : ℕ) (xs : List ℕ) → placeOf x xs ≤ indexOf x xs
 unfolding placeOf indexOf
 place-index≤ x xs = first-earlier (reached x) (λ y. eqb y x) reaches xs
   where
-    or-right : (t : Bool) → (t || true) ≡ true
-    or-right true = refl
-    or-right false = refl
-
     reaches : (y : ℕ) → eqb y x ≡ true → reached x y ≡ true
-    reaches y e = rw (le-leb x y (omega (arith, eqb-true y x e))) (or-right (eqb y 0))
+    reaches y e = rw (le-leb x y (omega (arith, eqb-true y x e))) (or-true (eqb y 0))
 
 pub index-is : (x : ℕ) (xs : List ℕ) → indexOf x xs < length xs → getD xs (indexOf x xs) 0 ≡ x
 unfolding indexOf

@@ -1,6 +1,6 @@
 -- What buffers hold while contours are listed. Assumes nothing.
 use mathlib.Core.Path.{_≡_, refl, sym, ap, _∙_, subst}
-use mathlib.Core.Bool.{Bool, true, false, _&&_, _||_, cond}
+use mathlib.Core.Bool.{Bool, true, false, _&&_, _||_, cond, and-false}
 use mathlib.Core.List.{List, [], _∷_, _++_}
 use Prim.Native.Nat.{ℕ, zero, suc, _+_, _-_, _≤_, _<_}
 use native.Mathlib.Numerals.{add-one}
@@ -173,10 +173,6 @@ none-wait g closes l n (suc k) h =
     ∙ ap (λ (b : Bool). cond b (added g closes (n + k) (swept g closes l n)) (swept g closes l n))
     (ap (λ (b : Bool). (closes || entersAt g (n + k)) && b) (h (n + k) (omega arith) (omega arith))
     ∙ and-false (closes || entersAt g (n + k)))
-  where
-    and-false : (a : Bool) → (a && false) ≡ false
-    and-false true = refl
-    and-false false = refl
 
 pub sweep-waits : (g : Picture) (closes : Bool) (from n to : ℕ) (d₀ d : Desk) → n ≤ to
     → ((m : ℕ) → n ≤ m → m < to → waits (d .list) m ≡ false) → Sweeps g closes from n d₀ d

@@ -1,4 +1,5 @@
 -- The outcome of the call tells the contours. Assumes nothing.
+use Rattle.contour_rules.proofs.Waiting.{bit-one}
 use mathlib.Core.Path.{_≡_, refl, sym, ap, _∙_, subst}
 use mathlib.Core.Bool.{Bool, true, false, _&&_, cond, true≢false}
 use mathlib.Core.Logic.{_↔_}
@@ -21,10 +22,6 @@ use Rattle.contour_rules.specs.Contours.{Contour, bit, edgesOf, countsOf, close
 use Rattle.contour_rules.proofs.Sums.{length-counts, length-closed}
 use Rattle.contour.specs.Answers.{Lists, listsOf, answerOf, fits, leftWith, outcome}
 use Rattle.contour.specs.Told.{contoursTold, found, Enough, Told}
-
-bit-one : (b : Bool) → eqb (bit b) 1 ≡ b
-bit-one true = refl
-bit-one false = refl
 
 -- listed contours, read back
 told-back : (cs : List Contour) → contoursTold (edgesOf cs) (countsOf cs) (closedOf cs) ≡ cs

@@ -160,7 +160,7 @@ unfolding crossedTo
 length-crossed g zero = refl
 length-crossed g (suc n) = length-append (crossedTo g n) _ ∙ omega (arith, length-crossed g n)
 
-bit-one : (b : Bool) → eqb (bit b) 1 ≡ b
+pub bit-one : (b : Bool) → eqb (bit b) 1 ≡ b
 bit-one true = refl
 bit-one false = refl
 

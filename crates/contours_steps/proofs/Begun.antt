@@ -1,4 +1,5 @@
 -- The line that a next byte would stand in, one line end further. Assumes nothing.
+use Rattle.grid.proofs.LineLaws.{line-room}
 use Prim.Native.Nat.{ℕ, suc, _+_, _-_, _≤_, _<_}
 use mathlib.Core.Path.{_≡_, refl, sym, ap, _∙_}
 use mathlib.Core.Bool.{Bool, true, false, cond, _&&_, and-false}
@@ -14,17 +15,6 @@ use Rattle.text.proofs.Lines.{line-length, lines-step}
 use Rattle.text.proofs.Streams.{stream-line}
 use Rattle.grid.specs.File.{faultLine}
 use Rattle.contours_steps.specs.Sheet.{lineBegun, overlongLine}
-
--- a line that ends before its text does has its CRLF there
-pub line-room : (s : List ℕ) → length (firstLine s) < length s → length (firstLine s) + 2 ≤ length s
-unfolding firstLine
-line-room [] h = absurd (omega arith)
-line-room (c ∷ []) h = let l : 1 < 1 = rw (and-false (eqb c 13)) at h in absurd (omega arith)
-line-room (c ∷ d ∷ s) h =
-    either (eqb c 13 && eqb d 10)
-    (λ yes. rw yes (omega arith))
-    (λ no. let l : suc (length (firstLine (d ∷ s))) < suc (suc (length s)) = rw no at h in
-    rw no (omega (arith, line-room (d ∷ s) (omega arith))))
 
 -- with no line end ahead the next byte stands in the first line
 pub unended : (s : List ℕ) → length s ≤ length (firstLine s)

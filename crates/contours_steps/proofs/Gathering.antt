@@ -1,7 +1,7 @@
 -- Words, one more. Assumes nothing.
 use Prim.Native.Nat.{ℕ, suc, _+_, _-_, _≤_, _<_}
 use mathlib.Core.Path.{_≡_, refl, sym, ap, _∙_}
-use mathlib.Core.Bool.{Bool, true, false, _&&_, cond}
+use mathlib.Core.Bool.{Bool, true, false, _&&_, cond, and-true}
 use mathlib.Core.List.{List, [], _∷_, _++_}
 use native.Mathlib.Omega.{arith}
 use lib.ListN.{length, getD, take, set, length-append, length-set, List·getD-append}
@@ -71,11 +71,7 @@ words-given {g} {asked} k = rw (k .count, k .fit) refl
 all-snoc : (p : List ℕ → Bool) (ws : List (List ℕ)) (w : List ℕ)
     → all p (ws ++ (w ∷ [])) ≡ (all p ws && p w)
 unfolding all
-all-snoc p [] w = last (p w)
-  where
-    last : (b : Bool) → (b && true) ≡ b
-    last true = refl
-    last false = refl
+all-snoc p [] w = and-true (p w)
 all-snoc p (x ∷ ws) w = first (p x) (all-snoc p ws w)
   where
     first : (b : Bool) → all p (ws ++ (w ∷ [])) ≡ (all p ws && p w)

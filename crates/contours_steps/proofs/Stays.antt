@@ -1,4 +1,5 @@
 -- A line that is told of a text that fills the room is the first at fault, whatever follows. Assumes nothing.
+use Rattle.grid.proofs.LineLaws.{line-room}
 use Prim.Native.Nat.{ℕ, zero, suc, _+_, _≤_, _<_}
 use mathlib.Core.Path.{_≡_, refl, sym, ap, _∙_}
 use mathlib.Core.Bool.{Bool, true, false, cond}
@@ -19,7 +20,7 @@ use Rattle.contours_steps.specs.Sheet.{lineBegun, maxText, overlongLine}
 use Rattle.contours_steps.specs.Told.{FillsRoom}
 use Rattle.contours_steps.proofs.Overlong.{overlong-twelve}
 use Rattle.text.proofs.Streams.{stream-line}
-use Rattle.contours_steps.proofs.Begun.{line-room, unended}
+use Rattle.contours_steps.proofs.Begun.{unended}
 
 -- ---- a line that is ended stays, whatever follows
 

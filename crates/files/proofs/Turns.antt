@@ -1,5 +1,6 @@
 -- The turns of a reading: what each promises, put together, is what the whole register gives.
 -- Assumes nothing.
+use Rattle.report_rules.proofs.Refusing.{closing-refused}
 use mathlib.Core.Path.{_≡_, refl, sym, ap, _∙_}
 use mathlib.Core.Bool.{true, false, cond, _&&_}
 use mathlib.Core.List.{List, [], _∷_, _++_, append-nil, append-assoc}
@@ -48,10 +49,6 @@ turn-failed {p} {line} {taken} {taken′} {waited} {t} {b} {bytes} k e broken =
       states = omega arith;
     }
 
-refused-closes : (s : Reading) → (s .refusal ≡ 0 → ⊥) → closing s ≡ s
-unfolding closing
-refused-closes s ne = rw (ne-eqb (s .refusal) 0 ne) refl
-
 -- a piece: `came` are its bytes behind those that waited
 module _ {p : ℕ} {s : Reading} {bytes bytes′ : List ℕ} {t : Turn} {b′ : Book} (waited came : List ℕ)
     (k : Pieced p s bytes t b′ bytes′) (e : bytes ≡ waited ++ came) where
@@ -87,7 +84,7 @@ module _ {p : ℕ} {s : Reading} {bytes bytes′ : List ℕ} {t : Turn} {b′ : 
         stops = λ q u.
             let after = turnedTo t b′ in
             let none-left = stuck p after (linesOf (take (t .left) bytes′ ++ u)) (k .stops q) in
-            sym (refused-closes after (k .stops q)) ∙ ap closing (sym (onward .same u ∙ none-left));
+            sym (closing-refused after (k .stops q)) ∙ ap closing (sym (onward .same u ∙ none-left));
         fails = λ q. absurd (omega (arith, k .states));
         refused = k .stops;
         states = omega (arith, k .states);
@@ -146,7 +143,7 @@ unfolding registered
 broken-off {p} {left} {line} {taken} {b₀} {b} {bytes} k =
     ap closing (k .onward .same endless
     ∙ endless-off p (readingAt 0 line b) (take left bytes) refl (k .waits .unended))
-    ∙ refused-closes (offAt (readingAt 0 line b)) (λ e. absurd (omega arith))
+    ∙ closing-refused (offAt (readingAt 0 line b)) (λ e. absurd (omega arith))
 
 -- the register that was read, by the state that the last turn left
 module _ {p left line taken taken′ : ℕ} {b₀ b b′ : Book} {bytes bytes′ : List ℕ} {t : Turn}

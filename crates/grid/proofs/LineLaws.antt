@@ -13,7 +13,7 @@ use Rattle.text.proofs.Lines.{line-take, line-length, lines-step, lines-none, l
 use Rattle.grid.specs.InnerSteps.{linesAt, lineFrom, Passed, LineAt}
 
 -- a line that ends before its text does has its CRLF there
-line-room : (s : List ℕ) → length (firstLine s) < length s → length (firstLine s) + 2 ≤ length s
+pub line-room : (s : List ℕ) → length (firstLine s) < length s → length (firstLine s) + 2 ≤ length s
 unfolding firstLine
 line-room [] h = absurd (omega arith)
 line-room (c ∷ []) h = let l : 1 < 1 = rw (and-false (eqb c 13)) at h in absurd (omega arith)

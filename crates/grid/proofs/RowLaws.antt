@@ -2,7 +2,7 @@
 use Prim.Native.Nat.{ℕ, suc, _+_, _≤_, _<_}
 use mathlib.Core.Path.{_≡_, refl, sym, ap, _∙_}
 use mathlib.Core.List.{List, [], _∷_, map}
-use mathlib.Core.Bool.{Bool, true, false, cond, _&&_}
+use mathlib.Core.Bool.{Bool, true, false, cond, _&&_, and-true}
 use native.Mathlib.Nat.{add-zero, add-assoc}
 use native.Mathlib.Omega.{arith}
 use lib.Dec.{eqb}
@@ -14,7 +14,7 @@ use Rattle.grid.specs.InnerSteps.{linesAt, lineFrom, LineAt, rowSound, r
 use Rattle.grid.specs.declared.head.Line.{Line}
 use Rattle.grid.specs.declared.judge.Row.the-variants.{Values, Off}
 use Rattle.grid.proofs.LineLaws.{line-here, line-none}
-use Rattle.grid.proofs.ValueLaws.{all-cons, all-none, and-assoc, and-true}
+use Rattle.grid.proofs.ValueLaws.{all-cons, all-none, and-assoc}
 
 -- a line's answer says what it is
 row-got : (nodata line : List ℕ) (n : ℕ) (fine : Bool) → rowOf nodata line ≡ Values n fine

@@ -3,7 +3,7 @@
 use Prim.Native.Nat.{ℕ, zero, suc, _+_, _-_, _/_, _%_, _≤_, _<_}
 use mathlib.Core.Path.{_≡_, refl, sym, ap, _∙_}
 use mathlib.Core.List.{List, [], _∷_, _++_, map}
-use mathlib.Core.Bool.{Bool, true, false, cond, _||_, true≢false}
+use mathlib.Core.Bool.{Bool, true, false, cond, _||_, true≢false, or-true}
 use native.Mathlib.Omega.{arith}
 use borrow.Author.Tests.{eqb-true, ne-eqb, ltb-true, ltb-false}
 use lib.Dec.{eqb, ltb}
@@ -30,7 +30,7 @@ use Rattle.grid_rules.specs.Laid.{line, Named, Behind}
 use Rattle.grid_rules.specs.Refused.{keys, Keyed, Level, Naming, RowOn, LineOn, Fault}
 use Rattle.grid_rules.proofs.Places.{test-at, all-at, map-at, value-field, value-count}
 use Rattle.grid_rules.proofs.Said.{word-names, other-names}
-use Rattle.grid_rules.proofs.Lines.{key-on, key-passes, level-on, or-true, row-on, row-passes}
+use Rattle.grid_rules.proofs.Lines.{key-on, key-passes, level-on, row-on, row-passes}
 
 -- ---- the line that names the no-data value
 

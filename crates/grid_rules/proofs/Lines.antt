@@ -2,7 +2,7 @@
 use Prim.Native.Nat.{ℕ, zero, suc, _+_, _-_, _/_, _%_, _≤_, _<_}
 use mathlib.Core.Path.{_≡_, refl, sym, ap, _∙_}
 use mathlib.Core.List.{List, [], _∷_, _++_, map}
-use mathlib.Core.Bool.{Bool, true, false, cond, _||_, true≢false}
+use mathlib.Core.Bool.{Bool, true, false, cond, _||_, true≢false, or-true}
 use native.Mathlib.Omega.{arith}
 use borrow.Author.Tests.{eqb-true, ne-eqb, ltb-true, ltb-false}
 use lib.Dec.{eqb, ltb}
@@ -59,10 +59,6 @@ value-on nodata t v other =
     first : (a b : Bool) → (a || b) ≡ true → (b ≡ true → ⊥) → a ≡ true
     first true b e f = refl
     first false b e f = absurd (f e)
-
-pub or-true : (a : Bool) → (a || true) ≡ true
-or-true true = refl
-or-true false = refl
 
 value-passes : (nodata t : List ℕ) → ((t ≡ nodata → ⊥) → Level t) → isValue nodata t ≡ true
 value-passes nodata t l =

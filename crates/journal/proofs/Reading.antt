@@ -1,6 +1,6 @@
 -- A journal, call by call: what the whole says, said of what is still to be read. Assumes nothing.
 use mathlib.Core.Path.{_≡_, refl, sym, ap, _∙_}
-use mathlib.Core.Bool.{Bool, true, false, cond, _&&_, _||_}
+use mathlib.Core.Bool.{Bool, true, false, cond, _&&_, _||_, and-false}
 use mathlib.Core.List.{List, [], _∷_}
 use Prim.Native.Nat.{ℕ, zero, suc, _+_, _-_, _≤_, _<_}
 use native.Mathlib.Omega.{arith}
@@ -98,11 +98,7 @@ laid-cut j at w e h k =
     laid-off (drop at j) (omega arith)
     (⊎-elim (λ a. rw (lt-leb 1 (widthOf (drop at j)) (omega arith)) refl)
     (λ a. rw (lt-leb (widthOf (drop at j)) (length (drop at j)) (omega arith))
-    (no (leb 1 (widthOf (drop at j))))) k)
-  where
-    no : (t : Bool) → (t && false) ≡ false
-    no true = refl
-    no false = refl
+    (and-false (leb 1 (widthOf (drop at j))))) k)
 
 -- a complete call, and what follows it
 pub record Step (j : List ℕ) (at w : ℕ) : Type 0 where

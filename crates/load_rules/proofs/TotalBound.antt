@@ -1,5 +1,6 @@
 -- No total is over 10^13 for each movement, so that M of a book fits 64 bits.
 -- Assumes nothing.
+use Rattle.refusal.proofs.Ranges.{within-at}
 use mathlib.Core.Path.{_≡_}
 use mathlib.Core.Bool.{Bool, true, false, cond, _&&_}
 use mathlib.Core.List.{List, [], _∷_}
@@ -27,12 +28,6 @@ use Rattle.load_rules.specs.Afresh.{computedIn, heldEnergy, energyOfGrou
 use Rattle.load_rules.proofs.SumLaws.{sum-le, sum-times}
 
 -- S of a group
-
-within-at : (top : ℕ) (ls : List ℕ) (i : ℕ) → allWithin top ls ≡ true → getD ls i 0 ≤ top
-unfolding allWithin
-within-at top [] i e = omega arith
-within-at top (x ∷ ls) zero e = leb-true x top (and-left (leb x top) _ e)
-within-at top (x ∷ ls) (suc i) e = within-at top ls i (and-right (leb x top) _ e)
 
 held-small : (p pt g : ℕ) (ls : List ℕ) → Filled p (holds ls) → heldEnergy pt g (holds ls) ≤ maxEnergy
 unfolding heldEnergy topLevel markOf levelsOf

@@ -1,7 +1,7 @@
 -- Register rows written: from the library's answer to numbers in lent room. Assumes nothing.
 use Prim.Native.Nat.{ℕ, _≤_}
 use mathlib.Core.Path.{_≡_, refl, sym, ap, _∙_}
-use mathlib.Core.Bool.{Bool, true, false, _&&_}
+use mathlib.Core.Bool.{Bool, true, false, _&&_, and-true}
 use mathlib.Core.List.{List, [], _∷_}
 use native.Mathlib.Omega.{arith}
 use borrow.Author.Tests.{le-leb, ne-eqb, eq-eqb}
@@ -14,10 +14,6 @@ use Rattle.register.specs.declared.write.Written.the-variants.{Size, Refused}
 use Rattle.register.specs.Write.{showRow, writeFault, writeRefusal, RowWritten}
 use Rattle.okubinrafo.specs.Rows.{fieldCount, fieldsFrom, numbersFault}
 use Rattle.room.proofs.Answers.{front-sets, short-of, fine-but-short, refuse-two, write-two}
-
-and-true : (b : Bool) → (b && true) ≡ b
-and-true true = refl
-and-true false = refl
 
 -- 9 for a number of fields other than 6, and otherwise the fault of the fields
 pub wrong-count : (points : ℕ) (fields levels : List ℕ) → (length fields ≡ fieldCount → ⊥)

@@ -3,8 +3,10 @@
 -- Assumes nothing.
 use mathlib.Core.Path.{_≡_, refl, sym, _∙_}
 use mathlib.Core.Bool.{Bool, true, false, not, _&&_, false≢true}
+use mathlib.Core.List.{List, [], _∷_}
 use Prim.Native.Nat.{ℕ, _<_}
 use native.Mathlib.Omega.{arith}
+use lib.ListN.{length}
 use borrow.Author.Tests.{not-true, not-false}
 use Rattle.refusal.specs.Refuse.{refuse}
 
@@ -28,3 +30,8 @@ passed e h = sym e ∙ not-false _ h
 
 pub failed : {r t : Bool} → r ≡ t → not r ≡ true → t ≡ false
 failed e h = sym e ∙ not-true _ h
+
+-- a list of no length
+pub nil-of : {A : Type 0} (xs : List A) → length xs ≡ 0 → xs ≡ []
+nil-of [] e = refl
+nil-of (x ∷ xs) e = absurd (omega arith)

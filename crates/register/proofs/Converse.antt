@@ -9,7 +9,7 @@ use lib.ListN.{length, getD, take, replicate, length-append, List·getD-append}
 use lib.Seq.{length-take-le, getD-take}
 use lib.Dec.{leb, eqb}
 use Rattle.refusal.specs.Range.{allWithin}
-use Rattle.refusal.proofs.Laws.{and-left, and-right, refuse-none}
+use Rattle.refusal.proofs.Laws.{and-left, and-right, refuse-none, nil-of}
 use Rattle.refusal.proofs.Ranges.{within-at, within-each}
 use Rattle.movement.specs.Rules.{fieldsFit, identityFits, levelsFit}
 use Rattle.text.specs.Number.{isGot, valueOf}
@@ -138,15 +138,11 @@ module _ (n : ℕ) (s : List ℕ) (l : Layout) (mark : ℕ) (on : OnLayout n s l
       let blank : eqb (length (fieldOf 44 k s)) 0 ≡ eqb mark 0 =
       ap (λ j. eqb (length (fieldOf 44 j s)) 0) (sym e) ∙ on .blanks (k - 5) (omega arith) in
       either (eqb mark 0)
-      (λ none. none-long (fieldOf 44 k s) (eqb-true (length (fieldOf 44 k s)) 0 (blank ∙ none))
+      (λ none. nil-of (fieldOf 44 k s) (eqb-true (length (fieldOf 44 k s)) 0 (blank ∙ none))
       ∙ sym (text-blank mark k v five (eqb-true mark 0 none)))
       (λ some. cell-exact k (fieldOf 44 k s) v got (rw yes (blank ∙ some)) .0
       ∙ sym (text-marked mark k v (eqb-false mark 0 some))))
       (λ no. cell-exact k (fieldOf 44 k s) v got (rw no) .0 ∙ sym (text-head mark k v (leb-false 5 k no)))
-    where
-      none-long : (t : List ℕ) → length t ≡ 0 → t ≡ []
-      none-long [] z = refl
-      none-long (c ∷ t) z = absurd (omega arith)
 
   -- so is the line
   line-exact : showLine (fieldsOf values mark) taken ≡ s

@@ -1,5 +1,6 @@
 -- *enter*, by its answer: what 0 and 2 say of a movement.
 -- Assumes nothing.
+use Rattle.book_rules.proofs.Accepted.{neither-refused}
 use mathlib.Core.Path.{_≡_, refl}
 use mathlib.Core.Bool.{Bool, true, false, cond, not, _&&_}
 use mathlib.Core.List.{List}
@@ -28,10 +29,6 @@ moved-none t k s m z =
     refuse-none 2 (counts m) 0 (omega arith) (refuse-none 1 (fieldsFit t k s m) (refuse 2 (counts m) 0)
     (omega arith) z .1) .0
 
-or-none : (r rest : ℕ) → refusedOr r rest ≡ 0 → (r ≡ 0) × (rest ≡ 0)
-or-none r rest z =
-    either (eqb r 0) (λ yes. (eqb-true r 0 yes, rw yes at z)) (λ no. absurd (eqb-false r 0 no (rw no at z)))
-
 pub enter-none : (p n : ℕ) (ms : List Movement) (x t k s m : ℕ)
     → listRefusal p n ms (made p (enter x t k s m)) ≡ 0
     → Entering m x ms
@@ -39,7 +36,7 @@ unfolding listRefusal standingRefusal
 enter-none p n ms x t k s m z =
     let rest = refuse 3 (identityFits x) (refuse 4 (not (standing x ms)) (refuse 6 (ltb (length ms) n) 0)) in
     let a = refuse-none 9 (eqb p p && sizesFit p n) (refusedOr (movementRefusal t k s m) rest) (omega arith) z .1 in
-    let b = or-none (movementRefusal t k s m) rest a in
+    let b = neither-refused (movementRefusal t k s m) rest a in
     let c =
     refuse-none 3 (identityFits x) (refuse 4 (not (standing x ms)) (refuse 6 (ltb (length ms) n) 0)) (omega arith)
     (b .1) .1 in

@@ -1,5 +1,6 @@
 -- A report is refused with the number and the line that the rules give.
 -- Assumes nothing.
+use Rattle.refusal.proofs.Laws.{nil-of}
 use mathlib.Core.Path.{_≡_, refl, sym, ap, _∙_}
 use mathlib.Core.Bool.{Bool, true, false, cond, _&&_, and-false}
 use mathlib.Core.List.{List, [], _∷_, _++_}
@@ -166,17 +167,13 @@ first-at p s (l ∷ ls) z ne =
 
 -- The whole register
 
-closing-refused : (s : Reading) → (s .refusal ≡ 0 → ⊥) → closing s ≡ s
+pub closing-refused : (s : Reading) → (s .refusal ≡ 0 → ⊥) → closing s ≡ s
 unfolding closing
 closing-refused s ne = rw (ne-eqb (s .refusal) 0 ne) refl
 
 closing-read : (s : Reading) → 2 ≤ s .line → closing s ≡ s
 unfolding closing
 closing-read s two = rw (ne-eqb (s .line) 1 (λ e. absurd (omega arith)), and-false (eqb (s .refusal) 0)) refl
-
-no-line : (ls : List (List ℕ)) → length ls ≡ 0 → ls ≡ []
-no-line [] z = refl
-no-line (l ∷ ls) z = absurd (omega arith)
 
 empty-register : (p : ℕ) (b : Book) (register : List ℕ) → linesOf register ≡ []
     → registered p b register ≡ record { refusal = 16; line = 1; book = b }
@@ -205,7 +202,7 @@ first-of p b register some ne =
 pub register-refused : (p : ℕ) (b : Book) (register : List ℕ) → RegisterRefused p b register
 register-refused p b register =
     record {
-      empty = λ z. let e = empty-register p b register (no-line (linesOf register) z) in
+      empty = λ z. let e = empty-register p b register (nil-of (linesOf register) z) in
           (ap (λ (s : Reading). s .refusal) e, ap (λ (s : Reading). s .line) e);
       first = first-of p b register;
     }

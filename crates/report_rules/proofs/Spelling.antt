@@ -1,5 +1,6 @@
 -- A row on its layout spells its fields, column by column.
 -- Assumes nothing.
+use Rattle.refusal.proofs.Laws.{nil-of}
 use mathlib.Core.Path.{_≡_, refl, sym, ap, _∙_}
 use mathlib.Core.Bool.{Bool, true, false, _&&_, and-false}
 use mathlib.Core.List.{List, [], _∷_, _++_}
@@ -27,10 +28,6 @@ use Rattle.register.proofs.Rows.{layout-points}
 use Rattle.register.proofs.Converse.{OnLayout, marked}
 use Rattle.report_rules.specs.Spelled.{column, RowSpelled}
 use Rattle.report_rules.proofs.Printed.{listing-at, value-at}
-
-nothing : (t : List ℕ) → length t ≡ 0 → t ≡ []
-nothing [] z = refl
-nothing (c ∷ t) z = absurd (omega arith)
 
 module _ (p : ℕ) (row : List ℕ) (e : layoutOf p row .refusal ≡ 0) where
   abbrev s : List ℕ
@@ -98,7 +95,7 @@ module _ (p : ℕ) (row : List ℕ) (e : layoutOf p row .refusal ≡ 0) where
   blank none i h =
       let m : mark ≡ 0 = sym mark-is ∙ none in
       let b : eqb (length (fieldOf 44 (5 + i) (bareLine row))) 0 ≡ true = on .blanks i h ∙ rw m refl in
-      nothing (fieldOf 44 (5 + i) (bareLine row)) (eqb-true (length (fieldOf 44 (5 + i) (bareLine row))) 0 b)
+      nil-of (fieldOf 44 (5 + i) (bareLine row)) (eqb-true (length (fieldOf 44 (5 + i) (bareLine row))) 0 b)
 
   -- identity and mass have up to seven digits, a level up to 999.99
   pub value-below : (layoutOf p row .fields .identity < 10000000) × (layoutOf p row .fields .mass < 10000000)

@@ -2,7 +2,7 @@
 -- Assumes nothing.
 use Prim.Native.Nat.{ℕ, zero, suc, _+_, _≤_, _<_}
 use mathlib.Core.Path.{_≡_, refl, sym, ap, _∙_}
-use mathlib.Core.Bool.{Bool, true, false, cond, _&&_}
+use mathlib.Core.Bool.{Bool, true, false, cond, _&&_, and-false}
 use mathlib.Core.List.{List, [], _++_}
 use native.Mathlib.Nat.{zero-add}
 use native.Mathlib.Omega.{arith}
@@ -47,10 +47,6 @@ short-of (suc n) k true e h = let some = ne-eqb (suc n) 0 (omega arith) in e ∙
 
 pub fine-but-short : (n : ℕ) (enough : Bool) → 0 ≡ thenRoom n enough → 14 ≡ thenRoom n false
 fine-but-short n enough e = let z = first-none n (cond enough 0 14) (sym e) .0 in rw z refl
-
-and-false : (b : Bool) → (b && false) ≡ false
-and-false true = refl
-and-false false = refl
 
 -- One list
 

@@ -1,7 +1,7 @@
 -- `contour::start::starts_here` meets its contract. Assumes nothing.
 use borrow.Author.Needs.{needs}
 use mathlib.Core.Path.{_≡_, refl, sym, _∙_}
-use mathlib.Core.Bool.{Bool, true, false, _&&_, _||_}
+use mathlib.Core.Bool.{Bool, true, false, _&&_, _||_, and-true, and-false}
 use denote.Ref.{now}
 use Rattle.contour_rules.specs.Picture.{picture}
 use Rattle.contour_rules.specs.Crossings.{entersAt}
@@ -11,14 +11,6 @@ use Rattle.contour.proofs.start.starts_here.Tie as tie
 abbrev starts : tie.Start → Bool
 starts s = s .args .closes || entersAt (picture (now (s .args .levels)) (s .args .nx) (s .args .ny) (s .args .v))
     (s .args .n)
-
-and-true : (a : Bool) → (a && true) ≡ a
-and-true true = refl
-and-true false = refl
-
-and-false : (a : Bool) → (a && false) ≡ false
-and-false true = refl
-and-false false = refl
 
 returns : tie.Need-returns
 returns c = rw (sym (c .before .before .still-waits .ensures) ∙ c .before .if1 .taken) (c .may-start .ensures
