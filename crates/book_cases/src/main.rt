@@ -1,7 +1,7 @@
 // The cases of RULES for the calls on a book: each answer is printed beside what it should be. The calls stand in a
 // journal, in order, and are made by a replay; refusals of the whole, and each call made by itself for another number
-// of points, follow. The file stdin has the journal, a call a line, on a book of 3 rows and 2 points (1 enter: identity,
-// type, kind, time, mass; 2 supply: identity, how many levels, the levels; 3 take back; 4 withdraw); and past a `|`
+// of points, follow. The file stdin has the journal, a call a line, on a book of 3 rows and 2 points (1 enter:
+// identity, type, kind, time, mass; 2 supply: identity, how many levels, the levels; 3 take back; 4 withdraw); and past a `|`
 // what each is to be answered, and 99 where nothing is written.
 mod direct;
 mod printing;

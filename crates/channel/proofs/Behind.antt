@@ -25,7 +25,8 @@ front-behind n m k xs ys h f =
     ∙ ap (λ (t : List ℕ). take n xs ++ t) (take-append-le k ys (postOf n m xs) f)
 
 -- the part's bytes lie within the buffer
-pub behind-fits : (n m k : ℕ) (xs ys : List ℕ) → n ≤ length xs → k ≤ length ys → n + k ≤ length (putMid n m xs ys)
+pub behind-fits : (n m k : ℕ) (xs ys : List ℕ) → n ≤ length xs → k ≤ length ys
+    → n + k ≤ length (putMid n m xs ys)
 behind-fits n m k xs ys h f =
     let rest = ys ++ postOf n m xs in
     omega (
@@ -36,7 +37,8 @@ behind-fits n m k xs ys h f =
     )
 
 -- a read that answered no less than 0 answered the bytes that are counted
-pub answered-count : (z : ℤ) (room n : ℕ) → ltZ z (pos 0) ≡ false → n ≡ clamped z room → Moved room z → z ≡ pos n
+pub answered-count : (z : ℤ) (room n : ℕ) → ltZ z (pos 0) ≡ false → n ≡ clamped z room → Moved room z
+    → z ≡ pos n
 answered-count (pos k) room n e q h = let is : k ≡ n = omega (arith, q, h) in ap pos is
 answered-count (negsuc k) room n e q h = let never : _≡_ {A = ℕ} 0 1 = cc in absurd (omega arith)
 

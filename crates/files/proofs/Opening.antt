@@ -14,7 +14,8 @@ use Rattle.report_rules.specs.Report.{limitsRoom, Opened}
 use Rattle.report_rules.specs.Report.Opened.{all, cut}
 
 -- to its end, or as much as there was room for
-pub opened : {r : Filled} {text : List ℕ} → Fills file r text → (r .state ≡ failed → ⊥) → length text ≡ limitsRoom
+pub opened : {r : Filled} {text : List ℕ} → Fills file r text → (r .state ≡ failed → ⊥)
+    → length text ≡ limitsRoom
     → Opened (take (r .size) text)
 opened {r} {text} k ne room =
     either (eqb (r .state) complete)

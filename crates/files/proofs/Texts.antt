@@ -46,7 +46,8 @@ sized-report tell l b {s} {e} {r} {size} n z w =
     record { fits = wrote-fits w; text = wrote-front w ∙ sym (reading-reported tell l (readingAt r n b) z) }
 
 -- a register that was read to its end, and one that was not
-module _ (tell : Telling) (l : LimitsFile) {b₀ b : Book} {t : Turn} {out : List ℕ} {size : ℕ} (k : Registered (l .points) b₀ t b)
+module _ (tell : Telling) (l : LimitsFile) {b₀ b : Book} {t : Turn} {out : List ℕ} {size : ℕ}
+    (k : Registered (l .points) b₀ t b)
     (none : b₀ ≡ emptyBook (l .points) bookRows) (w : Sized tell l (turnedTo t b) out size) where
   text-of : (register : List ℕ) → turnedTo t b ≡ registered (l .points) b₀ register
       → take size out ≡ registerText tell l register
@@ -72,7 +73,8 @@ module _ (tell : Telling) (l : LimitsFile) {b₀ b : Book} {t : Turn} {out : Lis
       record { fits = w .fits; came = failed (k .all); heard = q .0; is = text-of (k .all ++ endless) (q .1) })
 
 -- limits.csv refused, and accepted
-pub limits-refused : (tell : Telling) (limits : List ℕ) → Opened limits → {l : LimitsFile} {s e : List ℕ} {size : ℕ} → l ≡ limitsOf limits
+pub limits-refused : (tell : Telling) (limits : List ℕ) → Opened limits
+    → {l : LimitsFile} {s e : List ℕ} {size : ℕ} → l ≡ limitsOf limits
     → (l .refusal ≡ 0 → ⊥)
     → WroteWithin longestRefused s 0 (refusedText (l .refusal) (l .line)) e size → WrittenIn tell limits e size
 limits-refused tell limits opened {l} {s} {e} {size} q ne w =
@@ -86,7 +88,8 @@ limits-refused tell limits opened {l} {s} {e} {size} q ne w =
       };
     }
 
-pub limits-accepted : (tell : Telling) (limits : List ℕ) → Opened limits → {l : LimitsFile} {e : List ℕ} {size : ℕ} → l ≡ limitsOf limits
+pub limits-accepted : (tell : Telling) (limits : List ℕ) → Opened limits
+    → {l : LimitsFile} {e : List ℕ} {size : ℕ} → l ≡ limitsOf limits
     → l .refusal ≡ 0
     → AnsweredIn tell l e size → WrittenIn tell limits e size
 limits-accepted tell limits opened {l} {e} {size} q z a =

@@ -45,8 +45,8 @@ pub record Waiting (bytes : List ℕ) (left line taken : ℕ) : Type 0 where
   pub counts : taken + 1 < 2 ^ 64
 
 -- one turn, from a reading s and the bytes that waited, on to a reading at b′: `got` are the bytes that came
-pub record Turned (p : ℕ) (s : Reading) (waited : List ℕ) (taken : ℕ) (t : Turn) (b′ : Book) (bytes′ : List ℕ)
-    (taken′ : ℕ) : Type 0 where
+pub record Turned (p : ℕ) (s : Reading) (waited : List ℕ) (taken : ℕ) (t : Turn) (b′ : Book)
+    (bytes′ : List ℕ) (taken′ : ℕ) : Type 0 where
   pub got : List ℕ
   pub kept : sound p b′ ≡ true
   pub more : t .state ≡ stateReading

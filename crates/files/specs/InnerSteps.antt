@@ -28,6 +28,7 @@ pub record WrittenIn (tell : Telling) (limits out : List ℕ) (size : ℕ) : Typ
   pub fits : size ≤ length out
   pub written : Written tell limits (take size out)
 
--- the whole text of a book at the front of a buffer, and its refusal for the sentence that goes with it
-pub record Told (tell : Telling) (l : LimitsFile) (b : Book) (old : List ℕ) (r : Report) (new : List ℕ) : Type 0 where
+-- the whole text of a book at the front of a buffer
+pub record Told (tell : Telling) (l : LimitsFile) (b : Book) (old : List ℕ) (r : Report)
+    (new : List ℕ) : Type 0 where
   pub wrote : Wrote old 0 (tell l b) new (r .size)

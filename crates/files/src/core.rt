@@ -132,7 +132,8 @@ fn answer_whole(
     out: &mut [u8],
 ) -> usize
     requires { ⌜ LimitsFit limits × (longestText ≤ length (now out)) ⌝ }
-    ensures { λ r. ⌜ Sized (tellingOf kind) limits (turnedTo read (bookBefore ids groups marks levels)) (now (out .exit)) r ⌝ }
+    ensures { λ r. ⌜ Sized (tellingOf kind) limits (turnedTo read (bookBefore ids groups marks levels))
+        (now (out .exit)) r ⌝ }
 {
     let refusal = read.refusal;
     if refusal != 0 {
