@@ -1,204 +1,44 @@
 // The cases of RULES for the calls on a book: each answer is printed beside what it should be. The calls stand in a
 // journal, in order, and are made by a replay; refusals of the whole, and each call made by itself for another number
-// of points, follow.
+// of points, follow. The file stdin has the journal, a call a line, on a book of 3 rows and 2 points (1 enter: identity,
+// type, kind, time, mass; 2 supply: identity, how many levels, the levels; 3 take back; 4 withdraw); and past a `|`
+// what each is to be answered, and 99 where nothing is written.
 mod direct;
 mod printing;
 
-use printing::show_answers;
-use printing::show_column;
+use cases::fields::numbers;
+use cases::show::list;
+use cases::show::say;
+use libc::STDIN_FILENO;
 
-// On a book of 3 rows and 2 points. 1 enter: identity, type, kind, time, mass. 2 supply: identity, how many levels, the
-// levels. 3 take back. 4 withdraw.
-const JOURNAL: [u32; 143] = [
-    1,
-    7,
-    0,
-    0,
-    25200,
-    70000,
-    1,
-    3,
-    2,
-    1,
-    82800,
-    3000,
-    1,
-    0,
-    3,
-    0,
-    0,
-    150,
-    1,
-    0,
-    0,
-    2,
-    0,
-    150,
-    1,
-    0,
-    0,
-    0,
-    86400,
-    150,
-    1,
-    0,
-    0,
-    0,
-    0,
-    1000001,
-    1,
-    0,
-    1,
-    0,
-    0,
-    6000,
-    1,
-    0,
-    0,
-    0,
-    0,
-    150,
-    1,
-    0,
-    0,
-    0,
-    0,
-    151,
-    1,
-    100000,
-    0,
-    0,
-    0,
-    151,
-    1,
-    3,
-    0,
-    0,
-    0,
-    151,
-    1,
-    5,
-    1,
-    0,
-    68400,
-    5999,
-    1,
-    3,
-    0,
-    0,
-    0,
-    151,
-    1,
-    9,
-    0,
-    0,
-    0,
-    151,
-    2,
-    0,
-    1,
-    1,
-    2,
-    8,
-    1,
-    1,
-    2,
-    8,
-    2,
-    12001,
-    0,
-    2,
-    8,
-    2,
-    12000,
-    0,
-    2,
-    7,
-    2,
-    10000,
-    0,
-    2,
-    7,
-    2,
-    12000,
-    0,
-    2,
-    5,
-    2,
-    0,
-    0,
-    3,
-    0,
-    3,
-    8,
-    3,
-    3,
-    3,
-    5,
-    3,
-    5,
-    4,
-    100000,
-    4,
-    8,
-    4,
-    3,
-    4,
-    3,
-    1,
-    3,
-    0,
-    0,
-    0,
-    151,
-    3,
-    3,
-];
-
-// What each of them should be answered, and 99 where nothing is written.
-const WANTED: [u32; 33] = [
-    0,
-    0,
-    1,
-    1,
-    1,
-    1,
-    1,
-    2,
-    3,
-    3,
-    4,
-    0,
-    4,
-    6,
-    3,
-    7,
-    7,
-    5,
-    0,
-    0,
-    0,
-    3,
-    5,
-    8,
-    0,
-    8,
-    3,
-    5,
-    0,
-    5,
-    0,
-    8,
-    99,
-];
-
-fn replayed(ids: &mut [u32], groups: &mut [u32], marks: &mut [u32], levels: &mut [u32]) {
-    let calls = JOURNAL;
+fn replayed(
+    ids: &mut [u32],
+    groups: &mut [u32],
+    marks: &mut [u32],
+    levels: &mut [u32],
+    script: &[u8],
+) {
+    let mut calls = [0u32; 143];
     let mut answers = [99u32; 33];
+    let mut wanted = [0u32; 33];
+    numbers(script, 0, &mut calls);
+    numbers(script, 1, &mut wanted);
     let got = journal::replay(ids, groups, marks, levels, 2, &calls, &mut answers);
     printing::case(b"replay of 32 calls", got, 0);
-    let wanted = WANTED;
-    show_answers(b"call", &answers, &wanted);
+    printing::show_answers(b"call", &answers, &wanted);
+}
+
+// A column, and then what it should be.
+fn show_column(column: &[u32], should: &[u8]) {
+    list(b"", column, b" ");
+    say(should);
+}
+
+fn show_book(ids: &[u32], groups: &[u32], marks: &[u32], levels: &[u32]) {
+    show_column(ids, b"identities, should be 3 5 7\n");
+    show_column(groups, b"groups, should be 2 7 0\n");
+    show_column(marks, b"marks, should be 0 0 1\n");
+    show_column(levels, b"levels, should be 0 0 0 0 12000 0\n");
 }
 
 fn main() {
@@ -206,11 +46,10 @@ fn main() {
     let mut groups = [0u32; 3];
     let mut marks = [0u32; 3];
     let mut levels = [0u32; 6];
-    replayed(&mut ids, &mut groups, &mut marks, &mut levels);
-    show_column(&ids, b"identities, should be 3 5 7\n");
-    show_column(&groups, b"groups, should be 2 7 0\n");
-    show_column(&marks, b"marks, should be 0 0 1\n");
-    show_column(&levels, b"levels, should be 0 0 0 0 12000 0\n");
+    let mut script = io::buffer();
+    let n = io::read_full(STDIN_FILENO, &mut script);
+    replayed(&mut ids, &mut groups, &mut marks, &mut levels, &script[..n]);
+    show_book(&ids, &groups, &marks, &levels);
     direct::calls();
     direct::sizes();
     direct::replays();

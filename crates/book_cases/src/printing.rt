@@ -21,18 +21,3 @@ pub(crate) fn show_answers(name: &[u8], answers: &[u32], wanted: &[u32]) {
         i += 1;
     }
 }
-
-fn show(n: u32) {
-    print_decimal(1, n as u64);
-    io::write_all(1, b" ");
-}
-
-// A column, and then what it should be.
-pub(crate) fn show_column(column: &[u32], should: &[u8]) {
-    let mut i = 0;
-    while i < column.len() {
-        show(column[i]);
-        i += 1;
-    }
-    io::write_all(1, should);
-}

@@ -13,7 +13,7 @@ use borrow.Author.Tests.{ltb-true, ltb-false, leb-true, leb-false, eqb-true, eqb
 use Rattle.refusal.specs.Refuse.{refuse}
 use Rattle.refusal.specs.Range.{allWithin}
 use Rattle.refusal.proofs.Laws.{and-left, and-right}
-use Rattle.refusal.proofs.Ranges.{within-at}
+use Rattle.refusal.proofs.Ranges.{within-at, within-each}
 use Rattle.movement.specs.Limits.{typeCount, kindCount, secondsADay, maxMass, massNotCounted, maxIdentity, maxLevel}
 use Rattle.movement.specs.Aircraft.{aircraftNumbered, massFits}
 use Rattle.movement.specs.Rules.{fieldsFit, counts, movementRefusal, identityFits, levelsFit}
@@ -27,7 +27,7 @@ use Rattle.book_rules.specs.Lookup.{Row, foundFrom, found, markFound}
 use Rattle.book_rules.specs.Lookup.Row.{nowhere, row}
 use Rattle.book_rules.specs.Order.{Given, InOrder}
 use Rattle.book_rules.proofs.Search.{index-is, index-before, stands-index}
-use Rattle.book_rules.proofs.SoundBook.{sound-exactly, all-within}
+use Rattle.book_rules.proofs.SoundBook.{sound-exactly}
 
 -- A test and the reason that it fails for
 
@@ -128,7 +128,7 @@ levels-decide p ls =
       range = λ j h. within-at maxLevel ls j (and-right (eqb (length ls) p) _ e);
     })
     (λ l. rw (eq-eqb (length ls) p (l .number))
-    (all-within maxLevel ls (λ j h. l .range j (omega (arith, l .number)))))
+    (within-each maxLevel ls (λ j h. l .range j (omega (arith, l .number)))))
 
 -- an identity that stands is found
 isFound : Row → Bool

@@ -12,7 +12,7 @@ use lib.Dec.{eqb, leb, ltb}
 use borrow.Author.Tests.{ltb-true, eqb-true, eqb-false, le-leb, lt-ltb, eq-eqb, ne-eqb}
 use Rattle.refusal.specs.Range.{allWithin}
 use Rattle.refusal.proofs.Laws.{and-left, and-right}
-use Rattle.refusal.proofs.Ranges.{within-at}
+use Rattle.refusal.proofs.Ranges.{within-at, within-each}
 use Rattle.movement.specs.Limits.{maxRows, maxPoints, maxIdentity, maxLevel, groupCount}
 use Rattle.book_rules.specs.Columns.{Book, shapeFits, shaped, follows, followed, rising, headSound, topLevel}
 use Rattle.book_rules.specs.Columns.{rowSound, rowsSound, sound}
@@ -70,13 +70,6 @@ pairs-rise (x ∷ (y ∷ ys)) h =
     (pairs-rise (y ∷ ys) (λ i j l k. h (suc i) (suc j) (omega arith) (omega arith)))
 
 -- One row
-
-pub all-within : (top : ℕ) (ls : List ℕ) → ((j : ℕ) → j < length ls → getD ls j 0 ≤ top)
-    → allWithin top ls ≡ true
-unfolding allWithin
-all-within top [] h = refl
-all-within top (l ∷ ls) h =
-    rw (le-leb l top (h 0 (omega arith))) (all-within top ls (λ j k. h (suc j) (omega arith)))
 
 zero-head : (x g m : ℕ) → headSound x g m ≡ true → x ≡ 0 → (g ≡ 0) × (m ≡ 0)
 unfolding headSound
@@ -154,7 +147,7 @@ row-passes p b i s h =
     let top : (j : ℕ) → j < length part → getD part j 0 ≤ topLevel m =
     λ j k. level-top m _ _ (level-at p i (b .levels) j (omega arith)) (r .level j (omega arith))
     (λ z. r .bare z j (omega arith)) in
-    rw (head-of x g m (r .identity) (r .group) (r .mark) (r .unused)) (all-within (topLevel m) part top)
+    rw (head-of x g m (r .identity) (r .group) (r .mark) (r .unused)) (within-each (topLevel m) part top)
 
 -- All rows
 

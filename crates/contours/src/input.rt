@@ -3,21 +3,11 @@ use channel::words::argument;
 use channel::words::argument_count;
 use contours_steps::words::Given;
 use contours_steps::words::take_word;
+use refusal::both;
 ghost use mathlib.Core.Path.{_≡_};
-ghost use mathlib.Core.Bool.{_&&_};
 ghost use Prim.Native.Nat.{_+_, _<_, _^_};
 ghost use Rattle.contours_steps.specs.Words.{Gathered};
 ghost use Rattle.contours_steps.specs.InnerIntake.{ArgumentTaken};
-
-// Whether both hold.
-fn both(a: bool, b: bool) -> bool
-    ensures { λ r. ⌜ r ≡ (a && b) ⌝ }
-{
-    if a {
-        return b;
-    }
-    false
-}
 
 // Reads the program's arguments once: the levels that they spell, in their order, and how many words there are.
 pub(crate) fn gather(asked: &mut [u32]) -> Given

@@ -17,6 +17,7 @@ use contours_steps::words::words_refusal;
 use libc::STDERR_FILENO;
 use network::Frame;
 use network::limits::MAX_SIDE;
+use said_contours::of_network;
 ghost use mathlib.Core.Path.{_≡_};
 ghost use lib.ListN.{length};
 ghost use Rattle.channel.specs.Input.{Fills, input};
@@ -36,8 +37,8 @@ const MAX_POINTS: usize = MAX_SIDE as usize * MAX_SIDE as usize;
 
 fn main() {
     let mut sent = 0;
-    let taken = run(&mut sent);
-    if !taken {
+    let went = run(&mut sent);
+    if !went {
         io::write_all(STDERR_FILENO, b"the output could not be written\n");
     }
 }
@@ -83,11 +84,11 @@ fn failed(text: &[u8], asked: &[u32], given: Given, sent: &mut usize) -> bool
     ensures { λ r. ⌜ Run r (now (sent .exit)) ⌝ }
 {
     let line = line_begun(text);
-    let taken = print::failure(text, asked, given, line as u64, sent);
-    if taken {
-        say::of_read_error(line as u64);
+    let went = print::failure(text, asked, given, line as u64, sent);
+    if went {
+        of_network::unread(b"network", line as u64);
     }
-    taken
+    went
 }
 
 // The bytes fill the buffer.
@@ -98,11 +99,11 @@ fn overlong(text: &[u8], asked: &[u32], given: Given, sent: &mut usize) -> bool
     ensures { λ r. ⌜ Run r (now (sent .exit)) ⌝ }
 {
     let line = overlong_line(text);
-    let taken = print::overlong(text, asked, given, line as u64, sent);
-    if taken {
-        say::of_overlong(line as u64);
+    let went = print::overlong(text, asked, given, line as u64, sent);
+    if went {
+        of_network::overlong(b"network", line as u64, text);
     }
-    taken
+    went
 }
 
 // The whole network is judged, and then the words.
@@ -131,11 +132,11 @@ fn refuse_network(text: &[u8], why: u32, asked: &[u32], given: Given, sent: &mut
     ensures { λ r. ⌜ Run r (now (sent .exit)) ⌝ }
 {
     let line = refused_line(text, why);
-    let taken = print::refusal(text, asked, given, why, line, sent);
-    if taken {
-        say::of_network(why, line);
+    let went = print::refusal(text, asked, given, why, line, sent);
+    if went {
+        of_network::refused(b"network", why, line, text);
     }
-    taken
+    went
 }
 
 // The first line at fault where the text is off its layout; the other refusals are of the whole.
@@ -169,11 +170,11 @@ fn with_words(
     if why == 0 {
         return draw(text, header, levels, asked, given, sent);
     }
-    let taken = print::refusal(text, asked, given, why, 0, sent);
-    if taken {
-        say::of_levels(why);
+    let went = print::refusal(text, asked, given, why, 0, sent);
+    if went {
+        say::words_off(why, given.count);
     }
-    taken
+    went
 }
 
 // The sheet of a network and words that are not refused.

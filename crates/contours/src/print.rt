@@ -6,6 +6,7 @@ use contours_steps::core::put::put_start;
 use contours_steps::words::Given;
 use network::Frame;
 use network::limits::MAX_EDGES;
+use said_contours::of_lines;
 use wkt::core::first;
 use wkt::core::print_part;
 ghost use mathlib.Core.Path.{_≡_};
@@ -61,8 +62,8 @@ fn lines(levels: &[u32], frame: Frame, asked: &[u32], sent: &mut usize) -> bool
     }
     let mut i = 0;
     while i < asked.len() {
-        let taken = one_level(levels, frame, asked, i, sent);
-        if !taken {
+        let went = one_level(levels, frame, asked, i, sent);
+        if !went {
             return false;
         }
         i += 1;
@@ -118,7 +119,7 @@ fn contours(levels: &[u32], frame: Frame, asked: &[u32], v: u32, sent: &mut usiz
     fronts(levels, frame, asked, v, &edges, &counts, &closed, got, sent)
 }
 
-// The contours at the fronts of longer buffers.
+// The contours at the fronts of longer buffers; a person is told where there are none, or open ones.
 fn fronts(
     levels: &[u32],
     frame: Frame,
@@ -144,7 +145,7 @@ fn fronts(
 {
     let n = got.edges;
     let m = got.contours;
-    parts(
+    let went = parts(
         levels,
         frame,
         asked,
@@ -153,7 +154,9 @@ fn fronts(
         &counts[..m],
         &closed[..m],
         sent,
-    )
+    );
+    of_lines::drawn(v, levels, &closed[..m]);
+    went
 }
 
 // The text, part by part.
@@ -179,8 +182,8 @@ fn parts(
     while at.line <= counts.len() {
         let part = print_part(levels, frame, v, edges, counts, closed, at, &mut room);
         let n = part.size;
-        let taken = written(levels, frame, asked, sent, &room[..n]);
-        if !taken {
+        let went = written(levels, frame, asked, sent, &room[..n]);
+        if !went {
             return false;
         }
         at = part.next;

@@ -1,49 +1,43 @@
-// What a person reads on standard error when something is refused.
-use libc::STDERR_FILENO;
-use said::in_general;
-use said::rule;
+// Which argument is refused, for the sentence on standard error.
+use channel::words::argument;
+use contours_steps::words::contour_of;
+use said_contours::of_words;
 
-// The network is refused: the line at fault is named where there is one.
-pub(crate) fn of_network(number: u32, line: u64) {
-    if number == 17 {
-        io::write_all(STDERR_FILENO, b"network, line ");
-        said::number(line);
-        io::write_all(
-            STDERR_FILENO,
-            b": the line is off its layout, or its line end is LF where CRLF is expected",
-        );
-    } else {
-        in_general(number);
+// Whether argument i is a contour level.
+fn fits(i: usize) -> bool {
+    let mut word = [0u8; 16];
+    let n = argument(i, &mut word);
+    contour_of(&word[..n]) != 0
+}
+
+// The first argument that is none, or the last.
+fn first_off(count: usize) -> usize {
+    let mut i = 0;
+    while i < count {
+        if !fits(i + 1) {
+            return i + 1;
+        }
+        i += 1;
     }
-    rule(number);
+    i
 }
 
-// The network's bytes can't be read on.
-pub(crate) fn of_read_error(line: u64) {
-    io::write_all(STDERR_FILENO, b"network, line ");
-    said::number(line);
-    io::write_all(STDERR_FILENO, b": standard input can't be read on");
-    rule(17);
+// Argument i is refused.
+fn word_off(i: usize) {
+    let mut word = io::buffer();
+    let n = argument(i, &mut word);
+    of_words::refused(i, &word[..n]);
 }
 
-// The network is longer than any that is not refused.
-pub(crate) fn of_overlong(line: u64) {
-    if line == 0 {
-        of_network(12, 0);
+// The arguments are refused, of which there are `count`.
+pub(crate) fn words_off(refusal: u32, count: usize) {
+    if refusal == 14 {
+        of_words::too_many(count);
         return;
     }
-    of_network(17, line);
-}
-
-// The arguments are refused.
-pub(crate) fn of_levels(number: u32) {
-    if number == 14 {
-        io::write_all(STDERR_FILENO, b"arguments: more than 15,000 contour levels");
-    } else {
-        io::write_all(
-            STDERR_FILENO,
-            b"arguments: expected one contour level or more from 0.01 to 150.00, as 45.00 56.00",
-        );
+    if count == 0 {
+        of_words::too_few();
+        return;
     }
-    rule(number);
+    word_off(first_off(count));
 }

@@ -16,7 +16,7 @@ use Rattle.contours_steps.specs.Words.{Gathered}
 use Rattle.contours_steps.specs.Sheet.{refusedLine, sheetOf, lineBegun, maxText, overlongLine, overlongOf}
 use Rattle.contours_steps.specs.Drawing.{Accepted, Refused}
 use Rattle.contours_steps.specs.Due.{Sends}
-use Rattle.contours_steps.specs.Answer.{ReadWhole, ReadFailed, ReadFull, TextFor, Answered, Run}
+use Rattle.contours_steps.specs.Answer.{ReadWhole, ReadFailed, ReadFull, Answered, Run}
 use Rattle.contours_steps.specs.Answer.TextFor.{whole, fails, full}
 use Rattle.contours_steps.proofs.Drawings.{refused-written, accepted-written}
 

@@ -1,21 +1,20 @@
 -- Words, one more. Assumes nothing.
-use Prim.Native.Nat.{ℕ, zero, suc, _+_, _-_, _≤_, _<_}
+use Prim.Native.Nat.{ℕ, suc, _+_, _-_, _≤_, _<_}
 use mathlib.Core.Path.{_≡_, refl, sym, ap, _∙_}
 use mathlib.Core.Bool.{Bool, true, false, _&&_, cond}
-use mathlib.Core.List.{List, [], _∷_, _++_, map}
-use native.Mathlib.Numerals.{add-one}
+use mathlib.Core.List.{List, [], _∷_, _++_}
 use native.Mathlib.Omega.{arith}
 use lib.ListN.{length, getD, take, set, length-append, length-set, List·getD-append}
 use lib.Seq.{take-suc-set, getD-at}
 use lib.Dec.{leb, ltb}
-use borrow.Author.Tests.{le-leb, lt-leb, leb-true, leb-false, ltb-true, ltb-false}
+use borrow.Author.Tests.{le-leb, lt-leb, ltb-true, ltb-false}
 use Rattle.text.proofs.Digits.{either}
 use Rattle.refusal.proofs.Laws.{and-left}
 use Rattle.grid.specs.Row.{all}
 use Rattle.channel.specs.System.{Arguments, Argument}
 use Rattle.contours_steps.proofs.Levels.{word-range}
 use Rattle.contours_steps.specs.declared.words.Given.{Given}
-use Rattle.contours_steps.specs.Words.{wordLevel, isContour, maxContourLevels, levelsIn, wordsRefusal}
+use Rattle.contours_steps.specs.Words.{wordLevel, isContour, levelsIn, wordsRefusal}
 use Rattle.contours_steps.specs.Words.{givenRefusal, maxWord, WordTaken, Gathered}
 use Rattle.contours_steps.specs.InnerIntake.{ArgumentTaken}
 

@@ -57,11 +57,11 @@ module _ (d : ℕ) (low : d < 46) where
       ) refl))
 
   amounts-free : (a : Amounts) → Free d (amountFields a)
-  amounts-free a zero h = shown-free d low 20 (a .computed)
-  amounts-free a (suc zero) h = shown-free d low 20 (a .missing)
+  amounts-free a zero h = shown-free d low 20 _
+  amounts-free a (suc zero) h = shown-free d low 20 _
   amounts-free a (suc (suc zero)) h = factor-free (a .upper) (a .lower)
-  amounts-free a (suc (suc (suc zero))) h = shown-free d low 20 (a .energy)
-  amounts-free a (suc (suc (suc (suc zero)))) h = shown-free d low 20 (a .counted)
+  amounts-free a (suc (suc (suc zero))) h = shown-free d low 20 _
+  amounts-free a (suc (suc (suc (suc zero)))) h = shown-free d low 20 _
   amounts-free a (suc (suc (suc (suc (suc i))))) h = absurd (omega arith)
 
   group-free : (point g : ℕ) → g < 18 → (a : Amounts) → Free d (groupFields point g a)

@@ -1,4 +1,5 @@
 pub mod Fields
 pub mod Places
 pub mod Says
+pub mod Whole
 pub mod Example

@@ -243,7 +243,7 @@ module _ (l : LimitsFile) (n : ℕ) (cs : List Made)
         ended = text-is ∙ last .is;
       }
 
-refused-is : (l : LimitsFile) (b : Book) → (bookRefusal l b ≡ 0 → ⊥) → explainText l b ≡ bookText l b
+pub refused-is : (l : LimitsFile) (b : Book) → (bookRefusal l b ≡ 0 → ⊥) → explainText l b ≡ bookText l b
 unfolding explainText bookText
 refused-is l b ne = rw (ne-eqb (bookRefusal l b) 0 ne) refl
 

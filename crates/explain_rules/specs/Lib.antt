@@ -1,2 +1,3 @@
 pub mod Says
+pub mod Explain
 pub mod Example

@@ -1,10 +1,9 @@
 // The answer to limits.csv and a register: the text that a program writes. For a person, a refusal also gets a sentence
-// on standard error.
-use crate::explain;
+// on standard error, and so do rows that an answer passed over.
 use crate::feed;
 use crate::feed::ENDED;
 use crate::feed::Turn;
-use crate::say;
+use crate::sentences;
 use channel::whole::FAILED;
 use channel::whole::read_file;
 use explain_text::core::put_explained;
@@ -60,7 +59,7 @@ fn answer(kind: u32, text: &[u8], out: &mut [u8]) -> usize
     let limits = register::limits_csv::read_limits(text);
     let refusal = limits.refusal;
     if refusal != 0 {
-        say::of_limits(refusal, limits.line as u64, text);
+        sentences::limits(limits.line as u64, refusal, text);
         return put_refused(out, refusal, limits.line as u64);
     }
     let mut ids = [0u32; BOOK_ROWS];
@@ -140,9 +139,7 @@ fn answer_whole(
         return refuse(bytes, read, limits, out);
     }
     let report = put_told(kind, out, ids, groups, marks, levels, limits);
-    if report.refused != 0 {
-        say::of_book(report.refused);
-    }
+    sentences::answer(report.refused, read.line, ids);
     report.size
 }
 
@@ -152,7 +149,7 @@ fn refuse(bytes: &[u8], read: Turn, limits: LimitsFile, out: &mut [u8]) -> usize
     ensures { λ r. ⌜ WroteWithin longestRefused (now (out .entry)) 0 (refusedText (read .refusal) (read .line))
         (now (out .exit)) r ⌝ }
 {
-    explain::refusal(bytes, read, limits.points);
+    sentences::refusal(bytes, read, limits.points);
     put_refused(out, read.refusal, read.line)
 }
 

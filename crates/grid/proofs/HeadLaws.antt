@@ -1,6 +1,6 @@
 -- Laws of the lines before the rows. Assumes nothing.
 use Prim.Native.Nat.{ℕ, zero, suc, _+_, _-_, _≤_, _<_}
-use mathlib.Core.Path.{_≡_, sym, ap, _∙_}
+use mathlib.Core.Path.{_≡_, refl, sym, ap, _∙_}
 use mathlib.Core.List.{List, [], _∷_}
 use mathlib.Core.Bool.{true, false, true≢false}
 use native.Mathlib.Omega.{arith}
@@ -12,7 +12,8 @@ use Rattle.text.specs.Line.{linesOf}
 use Rattle.text.specs.declared.number.Number.the-variants.{Got, Off}
 use Rattle.text.proofs.Digits.{either}
 use Rattle.text.proofs.Sames.{same-length}
-use Rattle.grid.specs.File.{begins, numberAfter, numberAt, namesWell, spelledIn}
+use Rattle.text.specs.Number.{isGot}
+use Rattle.grid.specs.File.{begins, numberAfter, numberAt, headOn, firstOff, namesWell, spelledIn}
 use Rattle.grid.specs.InnerSteps.{linesAt, lineFrom, LineAt, keyRead}
 use Rattle.grid.specs.declared.head.Line.{Line}
 use Rattle.grid.specs.declared.head.Keyed.{Keyed}
@@ -36,27 +37,47 @@ pub line-of : (s : List ℕ) (at k : ℕ) → linesAt s at ≡ drop k (linesOf s
 line-of s at k e = ap (λ l. getD l 0 []) e ∙ getD-drop k (linesOf s) 0 []
     ∙ (let z : k + 0 ≡ k = omega arith in rw z)
 
--- header line k read: its number, and where the next line starts
+-- the first k header lines are on their layout, and the others start at `next`
+pub record Seen (s : List ℕ) (k next : ℕ) : Type 0 where
+  pub on : firstOff 1 (headOn (linesOf s)) ≡ firstOff (k + 1) (drop k (headOn (linesOf s)))
+  pub inside : next ≤ length s
+  pub rest : linesAt s next ≡ drop k (linesOf s)
+
+pub seen-none : (s : List ℕ) → Seen s 0 0
+seen-none s = record { on = refl; inside = omega arith; rest = refl }
+
+-- header line k read: its number, and the lines seen with it
 pub record KeyStep (s key : List ℕ) (k n next : ℕ) : Type 0 where
   pub number : numberAt key k (linesOf s) ≡ Got n
-  pub inside : next ≤ length s
-  pub rest : linesAt s next ≡ drop (k + 1) (linesOf s)
+  pub seen : Seen s (k + 1) next
 
-module _ (s : List ℕ) (at : ℕ) (key : List ℕ) {r : Keyed} (k : ℕ)
-    (here : linesAt s at ≡ drop k (linesOf s)) (read : keyRead s at key r) where
-  pub key-step : {n next : ℕ} → r ≡ keyed.Got n next → KeyStep s key k n next
-  key-step {n} {next} e =
-      let got : keyRead s at key (keyed.Got n next) = rw e at read in
-      record {
-        number = ap (numberAfter key) (sym (line-of s at k here)) ∙ got .0;
-        inside = got .1 .inside;
-        rest = passed-at k here (got .1);
-      }
+module _ (s : List ℕ) (at : ℕ) (key : List ℕ) {r : Keyed} (k : ℕ) (seen : Seen s k at)
+    (read : keyRead s at key r)
+    (here : drop k (headOn (linesOf s)) ≡ isGot (numberAt key k (linesOf s)) ∷ drop (k + 1) (headOn (linesOf s)))
+  where
+    pub key-step : {n next : ℕ} → r ≡ keyed.Got n next → KeyStep s key k n next
+    unfolding firstOff
+    key-step {n} {next} e =
+        let got : keyRead s at key (keyed.Got n next) = rw e at read in
+        let number : numberAt key k (linesOf s) ≡ Got n =
+        ap (numberAfter key) (sym (line-of s at k (seen .rest))) ∙ got .0 in
+        record {
+          number = number;
+          seen = record {
+            on = seen .on ∙ ap (firstOff (k + 1)) here ∙ rw number;
+            inside = got .1 .inside;
+            rest = passed-at k (seen .rest) (got .1);
+          };
+        }
 
-  pub key-stop : r ≡ keyed.Off → numberAt key k (linesOf s) ≡ Off
-  key-stop e =
-      let got : keyRead s at key keyed.Off = rw e at read in
-      ap (numberAfter key) (sym (line-of s at k here)) ∙ got
+    -- where it is off its layout, it is the first
+    pub key-stop : r ≡ keyed.Off → firstOff 1 (headOn (linesOf s)) ≡ k + 1
+    unfolding firstOff
+    key-stop e =
+        let got : keyRead s at key keyed.Off = rw e at read in
+        let number : numberAt key k (linesOf s) ≡ Off =
+        ap (numberAfter key) (sym (line-of s at k (seen .rest))) ∙ got in
+        seen .on ∙ ap (firstOff (k + 1)) here ∙ rw number
 
 -- a line that names no-data well has its spelling past the word and a space
 pub names-short : (line : List ℕ) → length line < 13 → namesWell line ≡ false

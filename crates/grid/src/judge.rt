@@ -7,25 +7,15 @@ use crate::head::no_data;
 use crate::head::read_head;
 use network::Frame;
 use network::limits::MAX_NETWORK_LEVEL;
+use refusal::both;
 use text::core::field_end;
 use text::number::Number;
 use text::number::level;
 use text::same::same_text;
 ghost use mathlib.Core.Path.{_≡_};
-ghost use mathlib.Core.Bool.{_&&_};
 ghost use Prim.Native.Nat.{_≤_};
 ghost use lib.ListN.{length};
 ghost use Rattle.grid.specs.InnerSteps.{valueRefusal, rowOf, rowsRead, bodyRead, fileRead};
-
-// Whether both hold.
-fn both(a: bool, b: bool) -> bool
-    ensures { λ r. ⌜ r ≡ (a && b) ⌝ }
-{
-    if a {
-        return b;
-    }
-    false
-}
 
 // The refusal of one value: 17 where it is none, 13 for no data or too high a level, or 0.
 fn value_refusal(s: &[u8], nodata: &[u8]) -> u32

@@ -1,14 +1,24 @@
 // Networks that are written.
-use crate::files::network_front;
-use crate::show::numbers;
-use crate::show::show;
+use crate::read::network;
+use crate::read::row;
+use crate::read::show;
+use cases::fields::number;
+use cases::fields::numbers;
+use cases::show::say;
+use cases::show::told;
 use grid::write::write_network;
-use libc::STDOUT_FILENO;
 use network::Frame;
 
-// Writes a network into room for 130 bytes and shows its text.
-pub fn written() {
-    let levels = [501u32, 1002, 15000, 0, 99, 4];
+// The first `size` bytes of a text are read again.
+fn again(text: &[u8], size: u32) {
+    let n = size as usize;
+    if n <= text.len() {
+        network(b"||and read again: #0 #1, should be 0 0\n", &text[0..n]);
+    }
+}
+
+// Writes a network into room for 130 bytes, shows its text and reads it again.
+fn write_wide(line: &[u8], levels: &[u32]) {
     let frame = Frame {
         columns: 3,
         rows: 2,
@@ -18,42 +28,39 @@ pub fn written() {
     };
     let mut text = [b'.'; 130];
     let mut size = [7u32; 2];
-    let answer = write_network(&levels, frame, &mut text, &mut size);
-    show(b"written", answer, 0, 0, 0);
-    numbers(&size);
-    io::write_all(STDOUT_FILENO, &text);
-    io::write_all(STDOUT_FILENO, b"\n");
-    network_front(b"and read again", &text, count(size[0]));
+    let answer = write_network(levels, frame, &mut text, &mut size);
+    show(line, answer, 0);
+    row(&size);
+    say(&text);
+    say(b"\n");
+    again(&text, size[0]);
 }
 
-fn count(x: u32) -> usize {
-    x as usize
-}
-
-// Writes levels of two by two points.
-fn write_two(name: &[u8], levels: &[u32], spacing: u32, should: u32) {
+// Writes levels of two by two points into room for 78 bytes.
+fn write_two(line: &[u8], levels: &[u32]) {
     let frame = Frame {
         columns: 2,
         rows: 2,
-        spacing,
+        spacing: number(line, 2),
         west: 0,
         south: 0,
     };
     let mut text = [b'.'; 78];
     let mut size = [7u32; 1];
-    show(
-        name,
-        write_network(levels, frame, &mut text, &mut size),
-        0,
-        should,
-        0,
-    );
+    let answer = write_network(levels, frame, &mut text, &mut size);
+    told(line, 3, 1, &[answer as u64]);
 }
 
-pub fn refused() {
-    write_two(b"written into room that just suffices", &[1, 2, 3, 4], 1, 0);
-    write_two(b"one byte short", &[1, 2, 3, 4], 10, 14);
-    write_two(b"spacing 0", &[1, 2, 3, 4], 0, 12);
-    write_two(b"three levels", &[1, 2, 3], 1, 12);
-    write_two(b"a level over 150.00", &[1, 2, 3, 15001], 10, 13);
+fn write(kind: u8, line: &[u8], levels: &[u32]) {
+    if kind == b'w' {
+        write_wide(line, levels);
+        return;
+    }
+    write_two(line, levels);
+}
+
+pub(crate) fn case(kind: u8, line: &[u8]) {
+    let mut levels = [0u32; 6];
+    let n = numbers(line, 1, &mut levels);
+    write(kind, line, &levels[..n]);
 }

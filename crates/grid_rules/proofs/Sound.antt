@@ -8,6 +8,7 @@ use borrow.Author.Tests.{leb-true, le-leb, not-true}
 use lib.Dec.{leb}
 use lib.ListN.{length, getD, length-map}
 use Rattle.refusal.specs.Range.{allWithin}
+use Rattle.refusal.proofs.Ranges.{within-each}
 use Rattle.text.specs.Field.{countOf, fieldOf}
 use Rattle.text.specs.Number.{levelOf, valueOf, showLevel}
 use Rattle.text.specs.Same.{sameText}
@@ -56,13 +57,6 @@ range-passes f r =
 
 -- ---- 13
 
-within-from : (top : ℕ) (xs : List ℕ) → ((i : ℕ) → i < length xs → getD xs i 0 ≤ top)
-    → allWithin top xs ≡ true
-unfolding allWithin
-within-from top [] h = refl
-within-from top (x ∷ xs) h =
-    rw (le-leb x top (h 0 (omega arith))) (within-from top xs (λ i l. h (suc i) (omega arith)))
-
 within-append : (top : ℕ) (a b : List ℕ) → allWithin top a ≡ true → allWithin top b ≡ true
     → allWithin top (a ++ b) ≡ true
 within-append top a b p q = up-append top a b ∙ both-true (allWithin top a) (allWithin top b) p q
@@ -81,7 +75,7 @@ pub row-within : (top : ℕ) (row : List ℕ)
     → allWithin top (rowLevels row) ≡ true
 unfolding rowLevels
 row-within top row h =
-    within-from top (map levelIn (valuesOf row))
+    within-each top (map levelIn (valuesOf row))
     (λ i l. let inside : i < length (valuesOf row) = omega (arith, length-map (valuesOf row) levelIn) in
     let place : i ≤ countOf 32 row = omega (arith, value-count row) in
     rw (map-at levelIn (valuesOf row) [] 0 i inside, value-field row i) (h i place))

@@ -2,15 +2,15 @@
 use mathlib.Core.Path.{_≡_, refl, sym, ap, _∙_, subst}
 use mathlib.Core.Bool.{Bool, true, false, _&&_, cond, true≢false}
 use mathlib.Core.Logic.{_⊎_, inl, inr, ⊎-elim, _↔_}
-use mathlib.Core.List.{List, [], _∷_}
-use Prim.Native.Nat.{ℕ, suc, _*_, _≤_, _<_}
+use mathlib.Core.List.{List}
+use Prim.Native.Nat.{ℕ, _*_}
 use native.Mathlib.Omega.{arith}
 use borrow.Author.Tests.{le-leb, eq-eqb, leb-true, eqb-true}
 use lib.Dec.{leb, eqb}
-use lib.ListN.{length, getD}
+use lib.ListN.{length}
 use Rattle.refusal.specs.Range.{allWithin}
 use Rattle.refusal.specs.Refuse.{refuse, first}
-use Rattle.refusal.proofs.Ranges.{within-at}
+use Rattle.refusal.proofs.Ranges.{within-at, within-each}
 use Rattle.network.specs.declared.Frame.{Frame}
 use Rattle.network.specs.Limits.{maxNetworkLevel}
 use Rattle.network.specs.Refusals.{between, sided, placed, filled, checked, networkRefusal}
@@ -21,14 +21,8 @@ use Rattle.network.proofs.Refusals.{both, in-between, contour-then}
 
 -- ---- each test passes exactly if what it stands for holds
 
-all-in : (top : ℕ) (xs : List ℕ) → ((i : ℕ) → i < length xs → getD xs i 0 ≤ top)
-    → allWithin top xs ≡ true
-unfolding allWithin
-all-in top [] h = refl
-all-in top (x ∷ xs) h = rw (le-leb x top (h 0 (omega arith)), all-in top xs (λ i l. h (suc i) (omega arith)))
-
 levels-right : (levels : List ℕ) → (allWithin 15000 levels ≡ true) ↔ RightLevels levels
-levels-right levels = (λ h i l. within-at 15000 levels i h, all-in 15000 levels)
+levels-right levels = (λ h i l. within-at 15000 levels i h, within-each 15000 levels)
 
 contour-right : (v : ℕ) → (between 1 v 15000 ≡ true) ↔ RightContour v
 contour-right v = (λ h. in-between 1 v 15000 h, λ h. rw (le-leb 1 v (h .0), le-leb v 15000 (h .1)))

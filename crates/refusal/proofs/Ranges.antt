@@ -1,6 +1,6 @@
 -- Laws of `allWithin`: for the loop that reads a list from its front, and for the values of a list that passed.
 -- Assumes nothing.
-use mathlib.Core.Path.{_≡_, ap, _∙_}
+use mathlib.Core.Path.{_≡_, refl, ap, _∙_}
 use mathlib.Core.Bool.{Bool, true, _&&_}
 use mathlib.Core.List.{List, [], _∷_}
 use Prim.Native.Nat.{ℕ, zero, suc, _+_, _≤_, _<_}
@@ -9,7 +9,7 @@ use native.Mathlib.Omega.{arith}
 use lib.Dec.{leb}
 use lib.ListN.{length, drop, getD, drop-of-length-le}
 use lib.Seq.{drop-cons}
-use borrow.Author.Tests.{leb-true}
+use borrow.Author.Tests.{leb-true, le-leb}
 use Rattle.refusal.specs.Range.{allWithin}
 use Rattle.refusal.proofs.Laws.{and-left, and-right}
 
@@ -34,3 +34,11 @@ unfolding allWithin
 within-at top [] i e = omega arith
 within-at top (x ∷ xs) zero e = leb-true x top (and-left (leb x top) (allWithin top xs) e)
 within-at top (x ∷ xs) (suc i) e = within-at top xs i (and-right (leb x top) (allWithin top xs) e)
+
+-- and a list whose values are each in range passes
+pub within-each : (top : ℕ) (xs : List ℕ) → ((i : ℕ) → i < length xs → getD xs i 0 ≤ top)
+    → allWithin top xs ≡ true
+unfolding allWithin
+within-each top [] h = refl
+within-each top (x ∷ xs) h =
+    rw (le-leb x top (h 0 (omega arith))) (within-each top xs (λ i b. h (suc i) (omega arith)))

@@ -10,7 +10,7 @@ use lib.Seq.{length-take-le, getD-take}
 use lib.Dec.{leb, eqb}
 use Rattle.refusal.specs.Range.{allWithin}
 use Rattle.refusal.proofs.Laws.{and-left, and-right, refuse-none}
-use Rattle.refusal.proofs.Ranges.{within-at}
+use Rattle.refusal.proofs.Ranges.{within-at, within-each}
 use Rattle.movement.specs.Rules.{fieldsFit, identityFits, levelsFit}
 use Rattle.text.specs.Number.{isGot, valueOf}
 use Rattle.text.specs.Field.{countOf, fieldOf, joinedBy}
@@ -81,14 +81,6 @@ on-layout n s e =
     ))
     (λ few. let z : _≡_ {A = ℕ} 16 0 = rw (fine, some, few) at e in absurd (omega arith))))
     (λ bad. let z : _≡_ {A = ℕ} 16 0 = rw bad at e in absurd (omega arith))
-
--- each value in range, all in range
-within-each : (top : ℕ) (l : List ℕ) → ((i : ℕ) → i < length l → getD l i 0 ≤ top)
-    → allWithin top l ≡ true
-unfolding allWithin
-within-each top [] h = refl
-within-each top (v ∷ l) h =
-    rw (le-leb v top (h 0 (omega arith))) (within-each top l (λ i b. h (suc i) (omega arith)))
 
 module _ (n : ℕ) (s : List ℕ) (l : Layout) (mark : ℕ) (on : OnLayout n s l mark) (least : 1 ≤ n)
     (few : n ≤ 8) where

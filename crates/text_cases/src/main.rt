@@ -1,47 +1,60 @@
-// Register rows, headers and limits.csv: the examples of the rules and a table of damaged lines. Each line of output
-// has a text, the answer, and what it should be.
-mod headers;
-mod layouts;
-mod limits_csv;
-mod rows;
-mod show;
+// Register rows, headers and limits.csv: the examples of the rules and a table of damaged lines, as the script in the
+// file stdin has them. Each line of output has a text, the answer, and what it should be. A line of the script has its
+// kind, the points and the text or the row's fields and levels, and last what is shown of the answers.
+mod read;
 mod written;
 
+use cases::core::line_past;
+use cases::fields::letter;
+use cases::fields::text;
+use libc::STDIN_FILENO;
+
+fn judge(line: &[u8], text: &[u8]) {
+    let kind = letter(line);
+    if kind == b'l' {
+        read::layout(line, text);
+        return;
+    }
+    if kind == b'r' {
+        read::row(line, text);
+        return;
+    }
+    if kind == b'f' {
+        read::few(line, text);
+        return;
+    }
+    if kind == b'c' {
+        read::limits(line, text);
+        return;
+    }
+    if kind == b'w' {
+        written::write(line);
+        return;
+    }
+    if kind == b'u' {
+        written::write_short(line);
+        return;
+    }
+    read::header(kind, line, text);
+}
+
+fn case(line: &[u8]) {
+    let mut room = [0u8; 128];
+    let n = text(line, 2, &mut room);
+    judge(line, &room[..n]);
+}
+
+fn run(script: &[u8]) {
+    let mut at = 0;
+    while at < script.len() {
+        let next = line_past(script, at);
+        case(&script[at..next]);
+        at = next;
+    }
+}
+
 fn main() {
-    layouts::examples();
-    layouts::ranges_not_judged();
-    layouts::row_values();
-    layouts::fields_missing();
-    layouts::points_without_layout();
-    layouts::fields_blank();
-    layouts::letters();
-    layouts::quotes();
-    layouts::leading_zeros();
-    layouts::signs_and_spaces();
-    layouts::times_too_late();
-    layouts::times_misspelt();
-    layouts::decimals();
-    layouts::levels_misspelt();
-    layouts::some_levels_blank();
-    layouts::line_ends();
-    layouts::other_line_ends();
-    rows::rows_taken();
-    rows::rule_1();
-    rows::rule_3();
-    rows::rule_7();
-    rows::little_room();
-    headers::register_headers();
-    headers::damaged_headers();
-    headers::limits_headers();
-    limits_csv::limits_taken();
-    limits_csv::limits_values();
-    limits_csv::lines_missing();
-    limits_csv::lines_too_many();
-    limits_csv::limits_lines();
-    limits_csv::limits_fields();
-    limits_csv::limits_ranges();
-    written::written_rows();
-    written::refused_9();
-    written::refused_1();
-    written::refused_3_7_14();
+    let mut script = io::large_buffer();
+    let n = io::read_full(STDIN_FILENO, &mut script);
+    run(&script[..n]);
 }

@@ -1,62 +1,57 @@
-// Rows written.
-use crate::show::show;
+// Rows that are written, or refused.
+use cases::fields::number;
+use cases::fields::numbers;
+use cases::show::say;
+use cases::show::told;
+use movement::limits::MAX_POINTS;
 use register::row::Fields;
 use register::write::Written;
 use register::write::write_row;
 
-fn fields(identity: u32, ty: u32, mass: u32, kind: u32, time: u32, computed: u32) -> Fields {
+fn fields(line: &[u8]) -> Fields {
     Fields {
-        identity,
-        ty,
-        mass,
-        kind,
-        time,
-        computed,
+        identity: number(line, 2),
+        ty: number(line, 3),
+        mass: number(line, 4),
+        kind: number(line, 5),
+        time: number(line, 6),
+        computed: number(line, 7),
     }
 }
 
-// Writes a row and shows its text, its size and what that should be.
-fn written(f: Fields, levels: &[u32], points: u32, should: u32) {
+// The refusal, or the size.
+fn show(line: &[u8], answer: Written) {
+    match answer {
+        Written::Size(n) => told(line, 9, 8, &[0, n as u64]),
+        Written::Refused(n) => told(line, 9, 8, &[n as u64, 0]),
+    }
+}
+
+fn with_levels(line: &[u8], levels: &[u32]) {
     let mut text = [b'.'; 88];
-    match write_row(f, levels, points, &mut text) {
-        Written::Size(n) => show(&text, n, should),
-        Written::Refused(n) => show(b"refused", n, should),
-    }
+    let answer = write_row(fields(line), levels, number(line, 1), &mut text);
+    say(&text);
+    show(line, answer);
 }
 
-pub fn written_rows() {
-    written(fields(1, 0, 70000, 0, 25200, 1), &[10000], 1, 29);
-    written(fields(4, 2, 3000, 1, 82800, 0), &[0, 0], 2, 23);
-    written(fields(99999, 1, 5999, 1, 86399, 1), &[0, 7, 12000], 3, 42);
-    written(fields(99999, 0, 1000000, 0, 0, 1), &[12000; 8], 8, 84);
-}
-
-// Writes a row that is refused.
-fn refused(f: Fields, levels: &[u32], points: u32, should: u32) {
+fn with_levels_short(line: &[u8], levels: &[u32]) {
     let mut text = [0u8; 28];
-    match write_row(f, levels, points, &mut text) {
-        Written::Size(_) => show(b"written", 0, should),
-        Written::Refused(n) => show(b"refused", n, should),
-    }
+    show(
+        line,
+        write_row(fields(line), levels, number(line, 1), &mut text),
+    );
 }
 
-pub fn refused_9() {
-    refused(fields(0, 3, 70000, 0, 25200, 1), &[12001], 0, 9);
-    refused(fields(0, 3, 70000, 0, 25200, 1), &[12001], 9, 9);
-    refused(fields(0, 3, 70000, 0, 25200, 2), &[12001], 1, 9);
+// Writes a row into room for 88 bytes and shows them.
+pub(crate) fn write(line: &[u8]) {
+    let mut levels = [0u32; MAX_POINTS];
+    let n = numbers(line, 8, &mut levels);
+    with_levels(line, &levels[..n]);
 }
 
-pub fn refused_1() {
-    refused(fields(0, 3, 70000, 0, 25200, 1), &[12001], 1, 1);
-    refused(fields(0, 1, 6000, 0, 25200, 1), &[12001], 1, 1);
-    refused(fields(0, 0, 70000, 2, 25200, 1), &[12001], 1, 1);
-    refused(fields(0, 0, 70000, 0, 86400, 1), &[12001], 1, 1);
-}
-
-pub fn refused_3_7_14() {
-    refused(fields(0, 0, 70000, 0, 25200, 1), &[12001], 1, 3);
-    refused(fields(1, 0, 70000, 0, 25200, 1), &[12001], 1, 7);
-    refused(fields(1, 0, 70000, 0, 25200, 1), &[1, 1], 1, 7);
-    refused(fields(1, 0, 70000, 0, 25200, 0), &[1], 1, 7);
-    refused(fields(1, 0, 70000, 0, 25200, 1), &[10000], 1, 14);
+// Writes a row into room for 28 bytes.
+pub(crate) fn write_short(line: &[u8]) {
+    let mut levels = [0u32; MAX_POINTS];
+    let n = numbers(line, 8, &mut levels);
+    with_levels_short(line, &levels[..n]);
 }

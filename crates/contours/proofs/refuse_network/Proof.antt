@@ -22,6 +22,7 @@ refuse-network-spec =
     (tie.spec
     refused-line-requires
     refusal-requires
+    (λ c. search needs)
     (λ c κs. search needs)
     (λ c. search needs)
     (λ c. search needs))

@@ -21,8 +21,11 @@ slice-aggregate-parts-3 c =
 parts-requires : tie.Need-parts-requires
 parts-requires c κs = search needs
 
+slice-aggregate-drawn : tie.Need-slice-aggregate-drawn
+slice-aggregate-drawn c = let s : tie.Start = search in sym (length-take-le _ _ (s .pre .1 .0 .0 .1 .1))
+
 returns : tie.Need-returns
-returns c = search needs
+returns c = let done : tie.After-parts = search in done .parts .ensures
 
 pub fronts-spec : {M : Type 1} → statement M
 fronts-spec =
@@ -32,4 +35,6 @@ fronts-spec =
     slice-aggregate-parts-2
     slice-aggregate-parts-3
     parts-requires
+    slice-aggregate-drawn
+    (λ c κs. search needs)
     returns)

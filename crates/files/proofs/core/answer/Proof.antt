@@ -10,13 +10,12 @@ use Rattle.files.proofs.core.answer.Tie as tie
 
 returns : tie.Need-returns
 returns c =
-    let written = c .before .before in
-    let cast = written .before in
-    let test = cast .before .before .before .before in
-    let read = test .before in
-    let s = read .before .before .before in
-    limits-refused (tellingOf (s .args .kind)) (s .args .text .now) (s .pre .0) (read .read-limits .ensures) (test .if1 .taken)
-    (written .put-refused .ensures)
+    let written : tie.After-put-refused = search in
+    let test : tie.Then1 = search in
+    let read : tie.After-read-limits = search in
+    let s : tie.Start = search in
+    limits-refused (tellingOf (s .args .kind)) (s .args .text .now) (s .pre .0) (read .read-limits .ensures)
+    (test .if1 .taken) (written .put-refused .ensures)
 
 report-requires : tie.Need-report-requires
 unfolding emptyBook

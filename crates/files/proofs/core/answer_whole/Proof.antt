@@ -6,34 +6,21 @@ use borrow.Author.Needs.{needs}
 use Rattle.files.proofs.core.answer_whole.Statement.{statement}
 use Rattle.files.proofs.core.answer_whole.Tie as tie
 
--- where the function starts, and its book
-abbrev start : tie.After-slice-known → tie.Start
-start c = let columns = c .before .before .before .before in columns .before .before
-
 abbrev book : tie.Start → Book
 book s = bookOf (s .args .ids .now) (s .args .groups .now) (s .args .marks .now) (s .args .levels .now)
 
 returns : tie.Need-returns
 returns c =
-    let written = c .before .before in
-    let test = written .before .before in
-    let s = start (test .before) in
+    let written : tie.After-refuse = search in
+    let test : tie.Then1 = search in
+    let s : tie.Start = search in
     sized-refused (tellingOf (s .args .kind)) (s .args .limits) (book s) (test .if1 .taken) (written .refuse .ensures)
 
 returns-2 : tie.Need-returns-2
 returns-2 c =
-    let said = c .before in
-    let written = said .before .before .before .before in
-    let test = written .before .before in
-    let s = start (test .before) in
-    sized-report (tellingOf (s .args .kind)) (s .args .limits) (book s) (s .args .read .line) (test .if1 .left)
-    (written .put-told .ensures .wrote)
-
-returns-3 : tie.Need-returns-3
-returns-3 c =
-    let written = c .before .before .before .before in
-    let test = written .before .before in
-    let s = start (test .before) in
+    let written : tie.After-put-told = search in
+    let test : tie.Else1 = search in
+    let s : tie.Start = search in
     sized-report (tellingOf (s .args .kind)) (s .args .limits) (book s) (s .args .read .line) (test .if1 .left)
     (written .put-told .ensures .wrote)
 
@@ -47,6 +34,4 @@ answer-whole-spec =
     (λ c κs. search needs)
     (λ c κs. search needs)
     (λ c. search needs)
-    returns-2
-    (λ c. search needs)
-    returns-3)
+    returns-2)
