@@ -1,5 +1,5 @@
-// The program explain: limits.csv in the current folder and a register on standard input make how each load comes about on
-// standard output.
+// The program explain: limits.csv in the current folder and a register on standard input make, on standard output, how
+// each load comes about.
 use files::core::EXPLAIN;
 use files::core::run;
 use libc::STDERR_FILENO;
