@@ -133,7 +133,13 @@ class Reports(Case):
         missing = self.runs(1, "refused,16,1\r\n", "report", "nowhere.csv")
         self.assertIn("limits.csv, line 1: refused 16: No such file or directory", missing)
 
-    @unittest.skipUnless(os.environ.get("OKUBINRAFO_REPORT"), "OKUBINRAFO_REPORT names no program to compare with")
+    def programs(self):
+        """The proved programs' commands, by name."""
+        return {name: os.environ[f"OKUBINRAFO_{name.upper()}"] for name in ("report", "explain")}
+
+    @unittest.skipUnless(
+        {"OKUBINRAFO_REPORT", "OKUBINRAFO_EXPLAIN"} <= set(os.environ), "no programs are named to compare with"
+    )
     def test_the_proved_programs_very_text(self):
         quarter = os.path.join(TOP, "examples", "quarter")
         texts = {}
@@ -143,10 +149,12 @@ class Reports(Case):
                 self.write(name, texts[name])
         register = texts["register.csv"]
         cut, twice = register[: len(register) // 2], register + register.splitlines(keepends=True)[7]
-        for given in (register, cut, twice, register.replace(b"S,12", b"S,24")):
-            proved = self.run_in_folder(command=["sh", "-c", os.environ["OKUBINRAFO_REPORT"]], input=given)
-            self.assertIn(proved.stdout[:8], (b"point,le", b"refused,"))
-            self.runs(1 if proved.stdout.startswith(b"refused") else 0, proved.stdout.decode(), "report", input=given)
+        wrong = register.replace(b"S,12", b"S,24")
+        for name, command in self.programs().items():
+            for given, status in ((register, 0), (cut, 1), (twice, 1), (wrong, 1)):
+                proved = self.run_in_folder(command=["sh", "-c", command], input=given)
+                self.assertEqual(proved.stdout.startswith(b"refused"), status == 1)
+                self.runs(status, proved.stdout.decode(), name, input=given)
 
 
 class Explanations(Case):
@@ -170,6 +178,13 @@ class Explanations(Case):
         self.runs(1, "refused,10,0\r\n", "explain", input=(HEADER + "1,G,151,S,07:00:00,").encode())
         self.runs(1, "refused,4,3\r\n", "explain", input=(HEADER + 2 * "1,G,151,S,07:00:00,\r\n").encode())
         self.runs(0, EXPLAIN + "1,all,,,0,0,,0,0\r\n", "explain", input=HEADER.encode())
+
+    def test_the_quarters_very_text(self):
+        quarter = os.path.join(TOP, "examples", "quarter")
+        with open(os.path.join(quarter, "explain.csv"), newline="") as file:
+            answer = file.read()
+        limits = os.path.join(quarter, "limits.csv")
+        self.runs(0, answer, "explain", os.path.join(quarter, "register.csv"), "--limits", limits)
 
     def test_an_account_is_the_loads(self):
         book = Book(2000, 4)

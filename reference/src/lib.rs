@@ -7,6 +7,7 @@ pub mod book;
 pub mod calls;
 pub mod contour;
 pub mod contours_csv;
+pub mod explain;
 pub mod grid;
 pub mod level;
 pub mod load;

@@ -4,24 +4,32 @@ use crate::book::{Book, Columns};
 use crate::load::{check_days, check_limit, load};
 use crate::register::{read_layout, read_limits, register_header, Limits};
 use crate::text::{lines, spell_level};
-use crate::Refusal;
+use crate::{Answer, Refusal};
 
 const ROWS: usize = 2_000;
 
+/// What a program that reads both files says of a book.
+pub type Telling = fn(&Limits, &Book) -> Answer<String>;
+
 /// What the program writes; a `limits` that can't be read is empty.
 pub fn report(limits: &[u8], register: &[u8]) -> String {
-    match judge(limits, register) {
+    answer(limits, register, print)
+}
+
+/// What a program writes that reads these files and tells of their book.
+pub fn answer(limits: &[u8], register: &[u8], tell: Telling) -> String {
+    match judge(limits, register, tell) {
         Ok(text) => text,
         Err((refusal, line)) => format!("refused,{},{line}\r\n", refusal as u32),
     }
 }
 
-fn judge(limits: &[u8], register: &[u8]) -> Result<String, (Refusal, usize)> {
+fn judge(limits: &[u8], register: &[u8], tell: Telling) -> Result<String, (Refusal, usize)> {
     let limits = read_limits(limits).map_err(|line| (Refusal::Register, line))?;
     let checked = check_days(limits.days).and(limits.limits.iter().try_for_each(|&limit| check_limit(limit)));
     checked.map_err(|refusal| (refusal, 2))?;
     let book = fill(&limits, register)?;
-    print(&limits, &book).map_err(|refusal| (refusal, 0))
+    tell(&limits, &book).map_err(|refusal| (refusal, 0))
 }
 
 fn fill(limits: &Limits, register: &[u8]) -> Result<Book, (Refusal, usize)> {
@@ -47,7 +55,7 @@ fn add(book: &mut Book, line: &[u8], points: u32) -> Result<(), Refusal> {
     }
 }
 
-fn print(limits: &Limits, book: &Book) -> Result<String, Refusal> {
+fn print(limits: &Limits, book: &Book) -> Answer<String> {
     let mut text = "point,level,limit,verdict,computed,missing\r\n".to_string();
     for (point, &limit) in limits.limits.iter().enumerate() {
         let load = load(book, point as u32, limits.days)?;

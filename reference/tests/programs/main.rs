@@ -1,9 +1,9 @@
 //! Compares the built programs with the reference, byte for byte, on right and wrong files that come whole, from a file
 //! or in pieces.
 //!
-//! OKUBINRAFO_REPORT and OKUBINRAFO_CONTOURS are the programs' shell commands. SEED chooses the inputs; ROUNDS or
-//! SECONDS_EACH how many or how long; FIRST the first round. The tests start a process a round, so they run only when
-//! asked for: cargo test --test programs -- --ignored
+//! OKUBINRAFO_REPORT, OKUBINRAFO_EXPLAIN and OKUBINRAFO_CONTOURS are the programs' shell commands. SEED chooses the
+//! inputs; ROUNDS or SECONDS_EACH how many or how long; FIRST the first round. The tests start a process a round, so
+//! they run only when asked for: cargo test --test programs -- --ignored
 
 mod contours;
 #[path = "../shared/damage.rs"]
@@ -11,6 +11,7 @@ mod damage;
 mod delivery;
 #[path = "../shared/drawn.rs"]
 mod drawn;
+mod explain;
 mod program;
 #[path = "../shared/random.rs"]
 mod random;
@@ -18,3 +19,4 @@ mod registers;
 mod report;
 #[path = "../shared/rounds.rs"]
 mod rounds;
+mod two_files;

@@ -5,6 +5,7 @@ use crate::program::Program;
 use crate::random::Random;
 use crate::registers::{a_limits_file, a_register, Aim, ROWS};
 use crate::rounds::{directed, rounds, saw, Telling};
+use crate::two_files::agree;
 use reference::report::report;
 use reference::text::level;
 
@@ -62,22 +63,7 @@ fn count(answer: &str, register: &[u8]) {
 
 /// Runs the program and compares.
 fn compare(program: &Program, limits: Option<&[u8]>, register: &[u8], delivery: &Delivery) -> String {
-    let path = program.folder.join("limits.csv");
-    match limits {
-        Some(limits) => std::fs::write(path, limits).expect("limits.csv is written"),
-        None => drop(std::fs::remove_file(path)),
-    }
-    let expected = report(limits.unwrap_or_default(), register);
-    let own = program.run(&[], register, delivery);
-    let text = |bytes: &[u8]| String::from_utf8_lossy(bytes).into_owned();
-    assert!(
-        own == expected.as_bytes(),
-        "the program writes {:?}\nthe reference {expected:?}\n{delivery:?}\nlimits.csv {:?}\nregister {:?}",
-        text(&own),
-        limits.map(text),
-        text(register)
-    );
-    expected
+    agree(program, report, limits, register, delivery)
 }
 
 #[test]
@@ -113,9 +99,9 @@ fn reports() {
     });
 }
 
-const LIMITS: &[u8] = b"days,p1\r\n1,56.65\r\n";
-const HEADER: &str = "id,type,mtow,kind,time,l1\r\n";
-const MOVEMENTS: &str =
+pub const LIMITS: &[u8] = b"days,p1\r\n1,56.65\r\n";
+pub const HEADER: &str = "id,type,mtow,kind,time,l1\r\n";
+pub const MOVEMENTS: &str =
     "1,G,70000,S,07:00:00,100.00\r\n2,G,70000,S,18:59:59,100.00\r\n3,G,70000,S,12:00:00,\r\n4,H,3000,L,23:00:00,\r\n";
 const REPORT: &str = "point,level,limit,verdict,computed,missing\r\n1,56.66,56.65,over,2,2\r\n";
 
