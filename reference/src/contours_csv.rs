@@ -1,4 +1,4 @@
-//! The contours program (docs/DECISIONS.md): from a network's text and the levels asked for to its standard output.
+//! The contours program (docs/PEOPLE.md): from a network's text and the levels asked for to its standard output.
 
 use crate::grid;
 use crate::network::Network;
