@@ -73,14 +73,14 @@ module _ {origin taken taken′ : ℕ} {room : List ℕ} {r : Arrived} (reads : 
         known = omega arith;
       }
 
-  pub read-broken : r ≡ Failed → Fills origin (record { size = n; state = failed }) (putMid n m text room)
-  read-broken e =
+  pub read-broken : 1 ≤ length room → r ≡ Failed → Fills origin (record { size = n; state = failed }) (putMid n m text room)
+  read-broken some e =
       let last = gave-as reads Failed e in
       record {
         within = omega (arith, behind-fits n m 0 text room h (omega arith));
         first = rw (take-put n m text room h) (came .first);
         ends = λ e. absurd (omega (arith, e));
-        fails = λ _. rw (take-put n m text room h) (last .1 (take n text) came);
+        fails = λ _. rw (take-put n m text room h) (last .1 some (take n text) came);
         fills = λ e. absurd (omega (arith, e));
         known = omega arith;
       }

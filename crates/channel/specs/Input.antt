@@ -20,7 +20,8 @@ pub record Came (origin taken : ℕ) (bytes : List ℕ) : Type 0 where
   pub first : First origin bytes
   pub long : length bytes ≡ taken
 
--- One read: bytes came behind those before, and stand at the front of the room; there are no more; or it failed
+-- One read: bytes came behind those before, and stand at the front of the room; there are no more; or it failed, which
+-- says nothing where no room was lent
 abbrev pub Gave : (origin taken : ℕ) (r : Arrived) (taken′ : ℕ) (room : List ℕ) → Type 0
 Gave origin taken (Bytes n) taken′ room =
     (1 ≤ n) × (n ≤ length room) × (taken′ ≡ taken + n) × (taken′ + 1 < 2 ^ 64)
@@ -28,7 +29,7 @@ Gave origin taken (Bytes n) taken′ room =
 Gave origin taken End taken′ room =
     (taken′ ≡ taken) × ((old : List ℕ) → Came origin taken old → Whole origin old)
 Gave origin taken Failed taken′ room =
-    (taken′ ≡ taken) × ((old : List ℕ) → Came origin taken old → Broken origin old)
+    (taken′ ≡ taken) × (1 ≤ length room → (old : List ℕ) → Came origin taken old → Broken origin old)
 
 pub record Reads (origin taken : ℕ) (r : Arrived) (taken′ : ℕ) (room : List ℕ) : Type 0 where
   pub gave : Gave origin taken r taken′ room

@@ -2,11 +2,12 @@
 -- it. So nothing proves one of these statements but its own `system-..`, which takes what a call answered and says what
 -- that means. No file outside this crate may name a `system-..`: tools/check-channel, run by the gate, refuses it.
 -- Assumes nothing.
-use Prim.Native.Nat.{ℕ, _≤_}
+use Prim.Native.Nat.{ℕ, _+_, _^_, _≤_}
 use mathlib.Core.Path.{_≡_}
 use mathlib.Core.Bool.{Bool, true, false}
 use mathlib.Core.List.{List, [], _++_}
 use lib.IntN.{ℤ, pos}
+use lib.Signed.{ltZ}
 use lib.ListN.{length, take}
 
 -- the first bytes that came from an origin are these
@@ -57,10 +58,17 @@ pub system-ended : (origin : ℕ) (answer : ℤ) (room old : List ℕ) → answe
 unfolding Whole
 system-ended origin answer room old e h f = tt
 
--- It answered less, or could not be made
-pub system-failed : (origin : ℕ) (old : List ℕ) → First origin old → Broken origin old
+-- It answered less
+pub system-failed : (origin : ℕ) (answer : ℤ) (old : List ℕ) → ltZ answer (pos 0) ≡ true
+    → First origin old → Broken origin old
 unfolding Broken
-system-failed origin old f = tt
+system-failed origin answer old e f = tt
+
+-- It was not made: what it gave could no longer be counted
+pub system-uncounted : (origin : ℕ) (room old : List ℕ) → 2 ^ 64 ≤ length old + length room + 1
+    → First origin old → Broken origin old
+unfolding Broken
+system-uncounted origin room old h f = tt
 
 -- All of a part was taken by writes
 pub system-took : (answer : Bool) (part old : List ℕ) → answer ≡ true → Sent old → Sent (old ++ part)

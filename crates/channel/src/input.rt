@@ -15,7 +15,7 @@ pub(crate) const INPUT: u32 = 0;
 pub(crate) const FILE: u32 = 1;
 
 // Reads behind the `taken` bytes that came before, into the front of the room. Without room it fails: then nothing can
-// come, and that is no end.
+// come, and that is no end, nor a read that failed.
 pub(crate) fn read_from(origin: u32, fd: i32, taken: &mut u64, room: &mut [u8]) -> Arrived
     ensures { λ r. ⌜ Reads origin (now (taken .entry)) r (now (taken .exit)) (now (room .exit)) ⌝ }
 {

@@ -9,20 +9,27 @@ use lib.ListN.{length, take, length-append}
 use mir.Syntax.{w64}
 use mir.Val.{toZ, ofZ}
 use mir.ValLaws.{toZ-ofZ}
-use Rattle.channel.specs.System.{system-gave, system-ended, system-failed}
+use Rattle.channel.specs.System.{system-gave, system-ended, system-failed, system-uncounted}
 use Rattle.channel.proofs.Behind.{answered-count}
 use borrow.Author.Needs.{needs}
 use Rattle.channel.proofs.input.read_from.Statement.{statement}
 use Rattle.channel.proofs.input.read_from.Tie as tie
 
 returns : tie.Need-returns
-returns c = record { gave = (refl, λ old came. system-failed _ old (came .first)) }
+returns c = record { gave = (refl, λ some. absurd (omega (arith, some))) }
 
 returns-2 : tie.Need-returns-2
-returns-2 c = record { gave = (refl, λ old came. system-failed _ old (came .first)) }
+returns-2 c =
+    let start : tie.Start = search in
+    let room = start .args .room .now in
+    record { gave = (refl, λ some old came. system-uncounted _ room old (omega (arith, came .long)) (came .first)) }
 
 returns-3 : tie.Need-returns-3
-returns-3 c = record { gave = (refl, λ old came. system-failed _ old (came .first)) }
+returns-3 c =
+    let w : tie.After-read = search in
+    let z = w .read .result in
+    let less = rw (toZ-ofZ w64 z (record { sfits = w .read .ok })) at (c .if3 .taken) in
+    record { gave = (refl, λ some old came. system-failed _ z old less (came .first)) }
 
 -- what the read answered is what is counted
 abbrev read : tie.After-count → tie.After-read

@@ -76,8 +76,9 @@ returns-2 : tie.Need-returns-2 Inv-loop μ-loop
 returns-2 c =
     let l : tie.At-loop Inv-loop μ-loop = search in
     let w : tie.After-read-from Inv-loop μ-loop = search in
+    let kept : length (w .read-from .last .1 .1 .1 .0) ≡ length (l .loop .text) - l .loop .n = search needs in
     read-broken (w .read-from .ensures) (l .loop .n) (length (l .loop .text) - l .loop .n) (l .loop .text)
-    (l .loop .inv .0) (l .loop .inv .2) search
+    (l .loop .inv .0) (l .loop .inv .2) (omega (arith, kept)) search
 
 returns-3 : tie.Need-returns-3 Inv-loop μ-loop
 returns-3 c =

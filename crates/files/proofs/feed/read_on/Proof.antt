@@ -113,8 +113,12 @@ failed c =
     let w : tie.After-read-input = search in
     let told : tie.After-enum-told2 = search in
     let broken : tie.After-failed = search in
+    let a = start w .args in
+    let kept : length (w .read-input .last .1 .0) ≡ length (a .bytes .now) - a .left = search needs in
+    let some : 1 ≤ length (w .read-input .last .1 .0) =
+    omega (arith, kept, start w .pre .1 .short, start w .pre .1 .room) in
     turn-failed (start w .pre .0) (broken .failed .ensures)
-    (gave-as (w .read-input .ensures) Failed (told .enum-told2 .given .1) .1)
+    (gave-as (w .read-input .ensures) Failed (told .enum-told2 .given .1) .1 some)
 
 pub read-on-spec : {M : Type 1} → statement M
 read-on-spec =
