@@ -13,7 +13,7 @@ use Rattle.text.specs.Same.{sameText}
 use Rattle.text.proofs.Digits.{either}
 use Rattle.text.proofs.Indices.{every-each}
 use Rattle.sentence.specs.Sentence.{sentences, sentenceOf, maxSentence}
-use Rattle.sentence.specs.Told.{maxRefusal, subjects, bounds, says, EachSays}
+use Rattle.sentence.specs.Told.{maxRefusal, subjects, framed, bounds, says, EachSays}
 
 agree : Bool → Bool → Bool
 agree true b = b
@@ -50,7 +50,7 @@ each-subject (suc k) other low high o =
 -- The bounds of each
 
 bound-test : (number i : ℕ) → Bool
-bound-test number i = says (sentenceOf number) (getD (getD bounds number []) i [])
+bound-test number i = says (framed (sentenceOf number)) (getD (getD bounds number []) i [])
 
 bounds-test : ℕ → Bool
 bounds-test number = every (bound-test number) (length (getD bounds number []))
@@ -60,7 +60,7 @@ unfolding every bounds-test bound-test says sameText sentenceOf sentences bounds
 all-bounds = refl
 
 each-bound : (number i : ℕ) → number ≤ maxRefusal → i < length (getD bounds number [])
-    → says (sentenceOf number) (getD (getD bounds number []) i []) ≡ true
+    → says (framed (sentenceOf number)) (getD (getD bounds number []) i []) ≡ true
 unfolding bounds-test bound-test
 each-bound number i high h =
     every-each (bound-test number) i (length (getD bounds number []))

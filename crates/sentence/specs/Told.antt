@@ -2,7 +2,7 @@
 use Prim.Native.Nat.{ℕ, _≤_, _<_}
 use mathlib.Core.Path.{_≡_}
 use mathlib.Core.Bool.{Bool, false, cond, true}
-use mathlib.Core.List.{List, [], _∷_}
+use mathlib.Core.List.{List, [], _∷_, _++_}
 use lib.Dec.{eqb}
 use lib.ListN.{length, getD, take}
 use Rattle.text.specs.Same.{sameText}
@@ -36,27 +36,32 @@ subjects =
     ∷ bytes "CRLF"
     ∷ []
 
--- the bounds that each sentence has to tell, and which side of them is wrong
+-- a text between two spaces, 32
+abbrev pub framed : List ℕ → List ℕ
+framed s = 32 ∷ (s ++ (32 ∷ []))
+
+-- The bounds that each sentence has to tell, and which side of them is wrong; with what stands before and behind, so
+-- that 1 to 366 is not 1 to 3,660
 unfoldable pub bounds : List (List (List ℕ))
 bounds =
     []
-    ∷ (bytes "out of range" ∷ bytes "a small aircraft has 6,000 kg or more" ∷ [])
-    ∷ (bytes "the mass is 150 kg or less" ∷ [])
-    ∷ (bytes "is not from 1 to 99,999" ∷ [])
+    ∷ (bytes " is out of range," ∷ bytes " a small aircraft has 6,000 kg or more " ∷ [])
+    ∷ (bytes " the mass is 150 kg or less," ∷ [])
+    ∷ (bytes " is not from 1 to 99,999 " ∷ [])
     ∷ []
     ∷ []
     ∷ []
-    ∷ (bytes "is not the number of points" ∷ bytes "a level is over 120.00" ∷ [])
-    ∷ (bytes "has no levels" ∷ [])
-    ∷ (bytes "points are not 1 to 8" ∷ [])
+    ∷ (bytes " is not the number of points," ∷ bytes " a level is over 120.00 " ∷ [])
+    ∷ (bytes " has no levels " ∷ [])
+    ∷ (bytes " points are not 1 to 8," ∷ [])
     ∷ []
-    ∷ (bytes "have to be from 1 to 366" ∷ [])
-    ∷ (bytes "2 to 256 a side" ∷ bytes "1 to 500 m" ∷ bytes "0 to 900,000 m" ∷ [])
-    ∷ (bytes "a level is over 150.00" ∷ [])
-    ∷ (bytes "too small" ∷ [])
-    ∷ (bytes "a limit is over 120.00" ∷ bytes "is not from 0.01 to 150.00" ∷ [])
-    ∷ (bytes "off its layout" ∷ [])
-    ∷ (bytes "off its layout" ∷ [])
+    ∷ (bytes " have to be from 1 to 366 " ∷ [])
+    ∷ (bytes "(2 to 256 a side)" ∷ bytes "(1 to 500 m)" ∷ bytes "(0 to 900,000 m)" ∷ [])
+    ∷ (bytes " a level is over 150.00," ∷ [])
+    ∷ (bytes " is too small " ∷ [])
+    ∷ (bytes " a limit is over 120.00," ∷ bytes " is not from 0.01 to 150.00 " ∷ [])
+    ∷ (bytes " is off its layout " ∷ [])
+    ∷ (bytes " is off its layout," ∷ [])
     ∷ []
 
 -- whether a word stands somewhere in a text
@@ -70,7 +75,7 @@ pub record EachSays : Type 0 where
   pub subject : (number other : ℕ) → 1 ≤ number → number ≤ maxRefusal → other ≤ maxRefusal
       → says (sentenceOf other) (getD subjects number []) ≡ eqb number other
   pub bound : (number i : ℕ) → number ≤ maxRefusal → i < length (getD bounds number [])
-      → says (sentenceOf number) (getD (getD bounds number []) i []) ≡ true
+      → says (framed (sentenceOf number)) (getD (getD bounds number []) i []) ≡ true
   pub plain : (number i : ℕ) → i < length (sentenceOf number)
       → (32 ≤ getD (sentenceOf number) i 0) × (getD (sentenceOf number) i 0 ≤ 126)
   pub short : (number : ℕ) → length (sentenceOf number) ≤ maxSentence
