@@ -1,17 +1,15 @@
 -- Laws on calls: what an accepted call says of the book, and the book after a call. Assumes nothing.
 use mathlib.Core.Path.{_≡_, refl, sym, _∙_}
-use mathlib.Core.Bool.{Bool, true, false, cond, not, _&&_}
-use mathlib.Core.List.{List}
+use mathlib.Core.{Bool.Bool, Bool.true, Bool.false, Bool.cond, Bool.not, Bool._&&_, List.List}
 use Prim.Native.Nat.{ℕ, _≤_, _<_}
 use native.Mathlib.Omega.{arith}
-use lib.ListN.{length, getD}
-use lib.Dec.{eqb, leb, ltb}
+use lib.{ListN.length, ListN.getD, Dec.eqb, Dec.leb, Dec.ltb}
 use borrow.Author.Tests.{ltb-true, leb-true, eqb-true, eqb-false, eq-eqb, ne-eqb}
 use Rattle.refusal.specs.Refuse.{refuse}
 use Rattle.refusal.proofs.Laws.{and-left, and-right, refuse-none}
 use Rattle.movement.specs.Limits.{maxIdentity, maxMass, typeCount, kindCount, secondsADay}
 use Rattle.movement.specs.Aircraft.{aircraftNumbered, massFits}
-use Rattle.movement.specs.Rules.{fieldsFit, counts, movementRefusal, identityFits, levelsFit}
+use Rattle.movement.specs.Rules.{fieldsFit, movementRefusal, identityFits, levelsFit}
 use Rattle.book_rules.specs.Columns.{Book, indexOf, stands, sound}
 use Rattle.book_rules.specs.Calls.{Call, Called, refusedOr, enterRefusal, supplyRefusal, takeBackRefusal}
 use Rattle.book_rules.specs.Calls.{withdrawRefusal, soundRefusal, refusal, changed, after}

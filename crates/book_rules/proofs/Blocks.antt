@@ -3,8 +3,7 @@
 use mathlib.Core.Path.{_≡_, refl, sym, ap, _∙_}
 use mathlib.Core.List.{List, [], _∷_, _++_, append-assoc}
 use Prim.Native.Nat.{ℕ, zero, suc, _+_, _*_, _≤_, _<_}
-use native.Mathlib.Nat.{suc-mul, zero-mul, add-mul, mul-le-mul-right}
-use native.Mathlib.Omega.{arith}
+use native.Mathlib.{Nat.suc-mul, Nat.zero-mul, Nat.add-mul, Nat.mul-le-mul-right, Omega.arith}
 use lib.ListN.{length, take, drop, replicate, length-append, length-replicate, take-append-drop}
 use lib.ListN.{replicate-append-replicate}
 use lib.Seq.{take-at, drop-at, drop-drop, take-append-add, drop-append-add, take-append-le, drop-append-le}

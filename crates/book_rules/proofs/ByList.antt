@@ -1,30 +1,25 @@
 -- One call is refused as the list of movements says. Assumes nothing.
-use mathlib.Core.Path.{_≡_, refl, sym, ap, subst, _∙_}
-use mathlib.Core.Bool.{Bool, true, false, cond, not, _&&_, _||_, true≢false}
-use mathlib.Core.List.{List, [], _∷_}
-use Prim.Native.Nat.{ℕ, zero, suc, _+_, _*_, _-_, _/_, _≤_, _<_}
-use native.Mathlib.Nat.{mul-one, le-of-eq, mul-div-cancel-left}
-use native.Mathlib.Omega.{arith}
-use lib.ListN.{length, replicate, length-replicate, getD}
-use lib.Dec.{eqb, leb, ltb, leb·suc-suc}
+use mathlib.Core.Path.{_≡_, refl, sym, ap, _∙_}
+use mathlib.Core.{Bool.Bool, Bool.true, Bool.false, Bool.not, Bool._&&_, Bool._||_, List.List, List.[], List._∷_}
+use Prim.Native.Nat.{ℕ, suc, _+_, _*_, _-_, _/_, _≤_, _<_}
+use native.Mathlib.{Nat.le-of-eq, Nat.mul-div-cancel-left, Omega.arith}
+use lib.{ListN.length, ListN.length-replicate, ListN.getD, Dec.eqb, Dec.ltb, Dec.leb·suc-suc}
 use borrow.Author.Tests.{lt-ltb, le-ltb, eq-eqb, ne-eqb, eqb-true, eqb-false}
 use Rattle.refusal.specs.Refuse.{refuse}
 use Rattle.movement.specs.Rules.{movementRefusal, identityFits, levelsFit}
-use Rattle.book_rules.specs.Columns.{Book, firstAt, indexOf, stands, sound}
+use Rattle.book_rules.specs.Columns.{firstAt, indexOf, stands, sound}
 use Rattle.book_rules.specs.Calls.{Call, refusedOr, enterRefusal, supplyRefusal, takeBackRefusal}
-use Rattle.book_rules.specs.Calls.{withdrawRefusal, soundRefusal, refusal, changed, after}
+use Rattle.book_rules.specs.Calls.{withdrawRefusal, soundRefusal, refusal}
 use Rattle.book_rules.specs.Calls.Call.{enter, supply, takeBack, withdraw}
-use Rattle.book_rules.specs.History.{Held, Movement, Made, made, step, listOf, booked, answered, acceptedByRows}
-use Rattle.book_rules.specs.History.{accepted, listAnswered, movements, standing, hasLevels, computed, sizesFit}
-use Rattle.book_rules.specs.History.{standingRefusal, listRefusal, markOf, column, identityCell, markCell}
-use Rattle.book_rules.specs.History.{levelCells, rowsOf, emptyBook, howOften, inOrder, HistoryHolds}
+use Rattle.book_rules.specs.History.{Held, Movement, Made}
+use Rattle.book_rules.specs.History.{standing, hasLevels, computed, sizesFit}
+use Rattle.book_rules.specs.History.{standingRefusal, listRefusal, markOf, column, markCell}
+use Rattle.book_rules.specs.History.{levelCells, rowsOf}
 use Rattle.book_rules.specs.History.Held.{none, holds}
-use Rattle.book_rules.proofs.Shapes.{sound-fits}
-use Rattle.book_rules.proofs.Accepted.{identity-in, accepted-sound, after-refused, after-accepted}
-use Rattle.book_rules.proofs.Blocks.{Found, length-column}
+use Rattle.book_rules.proofs.{Shapes.sound-fits, Accepted.identity-in, Blocks.Found, Blocks.length-column}
 use Rattle.book_rules.proofs.Blocks.Found.{this, later}
-use Rattle.book_rules.proofs.Standing.{AllGood, Below, Rising, sized-levels, book-sound}
-use Rattle.book_rules.proofs.Steps.{ids, none-zeros, first-cons, first-unused, length-ids, stood-at, stepped}
+use Rattle.book_rules.proofs.Standing.{AllGood, Rising, sized-levels, book-sound}
+use Rattle.book_rules.proofs.Steps.{ids, none-zeros, first-cons, first-unused, length-ids, stood-at}
 
 -- One call is refused as the list of movements says
 

@@ -1,9 +1,7 @@
 -- Calls that are really made keep what the theorem on histories says. Assumes nothing.
-use mathlib.Core.Path.{_≡_, refl, ap, _∙_}
-use mathlib.Core.List.{List, _∷_}
+use mathlib.Core.{Path._≡_, Path.refl, Path.ap, Path._∙_, List.List, List._∷_}
 use Prim.Native.Nat.{ℕ}
-use Rattle.book_rules.specs.Columns.{Book}
-use Rattle.book_rules.specs.History.{Made, booked, answered, emptyBook}
+use Rattle.book_rules.specs.{Columns.Book, History.Made, History.booked, History.answered, History.emptyBook}
 use Rattle.book_rules.specs.Chain.{Chain, ChainHolds}
 use Rattle.book_rules.specs.Chain.Chain.{done, called}
 use Rattle.book_rules.proofs.History.{history}

@@ -1,32 +1,20 @@
 -- Demand 3 for the book: after any calls on an empty book, refused ones included, the columns are the rows of the list
 -- of movements that the accepted calls define, each call is answered as that list says, and the book stays sound. Assumes nothing.
 use mathlib.Core.Path.{_≡_, refl, sym, ap, subst, _∙_}
-use mathlib.Core.Bool.{Bool, true, false, cond, not, _&&_, _||_, true≢false}
-use mathlib.Core.List.{List, [], _∷_}
-use Prim.Native.Nat.{ℕ, zero, suc, _+_, _*_, _-_, _/_, _≤_, _<_}
-use native.Mathlib.Nat.{mul-one, le-of-eq, mul-div-cancel-left}
-use native.Mathlib.Omega.{arith}
-use lib.ListN.{length, replicate, length-replicate, getD}
-use lib.Dec.{eqb, leb, ltb, leb·suc-suc}
-use borrow.Author.Tests.{lt-ltb, le-ltb, eq-eqb, ne-eqb, eqb-true, eqb-false}
-use Rattle.refusal.specs.Refuse.{refuse}
-use Rattle.movement.specs.Rules.{movementRefusal, identityFits, levelsFit}
-use Rattle.book_rules.specs.Columns.{Book, firstAt, indexOf, stands, sound}
-use Rattle.book_rules.specs.Calls.{Call, refusedOr, enterRefusal, supplyRefusal, takeBackRefusal}
-use Rattle.book_rules.specs.Calls.{withdrawRefusal, soundRefusal, refusal, changed, after}
-use Rattle.book_rules.specs.Calls.Call.{enter, supply, takeBack, withdraw}
-use Rattle.book_rules.specs.History.{Held, Movement, Made, made, step, listOf, booked, answered, acceptedByRows}
-use Rattle.book_rules.specs.History.{accepted, listAnswered, movements, standing, hasLevels, computed, sizesFit}
-use Rattle.book_rules.specs.History.{standingRefusal, listRefusal, markOf, column, identityCell, markCell}
-use Rattle.book_rules.specs.History.{levelCells, rowsOf, emptyBook, howOften, inOrder, HistoryHolds}
-use Rattle.book_rules.specs.History.Held.{none, holds}
-use Rattle.book_rules.proofs.Shapes.{sound-fits}
-use Rattle.book_rules.proofs.Accepted.{identity-in, accepted-sound, after-refused, after-accepted}
-use Rattle.book_rules.proofs.Blocks.{Found, length-column}
-use Rattle.book_rules.proofs.Blocks.Found.{this, later}
-use Rattle.book_rules.proofs.Standing.{AllGood, Below, Rising, sized-levels, book-sound}
-use Rattle.book_rules.proofs.Steps.{ids, none-zeros, first-cons, first-unused, length-ids, stood-at, stepped}
-use Rattle.book_rules.proofs.ByList.{points-same, refusal-by-list}
+use mathlib.Core.{Bool.Bool, Bool.true, Bool.false, Bool.cond, Bool._||_, List.List, List.[], List._∷_}
+use Prim.Native.Nat.{ℕ, zero, suc, _+_, _*_, _-_, _≤_}
+use native.Mathlib.{Nat.mul-one, Omega.arith}
+use lib.{ListN.length, ListN.replicate, Dec.eqb}
+use borrow.Author.Tests.{lt-ltb, ne-eqb, eqb-true, eqb-false}
+use Rattle.book_rules.specs.{Columns.Book, Columns.sound, Calls.Call}
+use Rattle.book_rules.specs.Calls.{soundRefusal, refusal, changed, after}
+use Rattle.book_rules.specs.History.{Movement, Made, step, listOf, booked, answered, acceptedByRows}
+use Rattle.book_rules.specs.History.{accepted, listAnswered, movements, standing, sizesFit}
+use Rattle.book_rules.specs.History.{listRefusal, column}
+use Rattle.book_rules.specs.History.{rowsOf, emptyBook, howOften, inOrder, HistoryHolds}
+use Rattle.book_rules.proofs.Accepted.{accepted-sound, after-refused, after-accepted}
+use Rattle.book_rules.proofs.Standing.{AllGood, Below, Rising, book-sound}
+use Rattle.book_rules.proofs.{Steps.ids, Steps.stepped, ByList.points-same, ByList.refusal-by-list}
 
 -- Any calls
 

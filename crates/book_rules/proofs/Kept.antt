@@ -1,6 +1,5 @@
 -- A call keeps a sound book sound: what allows a caller of many calls to check once. Assumes nothing.
-use mathlib.Core.Path.{_≡_, refl, sym, ap, subst, _∙_}
-use mathlib.Core.Bool.{Bool, true, false}
+use mathlib.Core.{Path._≡_, Path.refl, Path.sym, Path.ap, Path.subst, Path._∙_, Bool.Bool, Bool.true, Bool.false}
 use Prim.Native.Nat.{ℕ}
 use lib.Dec.{eqb}
 use borrow.Author.Tests.{eqb-true, eqb-false}
@@ -8,9 +7,7 @@ use Rattle.book_rules.specs.Columns.{Book, bookOf, sound}
 use Rattle.book_rules.specs.Calls.{Call, Called, soundRefusal, refusal, changed, after}
 use Rattle.book_rules.specs.History.{rowsOf, sizesFit}
 use Rattle.book_rules.proofs.Accepted.{accepted-sound, after-refused, after-accepted}
-use Rattle.book_rules.proofs.Standing.{book-sound}
-use Rattle.book_rules.proofs.Reading.{Read, book-read}
-use Rattle.book_rules.proofs.Steps.{stepped}
+use Rattle.book_rules.proofs.{Standing.book-sound, Reading.Read, Reading.book-read, Steps.stepped}
 
 pub read-rows : {p : ℕ} {b : Book} (r : Read p (b .identities) (b .groups) (b .marks) (b .levels))
     → b ≡ rowsOf p (r .unused) (r .list)

@@ -1,13 +1,10 @@
 -- How a list of movements is found, by look-up: as the rows that it makes, and after each change of it. Assumes
 -- nothing.
-use mathlib.Core.Path.{_≡_, refl, sym, ap, subst, _∙_}
-use mathlib.Core.Bool.{cond}
+use mathlib.Core.{Path._≡_, Path.refl, Path.sym, Path.ap, Path.subst, Path._∙_, Bool.cond}
 use mathlib.Core.List.{List, [], _∷_}
 use Prim.Native.Nat.{ℕ, zero, suc, _*_, _≤_}
 use native.Mathlib.Omega.{arith}
-use lib.ListN.{drop, replicate}
-use lib.Seq.{take-at, drop-at}
-use lib.Dec.{eqb}
+use lib.{ListN.drop, ListN.replicate, Seq.take-at, Seq.drop-at, Dec.eqb}
 use borrow.Author.Tests.{eq-eqb, ne-eqb}
 use Rattle.book_rules.specs.History.{Held, Movement, movement, added, holding, without, markOf, levelsOf}
 use Rattle.book_rules.specs.History.{column, identityCell, groupCell, markCell, levelCells, rowsOf}
@@ -16,8 +13,7 @@ use Rattle.book_rules.specs.Lookup.{Row, foundFrom, found, groupFound, r
 use Rattle.book_rules.specs.Lookup.Row.{nowhere, row}
 use Rattle.book_rules.proofs.Blocks.{Place, Found, added-last, added-here, added-there, without-this}
 use Rattle.book_rules.proofs.Blocks.{without-later, holding-this, holding-later}
-use Rattle.book_rules.proofs.Blocks.Place.{last, here, there}
-use Rattle.book_rules.proofs.Blocks.Found.{this, later}
+use Rattle.book_rules.proofs.Blocks.{Place.last, Place.here, Place.there, Found.this, Found.later}
 use Rattle.book_rules.proofs.Standing.{AllGood, Below, Rising}
 
 -- The rows of a list of movements are found as the list says

@@ -1,17 +1,13 @@
 -- What each accepted call does, by look-up. Assumes nothing.
-use mathlib.Core.Path.{_≡_, refl, sym, ap, subst, _∙_}
-use mathlib.Core.Bool.{true, false}
-use mathlib.Core.Logic.{⊎-elim}
-use mathlib.Core.List.{List}
+use mathlib.Core.{Path._≡_, Path.refl, Path.sym, Path.ap, Path.subst, Path._∙_, Bool.true, Bool.false}
+use mathlib.Core.{Logic.⊎-elim, List.List}
 use Prim.Native.Nat.{ℕ, suc, _+_, _*_, _≤_, _<_}
 use native.Mathlib.Omega.{arith}
-use lib.ListN.{length, take, getD}
-use lib.Dec.{eqb}
+use lib.{ListN.length, ListN.getD, Dec.eqb}
 use borrow.Author.Tests.{eqb-true, lt-ltb, le-ltb, not-true}
 use Rattle.movement.specs.Period.{dayFrom, eveningFrom, nightFrom, periodOf, periodNumber}
-use Rattle.movement.specs.Group.{groupOf}
+use Rattle.movement.specs.{Group.groupOf, Rules.identityFits}
 use Rattle.movement.proofs.Numbers.{group-of}
-use Rattle.movement.specs.Rules.{identityFits}
 use Rattle.refusal.proofs.Laws.{refuse-none}
 use Rattle.book_rules.specs.Columns.{Book, indexOf, stands, sound}
 use Rattle.book_rules.specs.Calls.{Call, Called, takeBackRefusal, soundRefusal, refusal, changed}
@@ -21,16 +17,13 @@ use Rattle.book_rules.specs.History.Held.{none, holds}
 use Rattle.book_rules.specs.Reasons.{Full}
 use Rattle.book_rules.specs.Lookup.{Row, found, groupFound, bare, rowHeld, listed, KeepsOthers, Enters}
 use Rattle.book_rules.specs.Lookup.{Supplies, TakesBack, Withdraws, Does}
-use Rattle.book_rules.specs.Lookup.Row.{nowhere, row}
-use Rattle.book_rules.proofs.Blocks.{Found}
+use Rattle.book_rules.specs.Lookup.Row.{nowhere}
+use Rattle.book_rules.proofs.{Blocks.Found, Standing.AllGood, Standing.Rising, Standing.length-without}
 use Rattle.book_rules.proofs.Blocks.Place.{there}
-use Rattle.book_rules.proofs.Standing.{AllGood, Rising, length-without}
 use Rattle.book_rules.proofs.Accepted.{entered, supplied, taken-back, withdrawn, identity-in, fields-in}
-use Rattle.book_rules.proofs.Accepted.{accepted-sound, after-accepted}
-use Rattle.book_rules.proofs.Reading.{book-read}
+use Rattle.book_rules.proofs.{Accepted.accepted-sound, Accepted.after-accepted, Reading.book-read}
 use Rattle.book_rules.proofs.Steps.{ids, Stepped, stepped, place-at, stood-at, length-ids, first-unused}
-use Rattle.book_rules.proofs.Kept.{read-rows, called-sound}
-use Rattle.book_rules.proofs.SoundBook.{sound-exactly}
+use Rattle.book_rules.proofs.{Kept.read-rows, Kept.called-sound, SoundBook.sound-exactly}
 use Rattle.book_rules.proofs.Search.{index-is, stands-index}
 use Rattle.book_rules.proofs.Order.{not-standing, standing-found, mark-found, refusal-order}
 use Rattle.book_rules.proofs.Listed.{rows-found, added-found, added-other, holding-found, holding-other}

@@ -1,29 +1,22 @@
 -- Each call is answered in the order of the rules, each number exactly for its reason. Assumes nothing.
 use mathlib.Core.Path.{_≡_, refl, sym, ap, _∙_}
 use mathlib.Core.Bool.{Bool, true, false, cond, not, _&&_, true≢false}
-use mathlib.Core.Logic.{inl, inr, ⊎-elim}
-use mathlib.Core.List.{List, [], _∷_}
+use mathlib.Core.{Logic.inl, Logic.inr, Logic.⊎-elim, List.List, List.[], List._∷_}
 use Prim.Native.Nat.{ℕ, zero, suc, _+_, _≤_, _<_}
-use native.Mathlib.Nat.{not-suc-le-zero}
-use native.Mathlib.Omega.{arith}
-use lib.ListN.{length, take, drop, getD}
-use lib.Seq.{getD-drop}
-use lib.Dec.{eqb, leb, ltb, leb·suc-suc}
+use native.Mathlib.{Nat.not-suc-le-zero, Omega.arith}
+use lib.{ListN.length, ListN.take, ListN.drop, ListN.getD, Seq.getD-drop, Dec.eqb, Dec.leb, Dec.ltb, Dec.leb·suc-suc}
 use borrow.Author.Tests.{ltb-true, ltb-false, leb-true, leb-false, eqb-true, eqb-false, le-leb, lt-ltb, eq-eqb, ne-eqb}
 use Rattle.refusal.specs.Refuse.{refuse}
-use Rattle.refusal.specs.Range.{allWithin}
-use Rattle.refusal.proofs.Laws.{and-left, and-right}
-use Rattle.refusal.proofs.Ranges.{within-at, within-each}
+use Rattle.refusal.proofs.{Laws.and-left, Laws.and-right, Ranges.within-at, Ranges.within-each}
 use Rattle.movement.specs.Limits.{typeCount, kindCount, secondsADay, maxMass, massNotCounted, maxIdentity, maxLevel}
 use Rattle.movement.specs.Aircraft.{aircraftNumbered, massFits}
 use Rattle.movement.specs.Rules.{fieldsFit, counts, movementRefusal, identityFits, levelsFit}
 use Rattle.book_rules.specs.Columns.{Book, firstAt, indexOf, stands, sound}
-use Rattle.book_rules.specs.Calls.{Call, Called, refusedOr, enterRefusal, supplyRefusal, takeBackRefusal}
+use Rattle.book_rules.specs.Calls.{Call, refusedOr, enterRefusal, supplyRefusal, takeBackRefusal}
 use Rattle.book_rules.specs.Calls.{withdrawRefusal, soundRefusal, refusal}
 use Rattle.book_rules.specs.Calls.Call.{enter, supply, takeBack, withdraw}
 use Rattle.book_rules.specs.Reasons.{Fields, Levels, NoIdentity, Full}
-use Rattle.book_rules.specs.SoundBook.{SoundBook}
-use Rattle.book_rules.specs.Lookup.{Row, foundFrom, found, markFound}
+use Rattle.book_rules.specs.{SoundBook.SoundBook, Lookup.Row, Lookup.foundFrom, Lookup.found, Lookup.markFound}
 use Rattle.book_rules.specs.Lookup.Row.{nowhere, row}
 use Rattle.book_rules.specs.Order.{Given, InOrder}
 use Rattle.book_rules.proofs.Search.{index-is, index-before, stands-index}

@@ -1,32 +1,22 @@
 -- Every outcome that a call's contract allows means what the rules say. Assumes nothing.
-use mathlib.Core.Path.{_≡_, refl, sym, ap, subst, _∙_}
-use mathlib.Core.Bool.{Bool, true, false}
+use mathlib.Core.{Path._≡_, Path.refl, Path.sym, Path.ap, Path.subst, Path._∙_, Bool.Bool, Bool.true, Bool.false}
 use mathlib.Core.List.{List, [], _∷_}
 use Prim.Native.Nat.{ℕ, _≤_, _<_}
 use native.Mathlib.Omega.{arith}
-use lib.ListN.{length, length-replicate}
-use lib.Dec.{eqb, ltb}
+use lib.{ListN.length, ListN.length-replicate, Dec.eqb, Dec.ltb}
 use borrow.Author.Tests.{le-leb, ltb-true, ltb-false, eqb-true, eqb-false}
 use Rattle.movement.specs.Limits.{maxPoints, maxRows}
-use Rattle.book_rules.specs.Columns.{Book}
-use Rattle.book_rules.specs.Calls.{Call, Called, refusal}
+use Rattle.book_rules.specs.{Columns.Book, Calls.Call, Calls.Called}
 use Rattle.book_rules.specs.History.{Held, Movement, movement, Made, movements, booked, emptyBook, rowsOf}
-use Rattle.book_rules.specs.History.{sizesFit}
+use Rattle.book_rules.specs.{History.sizesFit, Lookup.found, Lookup.rowHeld, Lookup.listed, Order.InOrder}
 use Rattle.book_rules.specs.History.Held.{none, holds}
-use Rattle.book_rules.specs.Lookup.{found, rowHeld, listed}
 use Rattle.book_rules.specs.Lookup.Row.{nowhere}
-use Rattle.book_rules.specs.Order.{InOrder}
 use Rattle.book_rules.specs.Outcome.{CallHolds, FoundListed, EmptyHolds, FoundAlike}
-use Rattle.book_rules.proofs.Accepted.{after-refused}
-use Rattle.book_rules.proofs.Standing.{AllGood, Below, Rising}
-use Rattle.book_rules.proofs.Reading.{book-read}
-use Rattle.book_rules.proofs.Kept.{read-rows}
-use Rattle.book_rules.proofs.History.{told-all, history-sound}
-use Rattle.book_rules.proofs.SoundBook.{sound-exactly}
-use Rattle.book_rules.proofs.Order.{refusal-order}
+use Rattle.book_rules.proofs.{Accepted.after-refused, Standing.AllGood, Standing.Below, Standing.Rising}
+use Rattle.book_rules.proofs.{Reading.book-read, Kept.read-rows, History.told-all, History.history-sound}
+use Rattle.book_rules.proofs.{SoundBook.sound-exactly, Order.refusal-order}
 use Rattle.book_rules.proofs.Listed.{none-found, rows-found, listed-none, listed-this, listed-later}
-use Rattle.book_rules.proofs.Listed.{below-none}
-use Rattle.book_rules.proofs.Lookup.{call-does}
+use Rattle.book_rules.proofs.{Listed.below-none, Lookup.call-does}
 
 pub call-holds : {p r : ℕ} {b b′ : Book} {c : Call} → Called p b c r b′ → CallHolds p b c r b′
 call-holds {p} {r} {b} {b′} {c} k =

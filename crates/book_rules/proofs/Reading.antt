@@ -3,12 +3,9 @@ use mathlib.Core.Path.{_≡_, refl, sym, ap, subst, _∙_}
 use mathlib.Core.Bool.{Bool, true, false, cond, _&&_, _||_, true≢false}
 use mathlib.Core.List.{List, [], _∷_, _++_}
 use Prim.Native.Nat.{ℕ, zero, suc, _+_, _*_, _≤_}
-use native.Mathlib.Nat.{mul-one, suc-mul, zero-mul}
-use native.Mathlib.Omega.{arith}
+use native.Mathlib.{Nat.mul-one, Nat.suc-mul, Nat.zero-mul, Omega.arith}
 use lib.ListN.{length, take, drop, replicate, length-drop, length-replicate, take-append-drop}
-use lib.ListN.{replicate-append-replicate}
-use lib.Seq.{length-take-le}
-use lib.Dec.{eqb, leb, ltb}
+use lib.{ListN.replicate-append-replicate, Seq.length-take-le, Dec.eqb, Dec.leb, Dec.ltb}
 use borrow.Author.Tests.{leb-true, ltb-true, eqb-true, eqb-false, ne-eqb}
 use Rattle.refusal.specs.Range.{allWithin}
 use Rattle.refusal.proofs.Laws.{and-left, and-right, nil-of}
@@ -57,9 +54,7 @@ follows-zero x e = by (eqb x 0) refl e
 -- the levels of the first row, and those of the others
 first-levels : (p n : ℕ) (ls : List ℕ) → length ls ≡ suc n * p
     → (length (take p ls) ≡ p) × (length (drop p ls) ≡ n * p)
-first-levels p n ls h =
-    let s = suc-mul n p in
-    (length-take-le p ls (omega arith), omega (arith, length-drop p ls))
+first-levels p n ls h = let s = suc-mul n p in (length-take-le p ls (omega arith), omega (arith, length-drop p ls))
 
 -- after an unused row come only unused ones
 zero-rows : (p : ℕ) (xs gs ms ls : List ℕ) → rising (0 ∷ xs) ≡ true → rowsSound p xs gs ms ls ≡ true

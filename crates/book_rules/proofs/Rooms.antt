@@ -1,29 +1,21 @@
 -- What a sound book says of its rows where one goes in, goes out or is changed: where the zeros of unused rows begin,
 -- and that all fits. Assumes nothing.
-use mathlib.Core.Path.{_≡_, refl, sym, ap, subst, _∙_}
-use mathlib.Core.Bool.{true, false}
+use mathlib.Core.{Path._≡_, Path.refl, Path.sym, Path.ap, Path.subst, Path._∙_, Bool.true, Bool.false}
 use mathlib.Core.List.{List, [], _∷_, _++_}
 use Prim.Native.Nat.{ℕ, suc, _+_, _*_, _-_, _≤_, _<_}
-use native.Mathlib.Nat.{mul-one, one-mul, zero-mul, suc-mul, add-mul}
-use native.Mathlib.Omega.{arith}
-use mir.Syntax.{w64}
-use mir.Val.{Fits}
-use lib.ListN.{length, drop, replicate}
-use lib.Seq.{drop-append-add}
+use native.Mathlib.{Nat.mul-one, Nat.one-mul, Nat.zero-mul, Nat.suc-mul, Nat.add-mul, Omega.arith}
+use mir.{Syntax.w64, Val.Fits}
+use lib.{ListN.length, ListN.drop, ListN.replicate, Seq.drop-append-add}
 use borrow.Author.Tests.{lt-leb, ne-eqb}
 use Rattle.movement.specs.Limits.{maxIdentity}
-use Rattle.movement.specs.Rules.{identityFits}
 use Rattle.book_rules.specs.Columns.{Book, indexOf, placeOf, sound}
 use Rattle.book_rules.specs.History.{Movement, markOf, column, identityCell, groupCell, markCell, levelCells}
 use Rattle.book_rules.specs.InnerRows.{ZeroFrom, RowsTo}
 use Rattle.book_rules.proofs.Scans.{room, product-fits}
 use Rattle.book_rules.proofs.Search.{reached, place-after, place-last, place-index, index-is, stands-index}
 use Rattle.book_rules.proofs.Shapes.{sound-fits, sound-rises, sound-identities}
-use Rattle.book_rules.proofs.Accepted.{Stood, identity-in}
-use Rattle.book_rules.proofs.Blocks.{Sized, length-column}
-use Rattle.book_rules.proofs.Standing.{sized-one, sized-levels}
-use Rattle.book_rules.proofs.Reading.{book-read}
-use Rattle.book_rules.proofs.Steps.{first-unused}
+use Rattle.book_rules.proofs.{Accepted.Stood, Accepted.identity-in, Blocks.Sized, Blocks.length-column}
+use Rattle.book_rules.proofs.{Standing.sized-one, Standing.sized-levels, Reading.book-read, Steps.first-unused}
 
 -- The zeros of a sound book's unused rows
 
@@ -161,10 +153,4 @@ row-of {p} {x} {at} {b} s w e =
     let last = place-last maxIdentity xs (sound-identities p b s) in
     let l = room p at (at * p) (length xs) (length (b .levels)) refl (omega arith) (f .levels=) in
     let m = product-fits at p (omega (arith, f .rows≤)) (f .points) in
-    record {
-      index = same;
-      marks< = omega (arith, f .marks=);
-      levels< = l;
-      fits = m;
-      used = omega arith;
-    }
+    record { index = same; marks< = omega (arith, f .marks=); levels< = l; fits = m; used = omega arith }

@@ -1,16 +1,10 @@
 -- What a sound book says of one row and of one level: what a loop over the rows, as that of a load, needs at each
 -- index. Assumes nothing.
-use mathlib.Core.Path.{_≡_, refl}
-use mathlib.Core.Bool.{Bool, true, false, cond}
-use mathlib.Core.List.{List, [], _∷_}
+use mathlib.Core.{Path._≡_, Bool.Bool, Bool.true, Bool.false, Bool.cond, List.List, List.[], List._∷_}
 use Prim.Native.Nat.{ℕ, zero, suc, _+_, _*_, _≤_, _<_}
-use native.Mathlib.Nat.{zero-mul, suc-mul, le-of-suc-le-suc, not-suc-le-zero}
-use native.Mathlib.Omega.{arith}
-use lib.ListN.{length, take, drop, getD}
-use lib.Seq.{getD-take, getD-drop, drop-drop}
-use lib.Dec.{eqb}
-use Rattle.refusal.proofs.Laws.{and-left, and-right}
-use Rattle.refusal.proofs.Ranges.{within-at}
+use native.Mathlib.{Nat.zero-mul, Nat.suc-mul, Nat.le-of-suc-le-suc, Nat.not-suc-le-zero, Omega.arith}
+use lib.{ListN.length, ListN.take, ListN.drop, ListN.getD, Seq.getD-take, Seq.getD-drop, Seq.drop-drop, Dec.eqb}
+use Rattle.refusal.proofs.{Laws.and-left, Laws.and-right, Ranges.within-at}
 use Rattle.movement.specs.Limits.{maxIdentity, maxLevel, groupCount}
 use Rattle.book_rules.specs.Columns.{Book, sound, headSound, topLevel, rowSound, rowsSound}
 use Rattle.book_rules.proofs.Shapes.{sound-fits, sound-rows, head-bounds}

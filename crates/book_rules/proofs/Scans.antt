@@ -1,16 +1,11 @@
 -- Laws for the loops that read a column from its front: what the whole says, said of what is still to be read. Assumes
 -- nothing.
-use mathlib.Core.Path.{_≡_, refl, sym, ap, _∙_}
-use mathlib.Core.Bool.{Bool, true, false, _&&_}
+use mathlib.Core.{Path._≡_, Path.refl, Path.sym, Path.ap, Path._∙_, Bool.Bool, Bool.true, Bool.false, Bool._&&_}
 use mathlib.Core.List.{List, [], _∷_}
 use Prim.Native.Nat.{ℕ, _+_, _-_, _*_, _≤_, _<_}
-use native.Mathlib.Nat.{mul-le-mul, mul-le-mul-right, suc-mul}
-use native.Mathlib.Numerals.{add-one}
-use native.Mathlib.Omega.{arith}
-use lib.ListN.{length, take, drop, getD, drop-of-length-le, length-drop}
-use lib.Seq.{drop-drop}
-use mir.Syntax.{w64}
-use mir.Val.{Fits}
+use native.Mathlib.{Nat.mul-le-mul, Nat.mul-le-mul-right, Nat.suc-mul, Numerals.add-one, Omega.arith}
+use lib.{ListN.length, ListN.take, ListN.drop, ListN.getD, ListN.drop-of-length-le, ListN.length-drop, Seq.drop-drop}
+use mir.{Syntax.w64, Val.Fits}
 use Rattle.refusal.proofs.Ranges.{drop-more}
 use Rattle.movement.specs.Limits.{maxRows, maxPoints}
 use Rattle.book_rules.specs.Columns.{follows, followed, rising, rowSound, rowsSound}

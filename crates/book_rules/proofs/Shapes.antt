@@ -1,12 +1,10 @@
 -- What a book that passed the test of soundness says of its columns: their lengths, their order and their identities.
 -- Assumes nothing.
-use mathlib.Core.Path.{_≡_, refl}
-use mathlib.Core.Bool.{Bool, true, false, cond, _&&_}
+use mathlib.Core.{Path._≡_, Path.refl, Bool.Bool, Bool.true, Bool.false, Bool.cond, Bool._&&_}
 use mathlib.Core.List.{List, [], _∷_}
 use Prim.Native.Nat.{ℕ, _*_, _≤_, _<_}
 use native.Mathlib.Omega.{arith}
-use lib.ListN.{length, take, drop}
-use lib.Dec.{eqb, leb, ltb}
+use lib.{ListN.length, ListN.take, ListN.drop, Dec.eqb, Dec.leb, Dec.ltb}
 use borrow.Author.Tests.{leb-true, ltb-true, eqb-true, le-leb}
 use Rattle.refusal.specs.Range.{allWithin}
 use Rattle.refusal.proofs.Laws.{and-left, and-right}

@@ -1,25 +1,19 @@
 -- The test of soundness passes exactly the books that are sound in the rules' words. Assumes nothing.
-use mathlib.Core.Path.{_≡_, refl, sym, ap, subst, _∙_}
-use mathlib.Core.Bool.{Bool, true, false, cond, _&&_, _||_, true≢false}
-use mathlib.Core.Logic.{inl, inr}
+use mathlib.Core.Path.{_≡_, refl, subst, _∙_}
+use mathlib.Core.{Bool.Bool, Bool.true, Bool.false, Bool.cond, Bool._&&_, Bool._||_, Logic.inl, Logic.inr}
 use mathlib.Core.List.{List, [], _∷_}
 use Prim.Native.Nat.{ℕ, zero, suc, _+_, _*_, _≤_, _<_}
-use native.Mathlib.Nat.{zero-mul, suc-mul, le-of-suc-le-suc, not-suc-le-zero}
-use native.Mathlib.Omega.{arith}
+use native.Mathlib.{Nat.zero-mul, Nat.suc-mul, Nat.le-of-suc-le-suc, Nat.not-suc-le-zero, Omega.arith}
 use lib.ListN.{length, take, drop, getD, length-drop}
-use lib.Seq.{getD-take, getD-drop, drop-drop, length-take-le}
-use lib.Dec.{eqb, leb, ltb}
-use borrow.Author.Tests.{ltb-true, eqb-true, eqb-false, le-leb, lt-ltb, eq-eqb, ne-eqb}
+use lib.{Seq.getD-take, Seq.getD-drop, Seq.drop-drop, Seq.length-take-le, Dec.eqb, Dec.leb, Dec.ltb}
+use borrow.Author.Tests.{ltb-true, eqb-true, le-leb, lt-ltb, eq-eqb, ne-eqb}
 use Rattle.refusal.specs.Range.{allWithin}
-use Rattle.refusal.proofs.Laws.{and-left, and-right}
-use Rattle.refusal.proofs.Ranges.{within-at, within-each}
+use Rattle.refusal.proofs.{Laws.and-left, Laws.and-right, Ranges.within-at, Ranges.within-each}
 use Rattle.movement.specs.Limits.{maxRows, maxPoints, maxIdentity, maxLevel, groupCount}
 use Rattle.book_rules.specs.Columns.{Book, shapeFits, shaped, follows, followed, rising, headSound, topLevel}
-use Rattle.book_rules.specs.Columns.{rowSound, rowsSound, sound}
-use Rattle.book_rules.specs.Calls.{Call, refusal}
+use Rattle.book_rules.specs.{Columns.rowSound, Columns.rowsSound, Columns.sound, Calls.Call, Calls.refusal}
 use Rattle.book_rules.specs.SoundBook.{SoundRow, Later, SoundBook, SoundExactly, SizesRefused}
-use Rattle.book_rules.proofs.Scans.{room}
-use Rattle.book_rules.proofs.Shapes.{sound-fits, sound-rises, sound-rows}
+use Rattle.book_rules.proofs.{Scans.room, Shapes.sound-fits, Shapes.sound-rises, Shapes.sound-rows}
 use Rattle.book_rules.proofs.RowFacts.{row-at, row-facts}
 
 -- Rising identities, by pairs of rows

@@ -1,26 +1,22 @@
 -- Movements that stand: each in range, in rising identity. What each change keeps of that, and that their book is
 -- sound. Assumes nothing.
 use mathlib.Core.Path.{_≡_, refl, sym, ap, subst, _∙_}
-use mathlib.Core.Bool.{true, and-true, or-true}
-use mathlib.Core.List.{List, [], _∷_, _++_}
+use mathlib.Core.{Bool.true, Bool.and-true, Bool.or-true, List.List, List.[], List._∷_, List._++_}
 use Prim.Native.Nat.{ℕ, zero, suc, _+_, _*_, _≤_, _<_}
-use native.Mathlib.Nat.{mul-one, suc-mul}
-use native.Mathlib.Omega.{arith}
+use native.Mathlib.{Nat.mul-one, Nat.suc-mul, Omega.arith}
 use lib.ListN.{length, replicate, length-replicate, replicate-append-replicate}
-use lib.Seq.{take-at, drop-at}
-use lib.Dec.{leb}
+use lib.{Seq.take-at, Seq.drop-at, Dec.leb}
 use borrow.Author.Tests.{le-leb, lt-ltb, eq-eqb, ne-eqb}
 use Rattle.refusal.specs.Range.{allWithin}
 use Rattle.movement.specs.Limits.{maxIdentity, groupCount}
 use Rattle.book_rules.specs.Columns.{sound, shaped, shapeFits, rising, followed, follows, headSound, topLevel}
 use Rattle.book_rules.specs.Columns.{rowSound, rowsSound}
-use Rattle.book_rules.specs.History.{Held, Movement, movement, added, holding, without, markOf, levelsOf}
+use Rattle.book_rules.specs.History.{Held, Movement, added, holding, without, markOf, levelsOf}
 use Rattle.book_rules.specs.History.{column, identityCell, groupCell, markCell, levelCells, rowsOf, sizesFit}
 use Rattle.book_rules.specs.History.Held.{none, holds}
 use Rattle.book_rules.proofs.Blocks.{Place, Found, Sized, length-column, added-last, added-here, added-there}
 use Rattle.book_rules.proofs.Blocks.{without-this, without-later, holding-this, holding-later}
-use Rattle.book_rules.proofs.Blocks.Place.{last, here, there}
-use Rattle.book_rules.proofs.Blocks.Found.{this, later}
+use Rattle.book_rules.proofs.Blocks.{Place.last, Place.here, Place.there, Found.this, Found.later}
 
 -- levels for every point, in range; none counts as zeros
 pub record Filled (p : ℕ) (h : Held) : Type 0 where

@@ -1,23 +1,16 @@
 -- One accepted call: the book's change is the change of the list of movements, and the movements still stand. Assumes
 -- nothing.
 use mathlib.Core.Path.{_≡_, refl, sym, ap, subst, _∙_}
-use mathlib.Core.Bool.{Bool, true, false, cond, not, _||_}
-use mathlib.Core.List.{List, [], _∷_}
+use mathlib.Core.{Bool.Bool, Bool.true, Bool.false, Bool.cond, Bool.not, Bool._||_, List.List, List.[], List._∷_}
 use Prim.Native.Nat.{ℕ, zero, suc, _+_, _*_, _≤_, _<_}
-use native.Mathlib.Nat.{mul-one}
-use native.Mathlib.Omega.{arith}
-use lib.ListN.{length, replicate, length-replicate}
-use lib.Dec.{eqb, leb}
+use native.Mathlib.{Nat.mul-one, Omega.arith}
+use lib.{ListN.length, ListN.replicate, ListN.length-replicate, Dec.eqb, Dec.leb}
 use borrow.Author.Tests.{ne-eqb, leb-true, leb-false, ltb-true, ltb-false, eqb-true, eqb-false, not-true}
 use Rattle.refusal.proofs.Laws.{and-right}
-use Rattle.movement.specs.Limits.{groupCount}
-use Rattle.movement.specs.Aircraft.{aircraftNumbered}
-use Rattle.movement.specs.Kind.{kindNumbered}
-use Rattle.movement.specs.Period.{periodOf}
-use Rattle.movement.specs.Group.{groupOf}
-use Rattle.movement.specs.Rules.{identityFits, levelsFit}
+use Rattle.movement.specs.{Limits.groupCount, Aircraft.aircraftNumbered, Kind.kindNumbered, Period.periodOf}
+use Rattle.movement.specs.{Group.groupOf, Rules.identityFits, Rules.levelsFit}
 use Rattle.movement.proofs.Numbers.{group-below}
-use Rattle.book_rules.specs.Columns.{Book, bookOf, firstAt, indexOf, placeOf, stands, topLevel}
+use Rattle.book_rules.specs.Columns.{bookOf, firstAt, indexOf, placeOf, stands, topLevel}
 use Rattle.book_rules.specs.Calls.{Call, enterRefusal, withdrawRefusal, soundRefusal, changed, rowIn, rowOut}
 use Rattle.book_rules.specs.Calls.{rowMarked}
 use Rattle.book_rules.specs.Calls.Call.{enter, supply, takeBack, withdraw}
@@ -27,8 +20,7 @@ use Rattle.book_rules.specs.History.Held.{none, holds}
 use Rattle.book_rules.proofs.Accepted.{entered, withdrawn, taken-back, supplied, identity-in, levels-length}
 use Rattle.book_rules.proofs.Blocks.{Place, Found, length-column, column-in, column-out, column-held}
 use Rattle.book_rules.proofs.Blocks.{column-kept}
-use Rattle.book_rules.proofs.Blocks.Place.{last, here, there}
-use Rattle.book_rules.proofs.Blocks.Found.{this, later}
+use Rattle.book_rules.proofs.Blocks.{Place.last, Place.here, Place.there, Found.this, Found.later}
 use Rattle.book_rules.proofs.Standing.{Filled, AllGood, Rising, New, good-added, length-added, rising-added}
 use Rattle.book_rules.proofs.Standing.{good-without, length-without, rising-without, good-holding}
 use Rattle.book_rules.proofs.Standing.{length-holding, rising-holding, sized-one, sized-levels, zeros-within}

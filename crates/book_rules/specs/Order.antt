@@ -5,7 +5,7 @@ use mathlib.Core.Path.{_≡_}
 use Rattle.book_rules.specs.Columns.{Book}
 use Rattle.book_rules.specs.Calls.{Call}
 use Rattle.book_rules.specs.Calls.Call.{enter, supply, takeBack, withdraw}
-use Rattle.book_rules.specs.Lookup.{Row, found, markFound}
+use Rattle.book_rules.specs.Lookup.{found, markFound}
 use Rattle.book_rules.specs.Lookup.Row.{nowhere}
 use Rattle.book_rules.specs.Reasons.{Fields, Levels, NoIdentity, Full}
 use Rattle.book_rules.specs.SoundBook.{SoundBook}

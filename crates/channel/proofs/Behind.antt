@@ -1,12 +1,8 @@
 -- Bytes that are read behind those that stand at the front of a buffer. Assumes nothing.
-use mathlib.Core.Path.{_≡_, sym, ap, subst, _∙_}
-use mathlib.Core.List.{List, _++_}
+use mathlib.Core.{Path._≡_, Path.sym, Path.ap, Path.subst, Path._∙_, List.List, List._++_, Bool.false}
 use Prim.Native.Nat.{ℕ, _+_, _≤_}
 use native.Mathlib.Omega.{arith}
-use mathlib.Core.Bool.{true, false}
-use lib.IntN.{ℤ, pos, negsuc}
-use lib.Signed.{ltZ}
-use lib.ListN.{length, take, length-append}
+use lib.{IntN.ℤ, IntN.pos, IntN.negsuc, Signed.ltZ, ListN.length, ListN.take, ListN.length-append}
 use Rattle.libc.specs.Io.{Moved}
 use Rattle.io.specs.Counts.{clamped}
 use lib.Seq.{take-append-add, take-append-le, length-take-le}
@@ -29,12 +25,7 @@ pub behind-fits : (n m k : ℕ) (xs ys : List ℕ) → n ≤ length xs → k ≤
     → n + k ≤ length (putMid n m xs ys)
 behind-fits n m k xs ys h f =
     let rest = ys ++ postOf n m xs in
-    omega (
-      arith,
-      length-append (take n xs) rest,
-      length-append ys (postOf n m xs),
-      length-take-le n xs h,
-    )
+    omega (arith, length-append (take n xs) rest, length-append ys (postOf n m xs), length-take-le n xs h)
 
 -- a read that answered no less than 0 answered the bytes that are counted
 pub answered-count : (z : ℤ) (room n : ℕ) → ltZ z (pos 0) ≡ false → n ≡ clamped z room → Moved room z

@@ -1,5 +1,5 @@
 -- The arguments of the program. Assumes nothing.
-use Prim.Native.Nat.{ℕ, _≤_}
+use Prim.Native.Nat.{ℕ}
 use mathlib.Core.List.{List}
 use lib.ListN.{length, take}
 use Rattle.io.specs.Counts.{Counts}

@@ -1,9 +1,7 @@
 -- Laws on lists: the loops that move values up, from the back, and down, from the front. Assumes nothing.
-use mathlib.Core.Path.{_≡_, sym, ap, _∙_}
-use mathlib.Core.List.{List, _++_}
+use mathlib.Core.{Path._≡_, Path.sym, Path.ap, Path._∙_, List.List, List._++_}
 use Prim.Native.Nat.{ℕ, zero, suc, _+_, _-_, _≤_, _<_}
-use native.Mathlib.Nat.{not-suc-le-zero, add-comm}
-use native.Mathlib.Omega.{arith}
+use native.Mathlib.{Nat.not-suc-le-zero, Nat.add-comm, Omega.arith}
 use lib.ListN.{length, take, drop, getD, set, List·getD-append, length-drop, length-append, take-append-drop}
 use lib.Seq.{take-suc, drop-cons, append-snoc, set-at, length-take-le, drop-at, getD-take, getD-drop, getD-append-add}
 use Rattle.room.proofs.Laws.{frontTo}

@@ -1,20 +1,17 @@
 -- Which edges are on the border, by their numbers: no contour enters at the others. Assumes nothing.
 use mathlib.Core.Path.{_≡_, refl, sym, ap, _∙_, subst}
-use mathlib.Core.Bool.{Bool, true, false, _||_, true≢false}
-use mathlib.Core.List.{List}
-use Prim.Native.Nat.{ℕ, _+_, _-_, _*_, _/_, _%_, _≤_, _<_}
+use mathlib.Core.{Bool.Bool, Bool.true, Bool.false, Bool._||_, Bool.true≢false, List.List}
+use Prim.Native.Nat.{ℕ, _+_, _-_, _*_, _/_, _≤_, _<_}
 use native.Mathlib.Nat.{add-zero, zero-mul, one-mul, add-mul, mul-le-mul, mul-le-mul-right, le-div-iff-mul-le}
-use native.Mathlib.Nat.{div-lt-iff-lt-mul}
-use native.Mathlib.Omega.{arith}
+use native.Mathlib.{Nat.div-lt-iff-lt-mul, Omega.arith}
 use borrow.Author.Tests.{ne-eqb, lt-ltb}
 use lib.Dec.{eqb}
-use Rattle.network.specs.declared.Edge.{Edge}
-use Rattle.network.specs.declared.Edge.the-variants.{Horizontal, Vertical}
-use Rattle.network.specs.Edges.{horizontals, edges, numberOf, edgeAt}
+use Rattle.network.specs.declared.Edge.the-variants.{Vertical}
+use Rattle.network.specs.Edges.{horizontals, edges, numberOf}
 use Rattle.network.proofs.Numbers.{at-number, number-lt}
 use Rattle.contour_rules.specs.Picture.{Picture}
 use Rattle.contour_rules.specs.Crossings.{onBorder, edgesIn, edgeOf, entersAt}
-use Rattle.contour_rules.specs.Contours.{waiting, swept, noneListed, allListed, crossedTo}
+use Rattle.contour_rules.specs.Contours.{swept, noneListed, allListed, crossedTo}
 use Rattle.contour_rules.proofs.Steps.{enters-border}
 use Rattle.contour.specs.InnerDesk.{Desk, desk, Holds, Room, Grows, Sweeps, tried}
 use Rattle.contour.proofs.Listings.{sweep-begins, sweep-goes-on, sweep-joins, sweep-skips, none-held}

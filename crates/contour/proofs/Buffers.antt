@@ -1,18 +1,12 @@
 -- Buffers filled from the front, one number at a time. Assumes nothing.
-use mathlib.Core.Path.{_≡_, refl, sym, ap, _∙_, subst}
-use mathlib.Core.Bool.{Bool, true, _&&_}
-use mathlib.Core.List.{List, _++_, append-assoc}
+use mathlib.Core.{Path._≡_, Path.refl, Bool.true, Bool._&&_, List.List, List._++_, List.append-assoc}
 use Prim.Native.Nat.{ℕ, suc, _+_, _-_, _≤_, _<_}
-use native.Mathlib.Numerals.{add-one}
-use native.Mathlib.Omega.{arith}
+use native.Mathlib.{Numerals.add-one, Omega.arith}
 use borrow.Author.Tests.{leb-true}
-use lib.Dec.{leb}
-use lib.ListN.{length, getD, take, drop, set}
+use lib.{Dec.leb, ListN.length, ListN.getD, ListN.take, ListN.drop, ListN.set}
 use lib.Seq.{drop-cons, take-suc, set-at, length-take-le}
 use Rattle.network.proofs.Refusals.{both}
-use Rattle.contour_rules.specs.Picture.{Picture}
-use Rattle.contour_rules.specs.Crossings.{crossedAt}
-use Rattle.contour_rules.specs.Contours.{bit, crossedTo}
+use Rattle.contour_rules.specs.{Picture.Picture, Crossings.crossedAt, Contours.bit, Contours.crossedTo}
 use Rattle.contour_rules.proofs.Waiting.{length-crossed}
 
 pub copy-more : (s d : List ℕ) (i : ℕ) → i < length s → i < length d

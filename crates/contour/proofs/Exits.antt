@@ -1,6 +1,5 @@
 -- The side by which a line leaves a square, from what the code finds of its two far corners. Assumes nothing.
-use mathlib.Core.Path.{_≡_, sym, ap, _∙_}
-use mathlib.Core.Bool.{Bool, true, false}
+use mathlib.Core.{Path._≡_, Path.sym, Path.ap, Path._∙_, Bool.Bool, Bool.true, Bool.false}
 use Rattle.contour_rules.specs.declared.Side.{Side}
 use Rattle.contour_rules.specs.Squares.{turn, exitSide}
 

@@ -1,12 +1,9 @@
 -- What was listed, handed out to the caller. Assumes nothing.
-use mathlib.Core.Path.{_≡_, refl, sym, ap, _∙_}
-use mathlib.Core.Bool.{true}
-use mathlib.Core.List.{List, [], _∷_}
+use mathlib.Core.{Path._≡_, Path.refl, Path.sym, Path.ap, Path._∙_, List.List, List.[], List._∷_}
 use Prim.Native.Nat.{ℕ, _≤_}
 use native.Mathlib.Omega.{arith}
 use borrow.Author.Tests.{le-leb}
-use lib.ListN.{length, take}
-use lib.Seq.{take-at}
+use lib.{ListN.length, ListN.take, Seq.take-at}
 use Rattle.room.specs.Room.{front}
 use Rattle.contour_rules.specs.Contours.{Contour, edgesOf, countsOf, closedOf}
 use Rattle.contour_rules.proofs.Sums.{length-counts, length-closed}

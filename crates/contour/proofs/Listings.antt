@@ -3,24 +3,20 @@ use mathlib.Core.Path.{_≡_, refl, sym, ap, _∙_, subst}
 use mathlib.Core.Bool.{Bool, true, false, _&&_, _||_, cond, and-false}
 use mathlib.Core.List.{List, [], _∷_, _++_}
 use Prim.Native.Nat.{ℕ, zero, suc, _+_, _-_, _≤_, _<_}
-use native.Mathlib.Numerals.{add-one}
-use native.Mathlib.Nat.{add-zero, add-suc}
-use native.Mathlib.Omega.{arith}
-use lib.ListN.{length, drop, set, length-set, length-append, length-drop}
-use lib.Dec.{ltb}
+use native.Mathlib.{Numerals.add-one, Nat.add-zero, Nat.add-suc, Omega.arith}
+use lib.{ListN.length, ListN.drop, ListN.set, ListN.length-set, ListN.length-append, ListN.length-drop, Dec.ltb}
 use Rattle.room.specs.Room.{front, put}
-use Rattle.room.proofs.Laws.{length-put}
-use Rattle.room.proofs.Fronts.{front-more, front-grows}
+use Rattle.room.proofs.{Laws.length-put, Fronts.front-more, Fronts.front-grows}
 use Rattle.network.proofs.Refusals.{both}
 use Rattle.contour_rules.specs.Picture.{Picture}
 use Rattle.contour_rules.specs.Crossings.{crossedAt, entersAt, nextAt, edgesIn}
-use Rattle.contour_rules.specs.Contours.{Contour, bit, waits, waiting, follow, contourFrom, without, Listing, add, try}
-use Rattle.contour_rules.specs.Contours.{swept, noneListed, openListed, allListed, contoursOf, crossedTo, edgesOf}
+use Rattle.contour_rules.specs.Contours.{Contour, bit, waits, waiting, contourFrom, without, Listing, try}
+use Rattle.contour_rules.specs.Contours.{swept, noneListed, allListed, contoursOf, crossedTo, edgesOf}
 use Rattle.contour_rules.specs.Contours.{countsOf, closedOf}
 use Rattle.contour_rules.proofs.Waiting.{clash, stays-out, length-without, waiting-without, waiting-le, follow-on}
 use Rattle.contour_rules.proofs.Waiting.{length-crossed, crossed-waits-all}
 use Rattle.contour_rules.proofs.Sums.{edges-append, counts-append, closed-append, length-counts, length-closed}
-use Rattle.contour.specs.InnerWalk.{OnlyCrossed, Traced}
+use Rattle.contour.specs.InnerWalk.{Traced}
 use Rattle.contour.specs.InnerDesk.{Desk, desk, Holds, Room, Grows, Sweeps, Listed, added, tried}
 
 -- ---- one contour more

@@ -1,13 +1,10 @@
 -- Rows of edges and their numbers, and a waiting list filled one edge at a time. Assumes nothing.
-use mathlib.Core.Path.{_≡_, refl, sym, ap, _∙_, subst}
-use mathlib.Core.Bool.{Bool, true, false}
+use mathlib.Core.{Path._≡_, Path.sym, Path.ap, Path._∙_, Path.subst, Bool.Bool, Bool.true, Bool.false}
 use mathlib.Core.List.{List, _++_, append-nil}
 use Prim.Native.Nat.{ℕ, _+_, _-_, _*_, _≤_, _<_}
-use native.Mathlib.Nat.{add-zero, add-assoc, zero-mul, one-mul, add-mul}
-use native.Mathlib.Omega.{arith}
-use lib.ListN.{length, drop, set, length-append, length-drop}
-use lib.Seq.{drop-length}
-use Rattle.network.specs.Edges.{edges, numberOf, edgeAt, WithinEdge}
+use native.Mathlib.{Nat.add-zero, Nat.zero-mul, Nat.one-mul, Nat.add-mul, Omega.arith}
+use lib.{ListN.length, ListN.drop, ListN.set, ListN.length-append, ListN.length-drop, Seq.drop-length}
+use Rattle.network.specs.Edges.{numberOf, WithinEdge}
 use Rattle.network.proofs.Numbers.{at-number, number-lt}
 use Rattle.contour_rules.specs.Picture.{Picture}
 use Rattle.contour_rules.specs.Crossings.{crossed, edgesIn, edgeOf, crossedAt}

@@ -1,25 +1,18 @@
 -- The outcome of the call tells the contours. Assumes nothing.
-use Rattle.contour_rules.proofs.Waiting.{bit-one}
+use Rattle.contour_rules.proofs.{Waiting.bit-one, Sums.length-counts, Sums.length-closed}
 use mathlib.Core.Path.{_≡_, refl, sym, ap, _∙_, subst}
-use mathlib.Core.Bool.{Bool, true, false, _&&_, cond, true≢false}
-use mathlib.Core.Logic.{_↔_}
-use mathlib.Core.List.{List, [], _∷_}
+use mathlib.Core.{Bool.Bool, Bool.true, Bool.false, Bool._&&_, Bool.cond, Logic._↔_, List.List, List.[], List._∷_}
 use Prim.Native.Nat.{ℕ}
 use native.Mathlib.Omega.{arith}
 use borrow.Author.Tests.{leb-true, le-leb, eqb-false}
-use lib.Dec.{leb, eqb}
-use lib.ListN.{length}
-use lib.Seq.{take-append-seam, drop-append-seam}
+use lib.{Dec.leb, Dec.eqb, ListN.length, Seq.take-append-seam, Seq.drop-append-seam}
 use Rattle.refusal.specs.Refuse.{refuse, first}
-use Rattle.room.specs.Room.{front, fitsIn}
+use Rattle.room.specs.Room.{fitsIn}
 use Rattle.room.proofs.Fronts.{front-is, front-past, left-alone}
 use Rattle.network.specs.declared.Frame.{Frame}
-use Rattle.network.specs.Refusals.{contourRefusal}
-use Rattle.network.specs.Ranges.{RoomRefused}
-use Rattle.network.proofs.Refusals.{both}
-use Rattle.network.proofs.Ranges.{room-refused}
-use Rattle.contour_rules.specs.Contours.{Contour, bit, edgesOf, countsOf, closedOf}
-use Rattle.contour_rules.proofs.Sums.{length-counts, length-closed}
+use Rattle.network.specs.{Refusals.contourRefusal, Ranges.RoomRefused}
+use Rattle.network.proofs.{Refusals.both, Ranges.room-refused}
+use Rattle.contour_rules.specs.Contours.{Contour, edgesOf, countsOf, closedOf}
 use Rattle.contour.specs.Answers.{Lists, listsOf, answerOf, fits, leftWith, outcome}
 use Rattle.contour.specs.Told.{contoursTold, found, Enough, Told}
 

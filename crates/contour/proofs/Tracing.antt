@@ -1,26 +1,21 @@
 -- What holds while a contour is traced: the list, the buffer, the edge and what lies ahead of it. Assumes nothing.
-use mathlib.Core.Path.{_≡_, refl, sym, ap, _∙_, subst}
-use mathlib.Core.Bool.{true, false}
-use mathlib.Core.List.{List, [], _∷_, _++_, append-assoc, append-nil}
-use Prim.Native.Nat.{ℕ, suc, _+_, _≤_, _<_}
-use native.Mathlib.Numerals.{add-one}
-use native.Mathlib.Omega.{arith}
+use mathlib.Core.{Path._≡_, Path.refl, Path.sym, Path.ap, Path._∙_, Path.subst, Bool.true, Bool.false}
+use mathlib.Core.List.{List, [], _++_, append-assoc, append-nil}
+use Prim.Native.Nat.{ℕ, _+_, _≤_, _<_}
+use native.Mathlib.{Numerals.add-one, Omega.arith}
 use lib.ListN.{length, take, drop, set, length-set, length-append, take-append-drop}
-use lib.Seq.{take-suc-set, drop-set-lt, drop-drop, length-take-le, append-snoc}
+use lib.Seq.{take-suc-set, drop-set-lt, drop-drop, length-take-le}
 use Rattle.room.specs.Room.{put}
 use Rattle.network.specs.Edges.{WithinEdge}
 use Rattle.network.proofs.Numbers.{edge-within, at-number}
 use Rattle.contour_rules.specs.declared.Ahead.{Ahead}
 use Rattle.contour_rules.specs.declared.Ahead.the-variants.{Square, Outside}
-use Rattle.contour_rules.specs.declared.Side.{Side}
-use Rattle.contour_rules.specs.Picture.{Picture}
-use Rattle.contour_rules.specs.Squares.{sideEdge, exitOf}
-use Rattle.contour_rules.specs.Crossings.{crossed, aheadOf, through, Next, To, Out, nextOf, nextNumber, edgesIn}
+use Rattle.contour_rules.specs.{Picture.Picture, Squares.sideEdge, Squares.exitOf}
+use Rattle.contour_rules.specs.Crossings.{aheadOf, through, edgesIn}
 use Rattle.contour_rules.specs.Crossings.{edgeOf, crossedAt, nextAt}
 use Rattle.contour_rules.specs.Contours.{waits, waiting, contourFrom, without}
-use Rattle.contour_rules.proofs.Heading.{Entered, entered, next-within}
-use Rattle.contour_rules.proofs.Back.{goes-beyond}
-use Rattle.contour_rules.proofs.Waiting.{waits-lt, waiting-set, waited, follow-on, follow-stop}
+use Rattle.contour_rules.proofs.{Heading.Entered, Heading.entered, Heading.next-within, Back.goes-beyond}
+use Rattle.contour_rules.proofs.Waiting.{waiting-set, waited, follow-on, follow-stop}
 use Rattle.contour.specs.InnerWalk.{WithinAhead, stepEdge, stepAhead, OnlyCrossed, Traceable, Traced}
 
 -- what lies ahead of a crossed edge is in the network

@@ -1,19 +1,18 @@
 -- The edge that a crossed edge leads to is crossed, and leads back when the lines are walked backwards: so no two
 -- crossed edges lead to the same one. Assumes nothing.
 use mathlib.Core.Path.{_≡_, refl, sym, ap, _∙_, subst}
-use mathlib.Core.Bool.{Bool, true, false, not, cond}
+use mathlib.Core.Bool.{Bool, true, false, not}
 use Prim.Native.Nat.{ℕ}
 use native.Mathlib.Omega.{arith}
 use Rattle.network.specs.declared.Edge.{Edge}
 use Rattle.network.specs.declared.Edge.the-variants.{Horizontal, Vertical}
-use Rattle.contour_rules.specs.declared.Side.{Side}
+use Rattle.contour_rules.specs.declared.{Side.Side, Ahead.Ahead}
 use Rattle.contour_rules.specs.declared.Side.the-variants.{South, East, North, West}
-use Rattle.contour_rules.specs.declared.Ahead.{Ahead}
 use Rattle.contour_rules.specs.declared.Ahead.the-variants.{Square, Outside}
 use Rattle.network.specs.Edges.{WithinEdge}
 use Rattle.contour_rules.specs.Picture.{Picture}
-use Rattle.contour_rules.specs.Squares.{WithinSquare, turn, sideEdge, corner, exitSide, exitOf}
-use Rattle.contour_rules.specs.Crossings.{beyond, crossed, aheadOf, behindOf, Next, To, Out, through, nextOf}
+use Rattle.contour_rules.specs.Squares.{turn, sideEdge, corner, exitSide, exitOf}
+use Rattle.contour_rules.specs.Crossings.{beyond, crossed, aheadOf, behindOf, To, through, nextOf}
 use Rattle.contour_rules.proofs.Heading.{Entry, Entered, entered, side-within, heads-in, heads-out}
 use Rattle.contour_rules.proofs.Heading.{side-crossed}
 

@@ -1,29 +1,21 @@
 -- Each edge of a network with one point in and the other not stands once in the contours, and no other number does.
 -- Assumes nothing.
-use mathlib.Core.Path.{_≡_, refl, sym, ap, _∙_, subst}
-use mathlib.Core.Bool.{Bool, true, false, _&&_}
-use mathlib.Core.Logic.{_⊎_, inl, inr, ⊎-elim, _↔_}
-use mathlib.Core.List.{List, [], _∷_}
-use Prim.Native.Nat.{ℕ, zero, suc, _+_, _≤_, _<_}
+use mathlib.Core.{Path._≡_, Path.refl, Path.sym, Path.ap, Path._∙_, Bool.Bool, Bool.true, Bool.false, Bool._&&_}
+use mathlib.Core.{Logic._⊎_, Logic.inl, Logic.inr, Logic.⊎-elim, List.List, List.[], List._∷_}
+use Prim.Native.Nat.{ℕ, zero, suc, _≤_, _<_}
 use native.Mathlib.Omega.{arith}
 use borrow.Author.Tests.{ltb-true, ltb-false, lt-ltb, eq-eqb, ne-eqb}
-use lib.Dec.{ltb, eqb}
-use lib.ListN.{length, getD}
+use lib.{Dec.ltb, ListN.length, ListN.getD}
 use Rattle.network.specs.declared.Edge.{Edge}
 use Rattle.network.specs.declared.Edge.the-variants.{Horizontal, Vertical}
 use Rattle.network.specs.Edges.{edges, numberOf, edgeAt, WithinEdge}
-use Rattle.network.proofs.Numbers.{number-lt, edge-within, number-at}
-use Rattle.network.proofs.Refusals.{both}
-use Rattle.contour_rules.specs.Picture.{Picture}
-use Rattle.contour_rules.specs.Crossings.{crossed, edgesIn, crossedAt}
+use Rattle.network.proofs.{Numbers.number-lt, Numbers.edge-within, Numbers.number-at, Refusals.both}
+use Rattle.contour_rules.specs.{Picture.Picture, Crossings.crossed, Crossings.edgesIn, Crossings.crossedAt}
 use Rattle.contour_rules.specs.Contours.{Contour, bit, contoursOf, edgesOf}
-use Rattle.contour_rules.specs.Once.{occurs, EachOnce}
-use Rattle.contour_rules.specs.Rule.{lines, CrossesExactly}
+use Rattle.contour_rules.specs.{Once.occurs, Once.EachOnce, Rule.lines, Rule.CrossesExactly}
 use Rattle.contour_rules.specs.EachEdge.{StandsAt, StandsOnce, LyingCrossed, StandingCrossed, CrossedNumber}
 use Rattle.contour_rules.specs.EachEdge.{EachCrossedEdgeOnce}
-use Rattle.contour_rules.proofs.Waiting.{is-or-not}
-use Rattle.contour_rules.proofs.Every.{every-crossing}
-use Rattle.contour_rules.proofs.Following.{follows-rule}
+use Rattle.contour_rules.proofs.{Waiting.is-or-not, Every.every-crossing, Following.follows-rule}
 use Rattle.contour_rules.proofs.Occurring.{on-contours}
 
 -- ---- what stands in a list occurs in it, and what occurs once stands at one place

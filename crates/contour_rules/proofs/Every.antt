@@ -4,21 +4,18 @@
 -- edge. Assumes nothing.
 use mathlib.Core.Path.{_≡_, refl, sym, ap, _∙_, subst}
 use mathlib.Core.Bool.{Bool, true, false, _&&_, _||_, cond}
-use mathlib.Core.Logic.{_⊎_, inl, inr, ⊎-elim}
-use mathlib.Core.List.{List, [], _∷_, _++_}
+use mathlib.Core.{Logic._⊎_, Logic.inl, Logic.inr, Logic.⊎-elim, List.List, List.[], List._∷_}
 use Prim.Native.Nat.{ℕ, zero, suc, _+_, _≤_, _<_}
 use native.Mathlib.Omega.{arith}
-use borrow.Author.Tests.{ltb-true}
-use lib.Dec.{ltb}
-use lib.ListN.{length, set}
+use lib.{Dec.ltb, ListN.length, ListN.set}
 use Rattle.network.proofs.Refusals.{both}
 use Rattle.contour_rules.specs.Picture.{Picture}
 use Rattle.contour_rules.specs.Crossings.{edgesIn, crossedAt, entersAt, nextAt}
-use Rattle.contour_rules.specs.Contours.{Contour, bit, waits, waiting, follow, contourFrom, without, Listing}
+use Rattle.contour_rules.specs.Contours.{Contour, bit, waits, waiting, contourFrom, without, Listing}
 use Rattle.contour_rules.specs.Contours.{add, try, swept, crossedTo, noneListed, openListed, allListed}
 use Rattle.contour_rules.specs.Contours.{contoursOf, edgesOf}
-use Rattle.contour_rules.specs.Once.{occurs, Neighbours, Follows, Exits, Chain, Each, Sound, AllSound, steps}
-use Rattle.contour_rules.specs.Once.{stepsOf, opens, crossings, Ordered, EachOnce}
+use Rattle.contour_rules.specs.Once.{occurs, Neighbours, Follows, Exits, Chain, Each, Sound, AllSound}
+use Rattle.contour_rules.specs.Once.{crossings, EachOnce}
 use Rattle.contour_rules.proofs.Steps.{prevAt, leads-at, comes-at, next-le, enters-outside, inner-inside}
 use Rattle.contour_rules.proofs.Steps.{neighbours-at, enters-border, leaves-border}
 use Rattle.contour_rules.proofs.Orders.{in-order}

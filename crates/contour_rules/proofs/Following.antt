@@ -1,35 +1,28 @@
 -- A contour goes from edge to edge as the rules say of the levels. Assumes nothing.
 use mathlib.Core.Path.{_≡_, refl, sym, ap, _∙_, subst}
 use mathlib.Core.Bool.{Bool, true, false, not, _&&_, cond, true≢false}
-use mathlib.Core.Logic.{_⊎_, inl, inr, ⊎-elim, _↔_}
-use mathlib.Core.List.{List}
+use mathlib.Core.{Logic._⊎_, Logic.inl, Logic.inr, Logic.⊎-elim, Logic._↔_, List.List}
 use Prim.Native.Nat.{ℕ, _+_, _-_, _*_, _≤_, _<_}
-use native.Mathlib.Nat.{add-sub-cancel}
-use native.Mathlib.Omega.{arith}
-use borrow.Author.Tests.{ltb-true, ltb-false, leb-true, leb-false, eqb-true, eqb-false, lt-ltb, le-ltb, le-leb, lt-leb}
+use native.Mathlib.{Nat.add-sub-cancel, Omega.arith}
+use borrow.Author.Tests.{ltb-false, leb-true, leb-false, eqb-true, lt-ltb, le-ltb, le-leb, lt-leb}
 use borrow.Author.Tests.{eq-eqb, ne-eqb}
-use lib.Dec.{ltb, leb, eqb}
-use lib.ListN.{getD}
+use lib.{Dec.ltb, Dec.leb, Dec.eqb, ListN.getD}
 use Rattle.network.specs.declared.Edge.{Edge}
 use Rattle.network.specs.declared.Edge.the-variants.{Horizontal, Vertical}
-use Rattle.network.specs.Edges.{edges, numberOf, WithinEdge}
-use Rattle.network.specs.Crossed.{unlike}
-use Rattle.network.specs.Numbering.{In, Out}
-use Rattle.network.proofs.Numbers.{at-number, by-cond}
-use Rattle.network.proofs.Numbering.{crossed-exactly}
-use Rattle.contour_rules.specs.declared.Side.{Side}
+use Rattle.network.specs.{Edges.numberOf, Edges.WithinEdge, Crossed.unlike, Numbering.In, Numbering.Out}
+use Rattle.network.proofs.{Numbers.at-number, Numbering.crossed-exactly}
+use Rattle.contour_rules.specs.declared.{Side.Side, Ahead.Ahead}
 use Rattle.contour_rules.specs.declared.Side.the-variants.{South, East, North, West}
-use Rattle.contour_rules.specs.declared.Ahead.{Ahead}
 use Rattle.contour_rules.specs.declared.Ahead.the-variants.{Square, Outside}
 use Rattle.contour_rules.specs.Picture.{Picture, picture, cutOf}
-use Rattle.contour_rules.specs.Squares.{turn, sideEdge, corner, exitSide, exitOf}
-use Rattle.contour_rules.specs.Crossings.{northOf, southOf, westOf, eastOf, crossed, aheadOf, behindOf}
-use Rattle.contour_rules.specs.Crossings.{isOutside, To, through, nextOf, nextNumber, edgeOf, crossedAt}
+use Rattle.contour_rules.specs.Squares.{turn, sideEdge, corner, exitOf}
+use Rattle.contour_rules.specs.Crossings.{northOf, southOf, westOf, eastOf, crossed, behindOf}
+use Rattle.contour_rules.specs.Crossings.{isOutside, To, through, nextOf, nextNumber, crossedAt}
 use Rattle.contour_rules.specs.Crossings.{entersAt, nextAt}
 use Rattle.contour_rules.specs.Rule.{HasEnd, fourCorners, lines, IsCrossed, CrossesExactly, Heads}
 use Rattle.contour_rules.specs.Rule.{EntersExactly, CutsOff, Entering, FollowsRule}
 use Rattle.contour_rules.proofs.Heading.{Entry, Entered, entered, leaves-elsewhere, side-within}
-use Rattle.contour_rules.proofs.Back.{four-turns, Leads, leads}
+use Rattle.contour_rules.proofs.Back.{four-turns, leads}
 
 -- ---- what lies outside
 

@@ -1,24 +1,21 @@
 -- What a crossing heads into: a square of the network that has the edge as the side by which it is entered, with
 -- the in corner on the left. Assumes nothing.
-use mathlib.Core.Path.{_≡_, refl, sym, ap, _∙_, subst}
-use mathlib.Core.Bool.{Bool, true, false, not, _||_, cond, true≢false}
+use mathlib.Core.Path.{_≡_, refl, sym, ap, subst}
+use mathlib.Core.Bool.{Bool, true, false, _||_, cond, true≢false}
 use Prim.Native.Nat.{ℕ, _+_, _-_, _<_}
-use native.Mathlib.Nat.{add-sub-cancel}
-use native.Mathlib.Omega.{arith}
+use native.Mathlib.{Nat.add-sub-cancel, Omega.arith}
 use borrow.Author.Tests.{ltb-true, ltb-false, eqb-false, lt-ltb, eq-eqb, ne-eqb}
 use lib.Dec.{ltb, eqb}
 use Rattle.network.specs.declared.Edge.{Edge}
 use Rattle.network.specs.declared.Edge.the-variants.{Horizontal, Vertical}
-use Rattle.contour_rules.specs.declared.Side.{Side}
+use Rattle.contour_rules.specs.declared.{Side.Side, Ahead.Ahead}
 use Rattle.contour_rules.specs.declared.Side.the-variants.{South, East, North, West}
-use Rattle.contour_rules.specs.declared.Ahead.{Ahead}
 use Rattle.contour_rules.specs.declared.Ahead.the-variants.{Square, Outside}
-use Rattle.network.specs.Edges.{WithinEdge}
-use Rattle.network.specs.Crossed.{unlike}
+use Rattle.network.specs.{Edges.WithinEdge, Crossed.unlike}
 use Rattle.network.proofs.Numbers.{by-cond}
 use Rattle.contour_rules.specs.Picture.{Picture}
 use Rattle.contour_rules.specs.Squares.{WithinSquare, turn, sideEdge, corner, exitSide, exitOf}
-use Rattle.contour_rules.specs.Crossings.{beyond, crossed, acrossOf, aheadOf, Next, To, Out, through, nextOf}
+use Rattle.contour_rules.specs.Crossings.{beyond, crossed, acrossOf, aheadOf, To, through, nextOf}
 use Rattle.contour_rules.specs.Crossings.{isOutside, onBorder}
 
 -- ---- the square that a crossing heads into

@@ -1,13 +1,10 @@
 -- The order of the contours: open ones before closed ones, and each kind by its first edges. Assumes nothing.
-use mathlib.Core.Path.{_≡_, refl, sym, ap, _∙_, subst}
-use mathlib.Core.Bool.{Bool, true, false, _&&_, _||_, cond}
-use mathlib.Core.Logic.{_⊎_, inl, inr, ⊎-elim}
-use mathlib.Core.List.{List, [], _∷_, _++_}
+use mathlib.Core.{Path._≡_, Path.refl, Path.ap, Bool.Bool, Bool.true, Bool.false, Bool._&&_, Bool._||_, Bool.cond}
+use mathlib.Core.{Logic._⊎_, Logic.inl, Logic.inr, Logic.⊎-elim, List.List, List.[], List._∷_, List._++_}
 use Prim.Native.Nat.{ℕ, zero, suc, _<_}
 use native.Mathlib.Omega.{arith}
 use lib.ListN.{getD}
-use Rattle.contour_rules.specs.Picture.{Picture}
-use Rattle.contour_rules.specs.Crossings.{edgesIn, entersAt}
+use Rattle.contour_rules.specs.{Picture.Picture, Crossings.edgesIn, Crossings.entersAt}
 use Rattle.contour_rules.specs.Contours.{Contour, waits, contourFrom, Listing, add, try, swept, noneListed}
 use Rattle.contour_rules.specs.Contours.{openListed, contoursOf}
 use Rattle.contour_rules.specs.Once.{firstEdge, Before, All, Ordered}

@@ -1,14 +1,9 @@
 -- Of the hill of the rules, whose contour is 2, 7, 3, 10, the two rings 2, 7 and 3, 10 are refused: each crossing
--- once is not enough.
--- Assumes nothing.
-use mathlib.Core.Path.{_≡_, refl, sym, ap, _∙_}
-use mathlib.Core.Bool.{true}
-use mathlib.Core.List.{List, [], _∷_}
+-- once is not enough. Assumes nothing.
+use mathlib.Core.{Path._≡_, Path.refl, Bool.true, List.List, List.[], List._∷_}
 use Prim.Native.Nat.{ℕ}
 use native.Mathlib.Omega.{arith}
-use Rattle.contour_rules.specs.Picture.{Picture, picture}
-use Rattle.contour_rules.specs.Crossings.{nextAt}
-use Rattle.contour_rules.specs.Contours.{Contour}
+use Rattle.contour_rules.specs.{Picture.Picture, Picture.picture, Crossings.nextAt, Contours.Contour}
 use Rattle.contour_rules.specs.Once.{EachOnce}
 
 abbrev pub hill : Picture

@@ -1,25 +1,20 @@
 -- The same by the edges' numbers: where a crossed edge leads, and where it comes from. Assumes nothing.
 use mathlib.Core.Path.{_≡_, refl, sym, ap, _∙_, subst}
-use mathlib.Core.Bool.{Bool, true, false, not, _&&_, cond, Bool·not-not, true≢false}
+use mathlib.Core.Bool.{Bool, true, false, not, _&&_, Bool·not-not, true≢false}
 use Prim.Native.Nat.{ℕ, _+_, _≤_, _<_}
-use native.Mathlib.Nat.{le-of-eq}
-use native.Mathlib.Omega.{arith}
+use native.Mathlib.{Nat.le-of-eq, Omega.arith}
 use Rattle.network.specs.declared.Edge.{Edge}
 use Rattle.network.specs.declared.Edge.the-variants.{Horizontal, Vertical}
 use Rattle.contour_rules.specs.declared.Ahead.{Ahead}
 use Rattle.contour_rules.specs.declared.Ahead.the-variants.{Square, Outside}
-use Rattle.network.specs.Edges.{edges, numberOf, edgeAt, WithinEdge}
-use Rattle.network.specs.Crossed.{unlike}
-use Rattle.contour_rules.specs.Picture.{Picture}
-use Rattle.contour_rules.specs.Squares.{turn, corner, sideEdge, exitOf}
-use Rattle.contour_rules.specs.Crossings.{crossed, acrossOf, firstIn, aheadOf, behindOf, Next, To, Out, through}
+use Rattle.network.specs.{Edges.numberOf, Edges.WithinEdge, Crossed.unlike}
+use Rattle.contour_rules.specs.{Picture.Picture, Squares.turn, Squares.corner, Squares.sideEdge, Squares.exitOf}
+use Rattle.contour_rules.specs.Crossings.{crossed, firstIn, aheadOf, behindOf, Next, To, Out, through}
 use Rattle.contour_rules.specs.Crossings.{nextOf, isOutside, edgesIn, edgeOf, crossedAt, entersAt, nextNumber}
-use Rattle.contour_rules.specs.Crossings.{nextAt, onBorder}
-use Rattle.contour_rules.specs.Once.{Neighbours, Border}
+use Rattle.contour_rules.specs.{Crossings.nextAt, Crossings.onBorder, Once.Neighbours, Once.Border}
 use Rattle.contour_rules.proofs.Heading.{Entered, entered, next-within, leaves-elsewhere, over-border}
 use Rattle.contour_rules.proofs.Back.{reversed, behind-reversed, Leads, leads}
-use Rattle.network.proofs.Refusals.{both}
-use Rattle.network.proofs.Numbers.{edge-within, number-lt, at-number, number-at}
+use Rattle.network.proofs.{Refusals.both, Numbers.edge-within, Numbers.number-lt, Numbers.at-number, Numbers.number-at}
 
 -- the edge that a crossed edge comes from; where it comes from outside, the number of edges
 abbrev pub prevAt : Picture → ℕ → ℕ

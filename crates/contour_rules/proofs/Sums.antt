@@ -5,10 +5,8 @@ use mathlib.Core.List.{List, [], _∷_, _++_, append-assoc, append-nil}
 use Prim.Native.Nat.{ℕ, zero, suc, _+_, _≤_, _<_}
 use native.Mathlib.Omega.{arith}
 use borrow.Author.Tests.{lt-ltb, le-ltb, ltb-true, ltb-false, eqb-true, eqb-false, eq-eqb}
-use lib.Dec.{ltb, eqb}
-use lib.ListN.{length, length-append}
-use Rattle.contour_rules.specs.Picture.{Picture}
-use Rattle.contour_rules.specs.Crossings.{crossedAt}
+use lib.{Dec.ltb, Dec.eqb, ListN.length, ListN.length-append}
+use Rattle.contour_rules.specs.{Picture.Picture, Crossings.crossedAt}
 use Rattle.contour_rules.specs.Contours.{Contour, bit, edgesOf, countsOf, closedOf}
 use Rattle.contour_rules.specs.Once.{occurs, Sound, AllSound, steps, stepsOf, opens, crossings}
 

@@ -1,16 +1,13 @@
 -- The waiting list, and a contour one edge at a time. Assumes nothing.
 use mathlib.Core.Path.{_≡_, refl, sym, ap, _∙_, subst}
 use mathlib.Core.Bool.{Bool, true, false, _&&_, cond, true≢false}
-use mathlib.Core.Logic.{_⊎_, inl, inr, ⊎-elim}
-use mathlib.Core.List.{List, [], _∷_, _++_}
+use mathlib.Core.{Logic._⊎_, Logic.inl, Logic.inr, Logic.⊎-elim, List.List, List.[], List._∷_, List._++_}
 use Prim.Native.Nat.{ℕ, zero, suc, _+_, _≤_, _<_}
 use native.Mathlib.Omega.{arith}
 use borrow.Author.Tests.{ltb-true, ltb-false, eqb-true, eqb-false}
-use lib.Dec.{ltb, eqb}
-use lib.ListN.{length, getD, set, length-set, length-append, List·getD-append}
+use lib.{Dec.ltb, Dec.eqb, ListN.length, ListN.set, ListN.length-set, ListN.length-append, ListN.List·getD-append}
 use lib.Seq.{getD-set-other, getD-at}
-use Rattle.contour_rules.specs.Picture.{Picture}
-use Rattle.contour_rules.specs.Crossings.{crossedAt, nextAt}
+use Rattle.contour_rules.specs.{Picture.Picture, Crossings.crossedAt, Crossings.nextAt}
 use Rattle.contour_rules.specs.Contours.{bit, waits, waiting, follow, contourFrom, without, crossedTo}
 use Rattle.contour_rules.specs.Once.{occurs, Each}
 

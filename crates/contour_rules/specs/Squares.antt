@@ -1,7 +1,6 @@
 -- How a line runs through a square: RULES, "Network and contours". A square has the row and column of its south-west
 -- corner.
 -- Assumes nothing.
-use mathlib.Core.Path.{_≡_}
 use mathlib.Core.Bool.{Bool, true, false, cond}
 use Prim.Native.Nat.{ℕ, _+_, _<_}
 use Rattle.network.specs.declared.Edge.{Edge}

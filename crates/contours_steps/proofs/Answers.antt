@@ -1,21 +1,16 @@
 -- What may be written, by how the reading went, and the run that it ends. Assumes nothing.
 use Prim.Native.Nat.{ℕ}
-use mathlib.Core.Path.{_≡_, refl, sym, ap, subst, _∙_}
-use mathlib.Core.Bool.{Bool}
-use mathlib.Core.List.{List, []}
+use mathlib.Core.{Path._≡_, Path.refl, Path.sym, Path.ap, Path.subst, Path._∙_, Bool.Bool, List.List, List.[]}
 use native.Mathlib.Omega.{arith}
 use borrow.Author.Tests.{eq-eqb, ne-eqb}
-use lib.ListN.{length, take}
-use lib.Seq.{take-length}
-use Rattle.channel.specs.System.{First, none-went}
-use Rattle.channel.specs.Input.{Fills, input, complete, failed}
+use lib.{ListN.length, ListN.take, Seq.take-length}
+use Rattle.channel.specs.{System.First, System.none-went, Input.Fills, Input.input, Input.complete, Input.failed}
 use Rattle.channel.specs.declared.whole.Filled.{Filled}
 use Rattle.network.specs.declared.Frame.{Frame}
 use Rattle.contours_steps.specs.declared.words.Given.{Given}
 use Rattle.contours_steps.specs.Words.{Gathered}
 use Rattle.contours_steps.specs.Sheet.{refusedLine, sheetOf, lineBegun, maxText, overlongLine, overlongOf}
-use Rattle.contours_steps.specs.Drawing.{Accepted, Refused}
-use Rattle.contours_steps.specs.Due.{Sends}
+use Rattle.contours_steps.specs.{Drawing.Accepted, Drawing.Refused, Due.Sends}
 use Rattle.contours_steps.specs.Answer.{ReadWhole, ReadFailed, ReadFull, Answered, Run}
 use Rattle.contours_steps.specs.Answer.TextFor.{whole, fails, full}
 use Rattle.contours_steps.proofs.Drawings.{refused-written, accepted-written}

@@ -1,18 +1,12 @@
 -- The line that a next byte would stand in, one line end further. Assumes nothing.
 use Rattle.grid.proofs.LineLaws.{line-room}
 use Prim.Native.Nat.{ℕ, suc, _+_, _-_, _≤_, _<_}
-use mathlib.Core.Path.{_≡_, refl, sym, ap, _∙_}
-use mathlib.Core.Bool.{Bool, true, false, cond, _&&_, and-false}
-use mathlib.Core.List.{List, [], _∷_, _++_}
+use mathlib.Core.{Path._≡_, Path.refl, Path.ap, Bool._&&_, Bool.and-false, List.List, List.[], List._∷_, List._++_}
 use native.Mathlib.Omega.{arith}
 use borrow.Author.Tests.{le-leb, lt-leb, lt-ltb, le-ltb}
-use lib.Dec.{eqb}
-use lib.ListN.{length, getD, drop, length-append, length-drop}
-use lib.Seq.{drop-append-le, drop-drop}
+use lib.{Dec.eqb, ListN.length, ListN.drop, ListN.length-drop, Seq.drop-drop}
 use Rattle.text.specs.Line.{firstLine, linesOf}
-use Rattle.text.proofs.Digits.{either}
-use Rattle.text.proofs.Lines.{line-length, lines-step}
-use Rattle.text.proofs.Streams.{stream-line}
+use Rattle.text.proofs.{Digits.either, Streams.stream-line}
 use Rattle.grid.specs.File.{faultLine}
 use Rattle.contours_steps.specs.Sheet.{lineBegun, overlongLine}
 

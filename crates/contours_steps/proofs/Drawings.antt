@@ -1,9 +1,8 @@
 -- What is accepted can be drawn, and what is written is then the sheet; what is refused is written as its line. Assumes
 -- nothing.
 use Prim.Native.Nat.{ℕ, zero, suc, _*_, _≤_, _<_}
-use mathlib.Core.Path.{_≡_, refl, sym, ap, _∙_, subst}
-use mathlib.Core.Bool.{Bool, true, false, cond, _&&_}
-use mathlib.Core.List.{List, [], _∷_, map}
+use mathlib.Core.Path.{_≡_, refl, sym, ap, _∙_}
+use mathlib.Core.{Bool.Bool, Bool.true, Bool.false, Bool.cond, Bool._&&_, List.List, List.[], List._∷_}
 use native.Mathlib.Omega.{arith}
 use borrow.Author.Tests.{eq-eqb, ne-eqb, eqb-true, leb-true}
 use lib.Dec.{eqb, leb}
@@ -12,28 +11,22 @@ use lib.Seq.{take-append-seam}
 use Rattle.refusal.specs.Range.{allWithin}
 use Rattle.refusal.proofs.Laws.{and-left, and-right, refuse-none}
 use Rattle.text.specs.Line.{linesOf}
-use Rattle.text.specs.Number.{levelOf, isGot}
 use Rattle.text.proofs.Digits.{either}
 use Rattle.room.specs.Room.{front}
 use Rattle.network.specs.declared.Frame.{Frame}
-use Rattle.network.specs.Edges.{Checked}
-use Rattle.network.specs.Limits.{maxNetworkLevel, leastContour, maxContour}
+use Rattle.network.specs.{Edges.Checked, Limits.maxNetworkLevel, Limits.leastContour, Limits.maxContour}
 use Rattle.network.specs.Refusals.{sided, placed, filled}
-use Rattle.network.proofs.Refusals.{is-checked, in-between}
-use Rattle.grid.specs.Row.{all, rowGiven, levelsOf}
-use Rattle.grid.specs.File.{frameOf, noDataOf, rowsOf, faultLine, rowsFit}
+use Rattle.network.proofs.Refusals.{is-checked}
+use Rattle.grid.specs.{Row.all, Row.levelsOf, File.frameOf, File.rowsOf, File.faultLine, File.rowsFit}
 use Rattle.grid.specs.Read.{headerSize, numbersOf, textFrame, textLevels, linesRefusal, readRefusal, headerAfter}
 use Rattle.grid.specs.Read.{levelsAfter}
-use Rattle.grid.proofs.WriteLaws.{points-most}
-use Rattle.grid.proofs.ValueLaws.{all-cons}
-use Rattle.contours_steps.proofs.Levels.{word-range}
+use Rattle.grid.proofs.{WriteLaws.points-most, ValueLaws.all-cons}
+use Rattle.contours_steps.proofs.{Levels.word-range, Gathering.words-given}
 use Rattle.contours_steps.specs.declared.words.Given.{Given}
-use Rattle.contours_steps.proofs.Gathering.{words-given}
 use Rattle.contours_steps.specs.Words.{wordLevel, isContour, maxContourLevels, wordsRefusal, givenRefusal}
 use Rattle.contours_steps.specs.Words.{levelsIn, Gathered}
 use Rattle.contours_steps.specs.Sheet.{maxPointsDrawn, textRefusal, refusalOf, refusedAt, refusedLine}
-use Rattle.contours_steps.specs.Sheet.{sheetOf, writtenOf}
-use Rattle.contours_steps.specs.Drawing.{Accepted, Refused}
+use Rattle.contours_steps.specs.{Sheet.sheetOf, Sheet.writtenOf, Drawing.Accepted, Drawing.Refused}
 use Rattle.contours_steps.specs.InnerDrawing.{Stored, Drawable}
 
 -- no refusal is none of the text and none of the words

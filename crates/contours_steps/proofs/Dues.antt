@@ -1,12 +1,10 @@
 -- A part that is due, in pieces, and what was sent of it. Assumes nothing.
 use Prim.Native.Nat.{ℕ, _+_, _≤_}
-use mathlib.Core.Path.{_≡_, refl, sym, ap, subst, _∙_}
-use mathlib.Core.Bool.{Bool, true, false}
+use mathlib.Core.{Path._≡_, Path.refl, Path.sym, Path.ap, Path.subst, Path._∙_, Bool.Bool, Bool.true, Bool.false}
 use mathlib.Core.List.{List, [], _++_, append-assoc, append-nil}
 use native.Mathlib.Omega.{arith}
 use lib.ListN.{length, length-append}
-use Rattle.channel.specs.System.{Lost}
-use Rattle.channel.specs.Output.{Went, Writes}
+use Rattle.channel.specs.{System.Lost, Output.Went, Output.Writes}
 use Rattle.contours_steps.specs.Due.{Due, Sends}
 
 -- the whole is due from its start

@@ -1,7 +1,6 @@
 -- All that is written has its last line end. Assumes nothing.
 use Prim.Native.Nat.{ℕ}
-use mathlib.Core.Path.{_≡_, refl, sym, ap, _∙_}
-use mathlib.Core.Bool.{Bool, true, false, cond}
+use mathlib.Core.{Path.refl, Path.sym, Path.ap, Path._∙_, Bool.Bool, Bool.true, Bool.false, Bool.cond}
 use mathlib.Core.List.{List, [], _∷_, _++_, append-assoc, append-nil}
 use lib.Dec.{eqb}
 use Rattle.network.specs.declared.Frame.{Frame}
@@ -11,8 +10,7 @@ use Rattle.contours_steps.specs.Words.{levelsIn}
 use Rattle.text.specs.Number.{showNumber}
 use Rattle.contours_steps.specs.Sheet.{lineEnd, lineStart, heading, levelLine, levelLines, sheetOf}
 use Rattle.contours_steps.specs.Sheet.{refusedLine, refusalOf, refusedAt, writtenOf, lineBegun, overlongLine}
-use Rattle.contours_steps.specs.Sheet.{overlongOf}
-use Rattle.contours_steps.specs.Ends.{Ended, Ends}
+use Rattle.contours_steps.specs.{Sheet.overlongOf, Ends.Ended, Ends.Ends}
 
 -- what stands in front of a text that ends so
 behind : (a b : List ℕ) → Ended b → Ended (a ++ b)

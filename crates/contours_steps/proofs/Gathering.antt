@@ -5,8 +5,7 @@ use mathlib.Core.Bool.{Bool, true, false, _&&_, cond, and-true}
 use mathlib.Core.List.{List, [], _∷_, _++_}
 use native.Mathlib.Omega.{arith}
 use lib.ListN.{length, getD, take, set, length-append, length-set, List·getD-append}
-use lib.Seq.{take-suc-set, getD-at}
-use lib.Dec.{leb, ltb}
+use lib.{Seq.take-suc-set, Seq.getD-at, Dec.ltb}
 use borrow.Author.Tests.{le-leb, lt-leb, ltb-true, ltb-false}
 use Rattle.text.proofs.Digits.{either}
 use Rattle.refusal.proofs.Laws.{and-left}

@@ -1,11 +1,8 @@
 -- The sheet in its order: the heading, and the lines from a level on. Assumes nothing.
 use Prim.Native.Nat.{ℕ, _+_, _≤_, _<_}
-use mathlib.Core.Path.{_≡_, refl}
-use mathlib.Core.Bool.{Bool, true}
-use mathlib.Core.List.{List, [], _++_}
+use mathlib.Core.{Path._≡_, Path.refl, Bool.Bool, Bool.true, List.List, List.[], List._++_}
 use native.Mathlib.Numerals.{add-one}
-use lib.ListN.{length, getD, drop, drop-of-length-le}
-use lib.Seq.{drop-cons}
+use lib.{ListN.length, ListN.getD, ListN.drop, ListN.drop-of-length-le, Seq.drop-cons}
 use Rattle.network.specs.declared.Frame.{Frame}
 use Rattle.contours_steps.specs.Due.{Due, Sends}
 use Rattle.contours_steps.proofs.Dues.{due-whole, due-front, due-rest, Rest, rest-all, rest-next}

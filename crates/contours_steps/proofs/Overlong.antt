@@ -1,32 +1,25 @@
 -- A network that is on its layout and as large as its frame says is shorter than the program's room. Assumes nothing.
-use Prim.Native.Nat.{ℕ, zero, suc, _+_, _-_, _*_, _≤_, _<_}
+use Prim.Native.Nat.{ℕ, zero, suc, _+_, _-_, _*_, _≤_}
 use mathlib.Core.Path.{_≡_, refl, sym, ap, _∙_}
 use mathlib.Core.Bool.{Bool, true, false, cond, _&&_, _||_}
 use mathlib.Core.List.{List, [], _∷_, _++_, map}
-use native.Mathlib.Nat.{mul-le-mul}
-use native.Mathlib.Omega.{arith}
-use borrow.Author.Tests.{eq-eqb, eqb-true, leb-true, ne-eqb}
-use lib.Dec.{eqb, leb}
-use lib.ListN.{length, getD, drop, length-drop}
+use native.Mathlib.{Nat.mul-le-mul, Omega.arith}
+use borrow.Author.Tests.{eq-eqb, eqb-true, leb-true}
+use lib.{Dec.eqb, Dec.leb, ListN.length, ListN.getD, ListN.drop, ListN.length-drop}
 use Rattle.refusal.proofs.Laws.{and-left, and-right}
 use Rattle.text.specs.Number.{wholeOf, decimalOf, levelOf, digitsOf, pointed, isGot}
-use Rattle.text.specs.Line.{onto, linesOf}
-use Rattle.text.specs.Same.{sameText}
+use Rattle.text.specs.{Line.onto, Line.linesOf, Same.sameText}
 use Rattle.text.specs.declared.number.Number.{Number}
-use Rattle.text.specs.declared.number.Number.the-variants.{Got, Off}
-use Rattle.text.proofs.Digits.{either}
-use Rattle.network.specs.declared.Frame.{Frame}
-use Rattle.network.specs.Limits.{leastSide, maxSide}
-use Rattle.network.specs.Refusals.{between, sided, placed, filled}
+use Rattle.text.specs.declared.number.Number.the-variants.{Off}
+use Rattle.text.proofs.{Digits.either, Sames.same-equal}
+use Rattle.network.specs.{Limits.leastSide, Limits.maxSide, Refusals.between, Refusals.sided}
 use Rattle.network.proofs.Refusals.{in-between}
-use Rattle.grid.specs.Row.{all, valuesOf, isValue, isRow, hasValues, levelsOf}
+use Rattle.grid.specs.Row.{all, valuesOf, isValue, isRow, hasValues}
 use Rattle.grid.specs.File.{begins, ncols, nrows, xllcenter, yllcenter, cellsize, noDataWord, unnamed, numberAfter}
-use Rattle.grid.specs.File.{numberAt, names, namesWell, sixth, spelledIn, unsigned, isNumber, isSpelling, headOn}
+use Rattle.grid.specs.File.{numberAt, names, namesWell, sixth, spelledIn, isNumber, isSpelling}
 use Rattle.grid.specs.File.{namedOn, noDataOf, rowsOf, firstOff, frameOf, faultLine, rowsFit}
 use Rattle.grid.specs.Read.{linesRefusal}
-use Rattle.grid.proofs.ReadLaws.{fit-both}
-use Rattle.grid.proofs.ValueLaws.{all-cons}
-use Rattle.text.proofs.Sames.{same-equal}
+use Rattle.grid.proofs.{ReadLaws.fit-both, ValueLaws.all-cons}
 use Rattle.contours_steps.specs.Sheet.{textRefusal, maxText}
 
 -- ---- lists of texts, each with `more` bytes behind it

@@ -1,24 +1,19 @@
 -- The program has room for every network that is right otherwise. Assumes nothing.
-use mathlib.Core.Path.{_≡_, refl, ap}
-use mathlib.Core.Bool.{Bool, true, false, cond, _&&_}
-use mathlib.Core.List.{List}
+use mathlib.Core.{Path._≡_, Path.refl, Path.ap, Bool.Bool, Bool.true, Bool.false, Bool.cond, Bool._&&_, List.List}
 use Prim.Native.Nat.{ℕ}
 use native.Mathlib.Omega.{arith}
-use lib.ListN.{length}
-use lib.Dec.{eqb, leb}
+use lib.{ListN.length, Dec.eqb, Dec.leb}
 use borrow.Author.Tests.{le-leb}
 use Rattle.refusal.specs.Range.{allWithin}
 use Rattle.text.specs.Line.{linesOf}
 use Rattle.network.specs.declared.Frame.{Frame}
-use Rattle.network.specs.Limits.{maxNetworkLevel}
-use Rattle.network.specs.Refusals.{sided, placed, filled}
+use Rattle.network.specs.{Limits.maxNetworkLevel, Refusals.sided, Refusals.placed, Refusals.filled}
 use Rattle.network.proofs.Refusals.{is-checked}
 use Rattle.grid.specs.Row.{all, rowGiven, levelsOf}
 use Rattle.grid.specs.File.{frameOf, noDataOf, rowsOf, faultLine, rowsFit}
 use Rattle.grid.specs.Read.{headerSize, linesRefusal}
 use Rattle.grid.proofs.WriteLaws.{points-most}
-use Rattle.contours_steps.specs.Sheet.{maxPointsDrawn, textRefusal}
-use Rattle.contours_steps.specs.Told.{NeverShort}
+use Rattle.contours_steps.specs.{Sheet.maxPointsDrawn, Sheet.textRefusal, Told.NeverShort}
 
 -- a network that is right has at most 256 times 256 points
 enough : (levels : List ℕ) (f : Frame) → (sided f && placed f && filled levels f) ≡ true

@@ -1,19 +1,15 @@
 -- How long the sheet can be: a machine's word counts it. Assumes nothing.
 use Prim.Native.Nat.{ℕ, zero, suc, _+_, _*_, _≤_, _<_, _^_}
-use mathlib.Core.Path.{_≡_, refl, sym, ap, _∙_}
-use mathlib.Core.List.{List, [], _∷_, _++_}
-use native.Mathlib.Nat.{mul-le-mul, suc-mul, le-refl}
-use native.Mathlib.Omega.{arith}
+use mathlib.Core.{Path._≡_, Path.refl, Path.ap, List.List, List.[], List._∷_, List._++_}
+use native.Mathlib.{Nat.mul-le-mul, Nat.le-refl, Omega.arith}
 use borrow.Author.Tests.{ltb-true, ltb-false}
-use lib.Dec.{ltb}
-use lib.ListN.{length, getD, length-append}
+use lib.{Dec.ltb, ListN.length, ListN.getD, ListN.length-append}
 use Rattle.text.specs.Number.{showLevel}
-use Rattle.text.proofs.Digits.{either}
-use Rattle.text.proofs.Shown.{level-most}
+use Rattle.text.proofs.{Digits.either, Shown.level-most}
 use Rattle.network.specs.declared.Frame.{Frame}
-use Rattle.network.specs.Edges.{edges, Checked}
+use Rattle.network.specs.Edges.{Checked}
 use Rattle.network.proofs.Numbers.{edges-le}
-use Rattle.contour_rules.specs.Picture.{Picture, picture}
+use Rattle.contour_rules.specs.Picture.{picture}
 use Rattle.contour_rules.specs.Contours.{contoursOf, edgesOf, countsOf, closedOf}
 use Rattle.wkt.specs.declared.Cursor.{Cursor}
 use Rattle.wkt.specs.Text.{textOf}

@@ -1,26 +1,18 @@
 -- A line that is told of a text that fills the room is the first at fault, whatever follows. Assumes nothing.
 use Rattle.grid.proofs.LineLaws.{line-room}
 use Prim.Native.Nat.{ℕ, zero, suc, _+_, _≤_, _<_}
-use mathlib.Core.Path.{_≡_, refl, sym, ap, _∙_}
-use mathlib.Core.Bool.{Bool, true, false, cond}
+use mathlib.Core.{Path._≡_, Path.refl, Path.sym, Path.ap, Path._∙_, Bool.Bool, Bool.true, Bool.false, Bool.cond}
 use mathlib.Core.List.{List, [], _∷_, _++_, map}
 use native.Mathlib.Omega.{arith}
 use borrow.Author.Tests.{lt-leb, ltb-true, ltb-false}
-use lib.Dec.{ltb, leb}
-use lib.ListN.{length, getD, drop, length-append, length-drop}
-use lib.Seq.{getD-drop}
-use Rattle.text.specs.Number.{isGot}
-use Rattle.text.specs.Line.{firstLine, linesOf}
-use Rattle.text.proofs.Digits.{either}
-use Rattle.text.proofs.Lines.{lines-step}
+use lib.{Dec.ltb, Dec.leb, ListN.length, ListN.getD, ListN.drop, ListN.length-append, ListN.length-drop, Seq.getD-drop}
+use Rattle.text.specs.{Number.isGot, Line.firstLine, Line.linesOf}
+use Rattle.text.proofs.{Digits.either, Lines.lines-step, Streams.stream-line}
 use Rattle.grid.specs.Row.{isRow}
 use Rattle.grid.specs.File.{ncols, nrows, xllcenter, yllcenter, cellsize, unnamed, numberAfter, names, namesWell}
 use Rattle.grid.specs.File.{sixth, spelledIn, headOn, namedOn, noDataOf, rowsOf, firstOff, faultLine}
-use Rattle.contours_steps.specs.Sheet.{lineBegun, maxText, overlongLine}
-use Rattle.contours_steps.specs.Told.{FillsRoom}
-use Rattle.contours_steps.proofs.Overlong.{overlong-twelve}
-use Rattle.text.proofs.Streams.{stream-line}
-use Rattle.contours_steps.proofs.Begun.{unended}
+use Rattle.contours_steps.specs.{Sheet.lineBegun, Sheet.maxText, Sheet.overlongLine, Told.FillsRoom}
+use Rattle.contours_steps.proofs.{Overlong.overlong-twelve, Begun.unended}
 
 -- ---- a line that is ended stays, whatever follows
 

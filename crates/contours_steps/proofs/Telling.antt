@@ -1,47 +1,35 @@
 -- What is written, line by line, and what is refused, reason by reason. Assumes nothing.
-use Prim.Native.Nat.{ℕ, zero, suc, _+_, _/_, _%_, _≤_, _<_}
+use Prim.Native.Nat.{ℕ, zero, suc, _+_, _≤_, _<_}
 use mathlib.Core.Path.{_≡_, refl, sym, ap, _∙_}
 use mathlib.Core.Bool.{Bool, true, false, cond, _&&_}
 use mathlib.Core.List.{List, [], _∷_, _++_, append-assoc, map}
 use native.Mathlib.Omega.{arith}
-use borrow.Author.Tests.{eq-eqb, ne-eqb, eqb-true, le-leb, lt-leb, leb-true}
-use lib.Dec.{eqb, leb}
-use lib.ListN.{length, getD, length-map, List·getD-map}
+use borrow.Author.Tests.{eq-eqb, ne-eqb, le-leb, lt-leb}
+use lib.{Dec.leb, ListN.length, ListN.getD, ListN.length-map}
 use Rattle.refusal.specs.Range.{allWithin}
 use Rattle.refusal.proofs.Laws.{and-left, and-right}
-use Rattle.text.specs.Number.{levelOf, isGot, showLevel}
-use Rattle.text.specs.Field.{countOf}
-use Rattle.text.specs.Line.{linesOf}
+use Rattle.text.specs.{Number.levelOf, Number.isGot, Number.showLevel, Field.countOf, Line.linesOf}
 use Rattle.text.specs.declared.number.Number.{Number}
 use Rattle.text.specs.declared.number.Number.the-variants.{Got, Off}
-use Rattle.text.proofs.Digits.{either}
-use Rattle.text.proofs.Exact.{level-exact}
-use Rattle.text.proofs.Fields.{count-append}
-use Rattle.text.proofs.Free.{decimal-free, level-free}
+use Rattle.text.proofs.{Digits.either, Exact.level-exact, Fields.count-append, Free.decimal-free, Free.level-free}
 use Rattle.text.proofs.Shown.{level-back}
 use Rattle.network.specs.declared.Frame.{Frame}
-use Rattle.network.specs.Edges.{edgeAt}
-use Rattle.network.specs.Limits.{maxNetworkLevel}
-use Rattle.network.specs.Refusals.{sided, placed, filled}
-use Rattle.contour_rules.specs.Contours.{Contour, bit, contoursOf}
-use Rattle.contour_rules.specs.Picture.{picture}
-use Rattle.wkt.specs.Calls.{networkText}
-use Rattle.wkt.specs.Places.{spotOf}
+use Rattle.network.specs.{Edges.edgeAt, Limits.maxNetworkLevel, Refusals.sided, Refusals.placed, Refusals.filled}
+use Rattle.contour_rules.specs.{Contours.Contour, Contours.bit, Contours.contoursOf, Picture.picture}
+use Rattle.wkt.specs.{Calls.networkText, Places.spotOf}
 use Rattle.wkt.specs.Text.{showMetres, placeText, bracket, comma, pointsText, linesText, multilinestring, empty}
 use Rattle.wkt.specs.Text.{textOf, pointsOf}
 use Rattle.grid.specs.Row.{all, rowGiven, levelsOf}
 use Rattle.grid.specs.File.{frameOf, noDataOf, rowsOf, faultLine, rowsFit}
 use Rattle.grid.specs.Read.{headerSize, textFrame, textLevels, linesRefusal}
 use Rattle.grid.specs.Write as write
-use Rattle.grid.proofs.WriteSizes.{text-cons, text-none}
-use Rattle.grid.proofs.ValueLaws.{all-cons, all-none}
+use Rattle.grid.proofs.{WriteSizes.text-cons, WriteSizes.text-none, ValueLaws.all-cons, ValueLaws.all-none}
 use Rattle.grid.proofs.Values.{lines-apart}
 use Rattle.contours_steps.specs.Words.{wordLevel, isContour, maxContourLevels, wordsRefusal, levelsIn}
 use Rattle.contours_steps.specs.Sheet.{lineStart, levelLines, sheetOf, maxPointsDrawn, textRefusal, refusalOf}
 use Rattle.contours_steps.specs.Sheet.{refusedAt, refusedLine, writtenOf}
 use Rattle.contours_steps.specs.Told.{headingText, Spells, EachWord, Judged}
-use Rattle.contours_steps.proofs.Levels.{word-range}
-use Rattle.contours_steps.proofs.Drawings.{fine-both, words-fine}
+use Rattle.contours_steps.proofs.{Levels.word-range, Drawings.fine-both, Drawings.words-fine}
 
 -- ---- no text of contours has a CR
 metres-free : (n : ℕ) → countOf 13 (showMetres n) ≡ 0

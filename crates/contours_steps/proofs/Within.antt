@@ -1,22 +1,18 @@
 -- How a refusal is spelled, and which line is told of bytes that can't be read on, and of bytes that fill the room.
 -- Assumes nothing.
-use Prim.Native.Nat.{ℕ, zero, suc, _+_, _≤_, _<_}
-use mathlib.Core.Path.{_≡_, refl, sym, ap, _∙_}
-use mathlib.Core.Bool.{Bool, true, false, cond, _&&_, and-false}
+use Prim.Native.Nat.{ℕ, _+_, _≤_, _<_}
+use mathlib.Core.{Path._≡_, Path.refl, Path.sym, Path.ap, Bool._&&_, Bool.and-false}
 use mathlib.Core.List.{List, [], _∷_, _++_}
 use native.Mathlib.Omega.{arith}
 use borrow.Author.Tests.{eq-eqb, ne-eqb, eqb-true, leb-true, leb-false, ltb-true}
-use lib.Dec.{eqb, leb, ltb}
-use lib.ListN.{length}
+use lib.{Dec.eqb, Dec.leb, Dec.ltb, ListN.length}
 use Rattle.refusal.proofs.Laws.{and-right}
-use Rattle.text.specs.Line.{onto, linesOf}
-use Rattle.text.specs.Number.{shown}
+use Rattle.text.specs.{Line.onto, Line.linesOf, Number.shown}
 use Rattle.text.proofs.Digits.{either}
 use Rattle.grid.specs.File.{faultLine}
 use Rattle.contours_steps.specs.Sheet.{refusedLine, lineBegun, overlongLine, overlongOf}
 use Rattle.contours_steps.specs.Told.{lineEnds, RefusalSpelled, FailsPast, TellsWithin}
-use Rattle.contours_steps.proofs.Begun.{overlong-head, overlong-ended}
-use Rattle.contours_steps.proofs.Stays.{fault-back}
+use Rattle.contours_steps.proofs.{Begun.overlong-head, Begun.overlong-ended, Stays.fault-back}
 
 pub refusal-spelled : RefusalSpelled
 unfolding refusedLine shown

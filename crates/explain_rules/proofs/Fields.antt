@@ -1,18 +1,13 @@
 -- The fields of a line, each at its place: no field has a comma or a CR. Assumes nothing.
-use mathlib.Core.Path.{_≡_, refl, _∙_}
-use mathlib.Core.List.{[], _∷_}
+use mathlib.Core.{Path._≡_, Path.refl, Path._∙_, List.[], List._∷_}
 use Prim.Native.Nat.{ℕ, zero, suc, _+_, _/_, _%_, _<_}
 use native.Mathlib.Omega.{arith}
-use lib.ListN.{getD}
-use lib.Dec.{eqb}
+use lib.{ListN.getD, Dec.eqb}
 use Rattle.movement.specs.declared.period.Period.{Period}
 use Rattle.movement.specs.declared.period.Period.the-variants.{Day, Evening, Night}
 use Rattle.movement.specs.Group.{groupPeriod}
-use Rattle.text.specs.Field.{countOf, fieldOf}
-use Rattle.text.specs.Number.{showNumber}
-use Rattle.text.specs.Spelled.{bytes}
-use Rattle.text.proofs.Digits.{either}
-use Rattle.text.proofs.Fields.{Free, count-append, join-field, join-count-all}
+use Rattle.text.specs.{Field.countOf, Field.fieldOf, Number.showNumber, Spelled.bytes}
+use Rattle.text.proofs.{Digits.either, Fields.Free, Fields.count-append, Fields.join-field, Fields.join-count-all}
 use Rattle.text.proofs.Free.{byte-free, nil-free, shown-free}
 use Rattle.register.specs.Letter.{typeLetters, kindLetters, showLetter}
 use Rattle.report_text.specs.Text.{line}

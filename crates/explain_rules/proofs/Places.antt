@@ -1,21 +1,16 @@
 -- Where each line stands: behind the header, the points before its own, and the groups before its own that have a
 -- movement. Assumes nothing.
-use mathlib.Core.Path.{_≡_, refl, sym, ap, _∙_}
-use mathlib.Core.Bool.{Bool, true, cond}
+use mathlib.Core.{Path._≡_, Path.refl, Path.sym, Path.ap, Path._∙_, Bool.Bool, Bool.true, Bool.cond}
 use mathlib.Core.List.{List, [], _∷_, _++_}
 use Prim.Native.Nat.{ℕ, zero, suc, _+_, _-_, _*_, _≤_, _<_}
-use native.Mathlib.Nat.{suc-mul, mul-le-mul-right}
-use native.Mathlib.Omega.{arith}
-use lib.ListN.{length, getD, length-append, List·getD-append}
-use lib.Seq.{getD-at, getD-append-add}
+use native.Mathlib.{Nat.suc-mul, Nat.mul-le-mul-right, Omega.arith}
+use lib.{ListN.length, ListN.getD, ListN.length-append, ListN.List·getD-append, Seq.getD-at, Seq.getD-append-add}
 use lib.Dec.{eqb, ltb}
 use borrow.Author.Tests.{eqb-true, eqb-false, ltb-true, ltb-false}
 use Rattle.movement.specs.Limits.{groupCount}
 use Rattle.book_rules.specs.Columns.{Book}
-use Rattle.text.specs.Field.{countOf}
-use Rattle.text.specs.Index.{many}
-use Rattle.text.proofs.Digits.{either}
-use Rattle.text.proofs.Fields.{Free}
+use Rattle.text.specs.{Field.countOf, Index.many}
+use Rattle.text.proofs.{Digits.either, Fields.Free}
 use Rattle.report_text.specs.Text.{line}
 use Rattle.explain_text.specs.declared.amounts.Amounts.{Amounts}
 use Rattle.explain_text.specs.Text.{groupFields, allFields, stands, groupLine, groupLines}
@@ -151,12 +146,7 @@ module _ (p : ℕ) (b : Book) where
     points-length zero each = omega arith
     points-length (suc n) each =
         length-append (linesTo p b n) (linesAt p n b)
-        ∙ omega (
-          arith,
-          points-length n (λ pt h. each pt (omega arith)),
-          each n (omega arith),
-          suc-mul n m,
-        )
+        ∙ omega (arith, points-length n (λ pt h. each pt (omega arith)), each n (omega arith), suc-mul n m)
 
     pub points-at : (n pt j : ℕ) → pt < n → j < m → ((q : ℕ) → q < n → length (linesAt p q b) ≡ m)
         → getD (linesTo p b n) (pt * m + j) [] ≡ getD (linesAt p pt b) j []

@@ -1,38 +1,27 @@
 -- The text of explain, read back from its own bytes, says V, U, S, both factors, P and the total of the movements that
 -- stand. Assumes nothing.
 use mathlib.Core.Path.{_≡_, refl, sym, ap, subst, fun-ext, _∙_}
-use mathlib.Core.Bool.{Bool, true, cond}
-use mathlib.Core.List.{List, [], _∷_}
+use mathlib.Core.{Bool.Bool, Bool.true, Bool.cond, List.List, List.[], List._∷_}
 use Prim.Native.Nat.{ℕ, zero, suc, _+_, _*_, _/_, _%_, _<_}
 use native.Mathlib.Omega.{arith}
-use lib.ListN.{length, getD}
-use lib.Dec.{ltb}
+use lib.{ListN.length, ListN.getD, Dec.ltb}
 use borrow.Author.Tests.{eq-eqb, ne-eqb, lt-ltb}
-use Rattle.movement.specs.Period.{periodNumbered}
-use Rattle.movement.specs.Group.{groupPeriod}
+use Rattle.movement.specs.{Period.periodNumbered, Group.groupPeriod}
 use Rattle.book_rules.specs.Columns.{Book}
 use Rattle.book_rules.specs.History.{Movement, Made, emptyBook, booked, movements}
 use Rattle.load_rules.specs.declared.Group.{Group}
-use Rattle.load_rules.specs.Shares.{Share, sharesOf}
-use Rattle.load_rules.specs.Tally.{tally}
-use Rattle.load_rules.specs.Factors.{sumTo}
-use Rattle.load_rules.specs.Load.{answer}
+use Rattle.load_rules.specs.{Shares.Share, Shares.sharesOf, Tally.tally, Factors.sumTo, Load.answer}
 use Rattle.load_rules.specs.Afresh.{computedIn, missingIn, energyOfGroup, loadAfter}
 use Rattle.load_rules.specs.Account.{groupsOf, accountOf, accountAfter}
-use Rattle.load_rules.proofs.SumLaws.{sum-ext}
-use Rattle.load_rules.proofs.ListLaws.{list-computed, list-missing, list-energy}
+use Rattle.load_rules.proofs.{SumLaws.sum-ext, ListLaws.list-computed, ListLaws.list-missing, ListLaws.list-energy}
 use Rattle.load_rules.proofs.HistoryLaws.{history-shares}
 use Rattle.load_rules.proofs.Accounts.{account-group, account-whole, accounts-each}
-use Rattle.text.specs.Line.{linesOf}
-use Rattle.text.specs.Field.{fieldOf}
-use Rattle.text.specs.Index.{many}
-use Rattle.text.specs.Number.{showNumber}
+use Rattle.text.specs.{Line.linesOf, Field.fieldOf, Index.many, Number.showNumber}
 use Rattle.text.proofs.Fields.{Free}
 use Rattle.register.specs.declared.limits_csv.LimitsFile.{LimitsFile}
 use Rattle.register.specs.Letter.{typeLetters, kindLetters, showLetter}
 use Rattle.report_text.specs.Text.{ended, line, bookRefusal, bookText}
-use Rattle.report_rules.proofs.Printed.{atLeast, least-free, lines-ended}
-use Rattle.report_rules.proofs.WholeText.{last-ended}
+use Rattle.report_rules.proofs.{Printed.atLeast, Printed.least-free, Printed.lines-ended, WholeText.last-ended}
 use Rattle.explain_text.specs.declared.amounts.Amounts.{Amounts}
 use Rattle.explain_text.specs.Text.{groupAmounts, allAmounts, periodText, factorText, groupFields, allFields, stands}
 use Rattle.explain_text.specs.Text.{linesAt, linesTo, headerLine, pointsText, explainText}
@@ -248,8 +237,4 @@ unfolding explainText bookText
 refused-is l b ne = rw (ne-eqb (bookRefusal l b) 0 ne) refl
 
 pub explain-text : (l : LimitsFile) (n : ℕ) (cs : List Made) → ExplainText l n cs
-explain-text l n cs =
-    record {
-      refused = refused-is l (booked (emptyBook (l .points) n) cs);
-      says = says l n cs;
-    }
+explain-text l n cs = record { refused = refused-is l (booked (emptyBook (l .points) n) cs); says = says l n cs }

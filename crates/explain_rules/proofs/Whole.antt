@@ -1,7 +1,6 @@
 -- The text of explain from bytes to bytes: refusals are the report's, and any other register is explained.
 -- Assumes nothing.
-use mathlib.Core.Path.{_≡_, refl, sym, ap, _∙_}
-use mathlib.Core.List.{List}
+use mathlib.Core.{Path._≡_, Path.refl, Path.sym, Path.ap, Path._∙_, List.List}
 use Prim.Native.Nat.{ℕ}
 use Rattle.book_rules.specs.History.{emptyBook, booked}
 use Rattle.register.specs.declared.limits_csv.LimitsFile.{LimitsFile}
@@ -10,11 +9,9 @@ use Rattle.report_steps.specs.Reading.{Reading}
 use Rattle.report_steps.proofs.Bookings.{register-booked}
 use Rattle.report_text.specs.Text.{bookText, bookRefusal}
 use Rattle.report_rules.specs.Report.{bookRows, Telling, readingText, answerOf, reportOf}
-use Rattle.report_rules.specs.Flights.{bookIn}
-use Rattle.report_rules.specs.WholeText.{readIn}
+use Rattle.report_rules.specs.{Flights.bookIn, WholeText.readIn}
 use Rattle.report_rules.proofs.Answers.{reading-refused, reading-reported, register-text, report-refused}
-use Rattle.report_rules.proofs.Answers.{report-accepted}
-use Rattle.report_rules.proofs.Flights.{all-stand}
+use Rattle.report_rules.proofs.{Answers.report-accepted, Flights.all-stand}
 use Rattle.explain_text.specs.Text.{explainText}
 use Rattle.explain_rules.specs.Says.{textAfter, ExplainSays}
 use Rattle.explain_rules.specs.Explain.{explainOf, callsIn, ExplainWhole}

@@ -1,15 +1,10 @@
--- The lines of the text, as the writers group them.
--- Assumes nothing.
-use mathlib.Core.Path.{_≡_, refl, sym, ap, _∙_}
-use mathlib.Core.Bool.{true, false}
+-- The lines of the text, as the writers group them. Assumes nothing.
+use mathlib.Core.{Path._≡_, Path.refl, Path.sym, Path.ap, Path._∙_, Bool.true, Bool.false}
 use mathlib.Core.List.{List, [], _∷_, _++_, append-assoc}
 use Prim.Native.Nat.{ℕ, _+_}
 use native.Mathlib.Numerals.{add-one}
-use Rattle.movement.specs.Limits.{groupCount}
-use Rattle.movement.specs.Group.{groupPeriod}
-use Rattle.text.specs.Number.{showNumber}
-use Rattle.text.specs.Field.{joinedBy}
-use Rattle.text.specs.Spelled.{bytes}
+use Rattle.movement.specs.{Limits.groupCount, Group.groupPeriod}
+use Rattle.text.specs.{Number.showNumber, Field.joinedBy, Spelled.bytes}
 use Rattle.report_text.specs.Text.{comma, lineEnd, ended, line}
 use Rattle.report_text.proofs.Lines.{ended-append}
 use Rattle.explain_text.specs.declared.amounts.Amounts.{Amounts}

@@ -1,10 +1,7 @@
--- The lines of the points, one after another, behind the header; and the whole text by its refusal.
--- Assumes nothing.
-use mathlib.Core.Path.{_≡_, refl, sym}
-use mathlib.Core.List.{List, [], _++_}
+-- The lines of the points, one after another, behind the header; and the whole text by its refusal. Assumes nothing.
+use mathlib.Core.{Path._≡_, Path.refl, Path.sym, List.List, List.[], List._++_}
 use Prim.Native.Nat.{ℕ, _+_, _≤_}
-use native.Mathlib.Numerals.{add-one}
-use native.Mathlib.Omega.{arith}
+use native.Mathlib.{Numerals.add-one, Omega.arith}
 use lib.ListN.{length, length-append}
 use borrow.Author.Tests.{ne-eqb}
 use Rattle.book_rules.specs.Columns.{Book}

@@ -1,10 +1,7 @@
--- Sums of the groups' numbers, one group more; and each summand is at most the sum.
--- Assumes nothing.
-use mathlib.Core.Path.{_≡_, refl, ap, subst}
-use mathlib.Core.List.{List}
+-- Sums of the groups' numbers, one group more; and each summand is at most the sum. Assumes nothing.
+use mathlib.Core.{Path._≡_, Path.refl, Path.ap, Path.subst, List.List}
 use Prim.Native.Nat.{ℕ, _+_, _-_, _≤_, _<_}
-use native.Mathlib.Numerals.{add-one}
-use native.Mathlib.Omega.{arith}
+use native.Mathlib.{Numerals.add-one, Omega.arith}
 use Rattle.movement.specs.Limits.{groupCount}
 use Rattle.load_rules.specs.Factors.{sumTo}
 use Rattle.load_rules.proofs.SumLaws.{sum-more}

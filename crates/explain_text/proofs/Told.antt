@@ -1,7 +1,6 @@
 -- The numbers of an account are those of the text: V, U, S and what each group gives, both factors, P and the total.
 -- Assumes nothing.
-use mathlib.Core.Path.{_≡_, refl, ap, _∙_}
-use mathlib.Core.List.{List, [], append-nil}
+use mathlib.Core.{Path._≡_, Path.refl, Path.ap, Path._∙_, List.List, List.[], List.append-nil}
 use Prim.Native.Nat.{ℕ, zero, suc, _+_, _≤_, _<_}
 use native.Mathlib.Omega.{arith}
 use lib.ListN.{length, getD, drop, drop-of-length-le}
@@ -11,16 +10,12 @@ use Rattle.movement.specs.Limits.{groupCount}
 use Rattle.book_rules.specs.Columns.{Book}
 use Rattle.room.specs.Room.{Writes}
 use Rattle.load_rules.specs.declared.Group.{Group}
-use Rattle.load_rules.specs.Shares.{bookShares}
-use Rattle.load_rules.specs.Factors.{sumTo}
-use Rattle.load_rules.specs.Load.{answer, bookLoad}
+use Rattle.load_rules.specs.{Shares.bookShares, Factors.sumTo, Load.answer, Load.bookLoad}
 use Rattle.load_rules.specs.Account.{groupNumbers, groupsOf, accountFrom, accountOf}
-use Rattle.load_rules.proofs.SumLaws.{sum-add, sum-ext}
-use Rattle.load_rules.proofs.RowRefusals.{book-refusals}
+use Rattle.load_rules.proofs.{SumLaws.sum-add, SumLaws.sum-ext, RowRefusals.book-refusals}
 use Rattle.load_rules.proofs.Accounts.{length-account, account-group, account-whole}
 use Rattle.load.specs.InnerSteps.{table, groupAt}
-use Rattle.load.proofs.CellLaws.{at-table}
-use Rattle.load.proofs.RowLaws.{rows-bounded}
+use Rattle.load.proofs.{CellLaws.at-table, RowLaws.rows-bounded}
 use Rattle.explain_text.specs.declared.amounts.Amounts.{Amounts}
 use Rattle.explain_text.specs.Text.{groupAmounts, allAmounts, groupLines, pointLines, linesAt}
 use Rattle.explain_text.specs.InnerNumbers.{numberAt, wholeAt, sumAt, Addable, groupIn, allIn}

@@ -1,11 +1,8 @@
 -- limits.csv as it was read. Assumes nothing.
-use mathlib.Core.Path.{_≡_, sym, ap, _∙_}
-use mathlib.Core.List.{List}
+use mathlib.Core.{Path._≡_, Path._∙_, List.List}
 use Prim.Native.Nat.{ℕ}
 use native.Mathlib.Omega.{arith}
-use lib.Dec.{eqb}
-use lib.ListN.{length, take}
-use lib.Seq.{length-take-le}
+use lib.{Dec.eqb, ListN.length, ListN.take, Seq.length-take-le}
 use borrow.Author.Tests.{eqb-true, eqb-false}
 use Rattle.text.proofs.Digits.{either}
 use Rattle.channel.specs.declared.whole.Filled.{Filled}

@@ -1,28 +1,19 @@
--- The texts of the program's steps, and which answer each is.
--- Assumes nothing.
-use mathlib.Core.Path.{_≡_, refl, sym, ap, _∙_}
-use mathlib.Core.Bool.{Bool, true}
-use mathlib.Core.List.{List, [], _++_}
-use Prim.Native.Nat.{ℕ, _≤_, _<_}
-use native.Mathlib.Omega.{arith}
-use lib.Dec.{eqb}
-use lib.ListN.{length, take}
+-- The texts of the program's steps, and which answer each is. Assumes nothing.
+use mathlib.Core.{Path._≡_, Path.sym, Path._∙_, Bool.Bool, List.List, List.[], List._++_}
+use Prim.Native.Nat.{ℕ}
+use lib.{Dec.eqb, ListN.take}
 use borrow.Author.Tests.{ne-eqb, eqb-true, eqb-false}
 use Rattle.room.specs.Room.{Wrote}
 use Rattle.room.proofs.Laws.{wrote-front, wrote-fits}
 use Rattle.text.proofs.Digits.{either}
-use Rattle.book_rules.specs.Columns.{Book}
-use Rattle.book_rules.specs.History.{emptyBook}
+use Rattle.book_rules.specs.{Columns.Book, History.emptyBook}
 use Rattle.register.specs.declared.limits_csv.LimitsFile.{LimitsFile}
 use Rattle.register.specs.LimitsFile.{limitsOf}
-use Rattle.report_steps.specs.Reading.{Reading, readingAt, registered}
-use Rattle.report_text.specs.Text.{refusedText, bookText}
+use Rattle.report_steps.specs.Reading.{readingAt, registered}
+use Rattle.report_text.specs.{Text.refusedText, Text.bookText, InnerRoom.longestRefused, InnerRoom.WroteWithin}
 use Rattle.explain_text.specs.Text.{explainText}
-use Rattle.report_text.specs.InnerRoom.{longestRefused, WroteWithin}
-use Rattle.channel.specs.System.{none-came, none-went}
-use Rattle.channel.specs.Output.{Writes}
-use Rattle.channel.specs.Input.{input}
-use Rattle.report_rules.specs.Report.{bookRows, Telling, registerText, endless, Opened, Written, Ran, Run}
+use Rattle.channel.specs.{System.none-came, System.none-went, Output.Writes, Input.input}
+use Rattle.report_rules.specs.Report.{bookRows, Telling, registerText, endless, Opened, Written, Run}
 use Rattle.report_rules.specs.Report.Came.{whole, stopped, failed}
 use Rattle.report_rules.proofs.Answers.{reading-refused, reading-reported, register-text, report-refused}
 use Rattle.report_rules.proofs.Answers.{answers-accepted}

@@ -1,24 +1,19 @@
--- The turns of a reading: what each promises, put together, is what the whole register gives.
--- Assumes nothing.
+-- The turns of a reading: what each promises, put together, is what the whole register gives. Assumes nothing.
 use Rattle.report_rules.proofs.Refusing.{closing-refused}
-use mathlib.Core.Path.{_≡_, refl, sym, ap, _∙_}
-use mathlib.Core.Bool.{true, false, cond, _&&_}
-use mathlib.Core.List.{List, [], _∷_, _++_, append-nil, append-assoc}
+use mathlib.Core.{Path._≡_, Path.refl, Path.sym, Path.ap, Path._∙_, Bool.true}
+use mathlib.Core.List.{List, [], _++_, append-nil, append-assoc}
 use Prim.Native.Nat.{ℕ, _+_, _-_, _*_, _^_, _≤_, _<_}
 use native.Mathlib.Omega.{arith}
 use lib.Dec.{eqb}
 use lib.ListN.{length, take, length-take, replicate, length-replicate, replicate-append-replicate}
 use lib.Seq.{take-at}
-use borrow.Author.Tests.{ne-eqb, eqb-true, eqb-false}
-use Rattle.channel.specs.System.{Whole, Broken, none-came}
-use Rattle.channel.specs.Input.{input, Came}
+use borrow.Author.Tests.{eqb-true, eqb-false}
+use Rattle.channel.specs.{System.Whole, System.Broken, System.none-came, Input.input, Input.Came}
 use Rattle.text.proofs.Digits.{either}
-use Rattle.book_rules.specs.Columns.{Book, bookOf, sound}
-use Rattle.book_rules.specs.History.{emptyBook}
+use Rattle.book_rules.specs.{Columns.Book, Columns.bookOf, Columns.sound, History.emptyBook}
 use Rattle.report_steps.specs.Stream.{longestLine}
-use Rattle.report_steps.specs.Reading.{Reading, readingAt, offAt, opening, closing, registered, readOn, Onward}
-use Rattle.report_steps.proofs.Readings.{onward-more, onward-then, stuck}
-use Rattle.report_steps.proofs.LongLines.{endless-off}
+use Rattle.report_steps.specs.Reading.{Reading, readingAt, offAt, opening, closing, registered, Onward}
+use Rattle.report_steps.proofs.{Readings.onward-more, Readings.onward-then, Readings.stuck, LongLines.endless-off}
 use Rattle.text.specs.Line.{linesOf}
 use Rattle.report_rules.specs.Report.{endless}
 use Rattle.files.specs.declared.feed.Turn.{Turn}

@@ -5,29 +5,22 @@ use Prim.Native.Nat.{ℕ, zero, suc, _+_, _*_, _≤_}
 use mathlib.Core.Path.{_≡_, refl, sym, ap, _∙_}
 use mathlib.Core.List.{List, [], _∷_, _++_, map}
 use mathlib.Core.Bool.{Bool, true, false, _&&_, and-false, true≢false}
-use native.Mathlib.Nat.{suc-mul}
-use native.Mathlib.Omega.{arith}
+use native.Mathlib.{Nat.suc-mul, Omega.arith}
 use borrow.Author.Tests.{eqb-true, ltb-true, ltb-false}
-use lib.Dec.{eqb, leb, ltb}
-use lib.ListN.{length, getD, take, drop, length-drop}
+use lib.{Dec.eqb, Dec.leb, Dec.ltb, ListN.length, ListN.getD, ListN.take, ListN.drop, ListN.length-drop}
 use lib.Seq.{drop-append-le, take-append-le, take-all, drop-at}
 use Rattle.refusal.proofs.Laws.{and-left, and-right}
-use Rattle.text.specs.Number.{isGot, valueOf, showLevel}
-use Rattle.text.specs.Field.{joinedBy}
-use Rattle.text.specs.Line.{onto, linesOf}
+use Rattle.text.specs.{Number.isGot, Number.valueOf, Number.showLevel, Field.joinedBy, Line.onto, Line.linesOf}
 use Rattle.text.specs.Same.{sameText}
-use Rattle.text.proofs.Digits.{either, got-value}
-use Rattle.text.proofs.Lines.{lines-step}
+use Rattle.text.proofs.{Digits.either, Digits.got-value, Lines.lines-step}
 use Rattle.grid.specs.Row.{all, valuesOf, given, isValue, isRow, hasValues, rowGiven, levelIn, rowLevels}
 use Rattle.grid.specs.Row.{levelsOf}
 use Rattle.grid.specs.File.{ncols, nrows, xllcenter, yllcenter, cellsize, unnamed, begins, numberAfter, names}
 use Rattle.grid.specs.File.{sixth, headOn, namedOn, frameOf, noDataOf, rowsOf, firstOff, faultLine, rowsFit}
 use Rattle.grid.specs.Read.{textFrame, textLevels, readRefusal}
 use Rattle.grid.specs.Write.{keyLine, headLines, rowLine, rowLines, textOf, networkLines, showNetwork}
-use Rattle.grid.proofs.ValueLaws.{all-cons}
-use Rattle.grid.proofs.StoreLaws.{length-levels, levels-length}
-use Rattle.grid.proofs.FileLaws.{off-append, off-keep}
-use Rattle.grid.proofs.ReadLaws.{fit-both, passed}
+use Rattle.grid.proofs.{ValueLaws.all-cons, StoreLaws.length-levels, StoreLaws.levels-length}
+use Rattle.grid.proofs.{FileLaws.off-append, FileLaws.off-keep, ReadLaws.fit-both, ReadLaws.passed}
 use Rattle.grid.proofs.Values.{key-line, value-is}
 
 -- ---- lines and their text

@@ -1,24 +1,17 @@
 -- A network that can be written, written and read again, is the same network. Assumes nothing.
 use Prim.Native.Nat.{ℕ, zero, suc, _+_, _*_, _≤_}
-use mathlib.Core.Path.{_≡_, refl, sym, ap, _∙_}
-use mathlib.Core.List.{List, [], _∷_, map}
+use mathlib.Core.{Path._≡_, Path.refl, Path.sym, Path.ap, Path._∙_, List.List, List.[], List._∷_, List.map}
 use mathlib.Core.Bool.{Bool, true, false}
-use native.Mathlib.Nat.{suc-mul, zero-mul}
-use native.Mathlib.Omega.{arith}
+use native.Mathlib.{Nat.suc-mul, Nat.zero-mul, Omega.arith}
 use borrow.Author.Tests.{eq-eqb, eqb-true, eqb-false, le-leb}
-use lib.Dec.{eqb}
-use lib.ListN.{length, getD, take, drop, length-drop, length-map}
+use lib.{Dec.eqb, ListN.length, ListN.getD, ListN.take, ListN.drop, ListN.length-drop, ListN.length-map}
 use lib.Seq.{take-add, take-all, take-at, length-take-le}
-use Rattle.text.specs.Number.{showLevel}
-use Rattle.text.specs.Field.{countOf}
-use Rattle.text.specs.Line.{linesOf}
+use Rattle.text.specs.{Number.showLevel, Field.countOf, Line.linesOf}
 use Rattle.text.specs.declared.number.Number.the-variants.{Got}
 use Rattle.text.proofs.Digits.{either}
 use Rattle.refusal.proofs.Laws.{and-left, and-right}
 use Rattle.room.specs.Room.{front}
-use Rattle.network.specs.Edges.{Checked}
-use Rattle.network.specs.Limits.{maxNetworkLevel}
-use Rattle.network.specs.Refusals.{networkRefusal}
+use Rattle.network.specs.{Edges.Checked, Limits.maxNetworkLevel, Refusals.networkRefusal}
 use Rattle.network.specs.declared.Frame.{Frame}
 use Rattle.network.proofs.Refusals.{not-refused, checked-on, checked-off}
 use Rattle.grid.specs.Row.{all, valuesOf, isRow, hasValues, rowGiven, rowLevels, levelsOf}
@@ -27,11 +20,8 @@ use Rattle.grid.specs.File.{headOn, namedOn, frameOf, noDataOf, rowsOf, 
 use Rattle.grid.specs.Read.{numbersOf, headerSize, textFrame, textLevels, linesRefusal, readRefusal}
 use Rattle.grid.specs.Read.{headerAfter, levelsAfter}
 use Rattle.grid.specs.Write.{rowLine, rowAt, rowLines, networkLines, showNetwork, writeRefusal, textAfter}
-use Rattle.grid.specs.Write.{sizeAfter}
-use Rattle.grid.specs.InnerSteps.{Quiet, Near}
-use Rattle.grid.proofs.FileLaws.{off-append}
-use Rattle.grid.proofs.WriteSizes.{near}
-use Rattle.grid.proofs.WriteLaws.{quiet-part, row-first}
+use Rattle.grid.specs.{Write.sizeAfter, InnerSteps.Quiet, InnerSteps.Near}
+use Rattle.grid.proofs.{FileLaws.off-append, WriteSizes.near, WriteLaws.quiet-part, WriteLaws.row-first}
 use Rattle.grid.proofs.Values.{Free, lines-apart, values-apart, row-free, texts-row, texts-given, texts-levels}
 use Rattle.grid.proofs.Values.{number-back, key-free, names-row}
 

@@ -1,12 +1,9 @@
 -- A whole text: what follows the header, and the two together. Assumes nothing.
 use Prim.Native.Nat.{ℕ, suc, _+_, _≤_}
-use mathlib.Core.Path.{_≡_, sym, ap, _∙_}
-use mathlib.Core.List.{List, [], _∷_, _++_, map}
+use mathlib.Core.{Path._≡_, Path.sym, Path.ap, Path._∙_, List.List, List.[], List._∷_, List._++_, List.map}
 use mathlib.Core.Bool.{Bool, true, false, cond}
-use native.Mathlib.Nat.{add-zero}
-use native.Mathlib.Omega.{arith}
-use lib.ListN.{length, drop}
-use lib.Seq.{drop-drop}
+use native.Mathlib.{Nat.add-zero, Omega.arith}
+use lib.{ListN.length, ListN.drop, Seq.drop-drop}
 use Rattle.network.specs.declared.Frame.{Frame}
 use Rattle.text.specs.Line.{linesOf}
 use Rattle.text.proofs.Digits.{either}
@@ -17,8 +14,7 @@ use Rattle.grid.specs.InnerSteps.{linesAt, lineFrom, Passed, rowSound, r
 use Rattle.grid.specs.InnerSteps.{bodyRead, fileRead}
 use Rattle.grid.specs.declared.judge.File.{File}
 use Rattle.grid.specs.declared.judge.File.the-variants.{On, Off}
-use Rattle.grid.proofs.HeadLaws.{line-of}
-use Rattle.grid.proofs.RowLaws.{off-later}
+use Rattle.grid.proofs.{HeadLaws.line-of, RowLaws.off-later}
 
 -- tests that all hold, and then others; tests one of which fails, and then others
 pub off-append : (n : ℕ) (bs cs : List Bool) → 1 ≤ n → firstOff n bs ≡ 0

@@ -1,22 +1,17 @@
 -- Laws of the lines before the rows. Assumes nothing.
 use Prim.Native.Nat.{ℕ, zero, suc, _+_, _-_, _≤_, _<_}
-use mathlib.Core.Path.{_≡_, refl, sym, ap, _∙_}
-use mathlib.Core.List.{List, [], _∷_}
+use mathlib.Core.{Path._≡_, Path.refl, Path.sym, Path.ap, Path._∙_, List.List, List.[], List._∷_}
 use mathlib.Core.Bool.{true, false, true≢false}
 use native.Mathlib.Omega.{arith}
 use borrow.Author.Tests.{ltb-true, ltb-false, ne-eqb}
-use lib.Dec.{ltb}
-use lib.ListN.{length, getD, take, drop, length-drop, List·getD-eq-default}
+use lib.{Dec.ltb, ListN.length, ListN.getD, ListN.take, ListN.drop, ListN.length-drop, ListN.List·getD-eq-default}
 use lib.Seq.{take-all, take-nil, length-take-le, getD-drop, drop-drop}
-use Rattle.text.specs.Line.{linesOf}
+use Rattle.text.specs.{Line.linesOf, Number.isGot}
 use Rattle.text.specs.declared.number.Number.the-variants.{Got, Off}
-use Rattle.text.proofs.Digits.{either}
-use Rattle.text.proofs.Sames.{same-length}
-use Rattle.text.specs.Number.{isGot}
+use Rattle.text.proofs.{Digits.either, Sames.same-length}
 use Rattle.grid.specs.File.{begins, numberAfter, numberAt, headOn, firstOff, namesWell, spelledIn}
 use Rattle.grid.specs.InnerSteps.{linesAt, lineFrom, LineAt, keyRead}
-use Rattle.grid.specs.declared.head.Line.{Line}
-use Rattle.grid.specs.declared.head.Keyed.{Keyed}
+use Rattle.grid.specs.declared.head.{Line.Line, Keyed.Keyed}
 use Rattle.grid.specs.declared.head.Keyed.the-variants as keyed
 use Rattle.grid.proofs.LineLaws.{passed-at}
 

@@ -1,11 +1,9 @@
 -- The line at a place of a text, and the lines past it. Assumes nothing.
 use Prim.Native.Nat.{ℕ, suc, _+_, _-_, _≤_, _<_}
-use mathlib.Core.Path.{_≡_, refl, sym, ap, _∙_}
-use mathlib.Core.List.{List, [], _∷_}
+use mathlib.Core.{Path._≡_, Path.refl, Path.sym, Path.ap, Path._∙_, List.List, List.[], List._∷_}
 use mathlib.Core.Bool.{_&&_, and-false}
 use native.Mathlib.Omega.{arith}
-use lib.Dec.{eqb}
-use lib.ListN.{length, getD, take, drop, length-drop, drop-of-length-le}
+use lib.{Dec.eqb, ListN.length, ListN.getD, ListN.take, ListN.drop, ListN.length-drop, ListN.drop-of-length-le}
 use lib.Seq.{drop-drop}
 use Rattle.text.specs.Line.{firstLine, linesOf}
 use Rattle.text.proofs.Digits.{either}

@@ -3,14 +3,11 @@ use Prim.Native.Nat.{ℕ, _*_, _≤_, _<_}
 use mathlib.Core.Path.{_≡_, refl, sym, ap, _∙_}
 use mathlib.Core.List.{List, [], _∷_, _++_, map}
 use mathlib.Core.Bool.{Bool, true, false, cond, _&&_}
-use native.Mathlib.Nat.{mul-le-mul}
-use native.Mathlib.Omega.{arith}
+use native.Mathlib.{Nat.mul-le-mul, Omega.arith}
 use borrow.Author.Tests.{eqb-true, eq-eqb, ne-eqb, leb-true, le-leb, lt-leb}
-use lib.Dec.{eqb, leb}
-use lib.ListN.{length}
-use Rattle.refusal.specs.Refuse.{refuse}
+use lib.{Dec.eqb, Dec.leb, ListN.length}
+use Rattle.refusal.specs.{Refuse.refuse, Range.allWithin}
 use Rattle.network.specs.Limits.{maxNetworkLevel, maxSide, leastSide}
-use Rattle.refusal.specs.Range.{allWithin}
 use Rattle.network.specs.Refusals.{between, sided, placed, filled, checked}
 use Rattle.network.specs.declared.Frame.{Frame}
 use Rattle.room.specs.Room.{front}

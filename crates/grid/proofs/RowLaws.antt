@@ -1,15 +1,11 @@
 -- The rows of a text, one line after the other. Assumes nothing.
 use Prim.Native.Nat.{ℕ, suc, _+_, _≤_, _<_}
-use mathlib.Core.Path.{_≡_, refl, sym, ap, _∙_}
-use mathlib.Core.List.{List, [], _∷_, map}
+use mathlib.Core.{Path._≡_, Path.refl, Path.sym, Path.ap, Path._∙_, List.List, List.[], List._∷_, List.map}
 use mathlib.Core.Bool.{Bool, true, false, cond, _&&_, and-true}
-use native.Mathlib.Nat.{add-zero, add-assoc}
-use native.Mathlib.Omega.{arith}
-use lib.Dec.{eqb}
-use lib.ListN.{length, drop}
+use native.Mathlib.{Nat.add-zero, Nat.add-assoc, Omega.arith}
+use lib.{Dec.eqb, ListN.length, ListN.drop}
 use Rattle.network.specs.declared.Frame.{Frame}
-use Rattle.grid.specs.Row.{all, valuesOf, isRow, hasValues}
-use Rattle.grid.specs.File.{firstOff, rowsFit}
+use Rattle.grid.specs.{Row.all, Row.valuesOf, Row.isRow, Row.hasValues, File.firstOff, File.rowsFit}
 use Rattle.grid.specs.InnerSteps.{linesAt, lineFrom, LineAt, rowSound, rowOf}
 use Rattle.grid.specs.declared.head.Line.{Line}
 use Rattle.grid.specs.declared.judge.Row.the-variants.{Values, Off}

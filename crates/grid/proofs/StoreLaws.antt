@@ -1,10 +1,8 @@
 -- The levels of rows, stored one after the other. Assumes nothing.
 use Prim.Native.Nat.{ℕ, suc, _+_, _-_, _*_, _≤_, _<_}
 use mathlib.Core.Path.{_≡_, refl, sym, ap, _∙_}
-use mathlib.Core.List.{List, [], _∷_, _++_, map, append-assoc}
-use mathlib.Core.Bool.{true, _&&_}
-use native.Mathlib.Nat.{suc-mul, zero-mul, mul-le-mul-right}
-use native.Mathlib.Omega.{arith}
+use mathlib.Core.{List.List, List.[], List._∷_, List._++_, List.map, List.append-assoc, Bool.true, Bool._&&_}
+use native.Mathlib.{Nat.suc-mul, Nat.zero-mul, Nat.mul-le-mul-right, Omega.arith}
 use borrow.Author.Tests.{eqb-true}
 use lib.ListN.{length, getD, take, drop, length-append, length-drop, length-map}
 use lib.Seq.{drop-drop, getD-drop, drop-at, length-take-le}

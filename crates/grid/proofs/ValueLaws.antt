@@ -1,22 +1,15 @@
 -- The values of a row, one after the other. Assumes nothing.
 use Prim.Native.Nat.{ℕ, suc, _+_, _-_, _≤_, _<_}
-use mathlib.Core.Path.{_≡_, refl, sym, ap, _∙_}
-use mathlib.Core.List.{List, [], _∷_}
+use mathlib.Core.{Path._≡_, Path.refl, Path.sym, Path.ap, Path._∙_, List.List, List.[], List._∷_}
 use mathlib.Core.Bool.{Bool, true, false, cond, _&&_, and-true}
 use native.Mathlib.Omega.{arith}
 use borrow.Author.Tests.{ltb-true, ltb-false, le-leb, lt-leb}
-use lib.Dec.{eqb, ltb}
-use lib.ListN.{length, take, drop, length-drop}
-use lib.Seq.{drop-drop}
-use Rattle.text.specs.Field.{upTo, after}
-use Rattle.text.specs.Line.{onto}
-use Rattle.text.specs.Number.{levelOf, isGot}
-use Rattle.text.specs.Same.{sameText}
+use lib.{Dec.eqb, Dec.ltb, ListN.length, ListN.take, ListN.drop, ListN.length-drop, Seq.drop-drop}
+use Rattle.text.specs.{Field.upTo, Field.after, Line.onto, Number.levelOf, Number.isGot, Same.sameText}
 use Rattle.text.specs.declared.number.Number.the-variants as number
 use Rattle.text.specs.declared.number.Number.the-variants.{Got}
 use Rattle.network.specs.Limits.{maxNetworkLevel}
-use Rattle.text.proofs.Digits.{either}
-use Rattle.text.proofs.Fields.{up-take, up-length, after-drop}
+use Rattle.text.proofs.{Digits.either, Fields.up-take, Fields.up-length, Fields.after-drop}
 use Rattle.grid.specs.Row.{all, valuesOf, isValue, isRow}
 use Rattle.grid.specs.InnerSteps.{isSound, rowSound, valueRefusal, rowOf}
 use Rattle.grid.specs.declared.judge.Row.the-variants.{Values, Off}

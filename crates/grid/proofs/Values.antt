@@ -1,26 +1,19 @@
 -- Texts that are joined and come apart again: the lines of a text, the values of a row. Assumes nothing.
 use Prim.Native.Nat.{ℕ, zero, suc, _+_, _/_, _%_, _≤_, _<_}
 use mathlib.Core.Path.{_≡_, refl, sym, ap, _∙_}
-use mathlib.Core.List.{List, [], _∷_, _++_, map}
-use mathlib.Core.Bool.{Bool, true, false, _||_, true≢false}
+use mathlib.Core.{List.List, List.[], List._∷_, List._++_, List.map, Bool.Bool, Bool.true, Bool.false, Bool._||_}
 use native.Mathlib.Omega.{arith}
-use borrow.Author.Tests.{eq-eqb, ne-eqb, eqb-true, ltb-true, not-true}
+use borrow.Author.Tests.{ne-eqb, ltb-true, not-true}
 use lib.Dec.{eqb, ltb}
 use lib.ListN.{length, getD, take, drop, length-append, take-append-drop, List·getD-append}
 use lib.Seq.{take-append-seam, drop-append-seam}
-use Rattle.refusal.proofs.Laws.{and-left, and-right}
 use Rattle.text.specs.Number.{wholeOf, decimalOf, levelOf, isGot, shown, showWhole, showDigits, showLevel}
-use Rattle.text.specs.Field.{countOf, joinedBy}
-use Rattle.text.specs.Line.{onto, linesOf}
-use Rattle.text.specs.Same.{sameText}
+use Rattle.text.specs.{Field.countOf, Field.joinedBy, Line.onto, Line.linesOf, Same.sameText}
 use Rattle.text.specs.declared.number.Number.the-variants.{Got, Off}
 use Rattle.text.proofs.Digits.{either, whole-small, got-value}
-use Rattle.text.proofs.Shown.{whole-back, level-back, shown-least}
-use Rattle.text.proofs.Exact.{whole-exact, level-exact}
-use Rattle.text.proofs.Free.{shown-free, level-free}
-use Rattle.text.proofs.Fields.{count-append}
+use Rattle.text.proofs.{Shown.whole-back, Shown.level-back, Shown.shown-least, Exact.whole-exact, Exact.level-exact}
+use Rattle.text.proofs.{Free.shown-free, Free.level-free, Fields.count-append, Sames.same-equal, Sames.same-self}
 use Rattle.network.specs.Limits.{maxNetworkLevel}
-use Rattle.text.proofs.Sames.{same-equal, same-self}
 use Rattle.grid.specs.Row.{all, valuesOf, given, isValue, levelIn}
 use Rattle.grid.specs.File.{unnamed, begins, numberAfter, names}
 use Rattle.grid.specs.Write.{keyLine, rowLine, textOf}

@@ -1,25 +1,19 @@
 -- Lines as a text, its size, and its parts written one after the other. Assumes nothing.
-use Prim.Native.Nat.{ℕ, zero, suc, _+_, _-_, _*_, _/_, _%_, _≤_, _<_}
+use Prim.Native.Nat.{ℕ, zero, suc, _+_, _-_, _*_, _≤_, _<_}
 use mathlib.Core.Path.{_≡_, refl, sym, ap, _∙_}
-use mathlib.Core.List.{List, [], _∷_, _++_, map, append-assoc, append-nil}
-use native.Mathlib.Nat.{suc-mul, zero-mul, mul-le-mul, mul-le-mul-right}
-use native.Mathlib.Numerals.{add-one}
-use native.Mathlib.Omega.{arith}
+use mathlib.Core.List.{List, [], _∷_, _++_, append-nil}
+use native.Mathlib.{Nat.suc-mul, Nat.mul-le-mul, Nat.mul-le-mul-right, Numerals.add-one, Omega.arith}
 use borrow.Author.Tests.{ltb-true, ltb-false, le-leb, lt-leb, eq-eqb, ne-eqb}
 use lib.Dec.{ltb}
 use lib.ListN.{length, getD, take, drop, length-append, length-drop, drop-of-length-le, List·getD-eq-default}
-use lib.Seq.{take-add, take-all, length-take-le, drop-cons, getD-take, getD-drop}
-use Rattle.text.specs.Number.{showWhole, showLevel}
-use Rattle.text.specs.Field.{joinedBy}
+use lib.Seq.{length-take-le, drop-cons, getD-take, getD-drop}
+use Rattle.text.specs.{Number.showLevel, Field.joinedBy}
 use Rattle.room.specs.Room.{front}
-use Rattle.text.proofs.Digits.{either}
-use Rattle.text.proofs.Shown.{whole-one, whole-longer, shown-width, decimal-long, level-most}
-use Rattle.network.specs.Edges.{Checked, Sized}
-use Rattle.network.specs.Limits.{maxNetworkLevel, maxOrigin}
-use Rattle.network.specs.Refusals.{networkRefusal}
+use Rattle.text.proofs.{Digits.either, Shown.level-most}
+use Rattle.network.specs.{Edges.Checked, Edges.Sized, Limits.maxNetworkLevel, Refusals.networkRefusal}
 use Rattle.network.proofs.Refusals.{checked-on, checked-off}
 use Rattle.network.specs.declared.Frame.{Frame}
-use Rattle.grid.specs.Write.{keyLine, headLines, rowLine, rowAt, rowLines, textOf, showNetwork, writeRefusal}
+use Rattle.grid.specs.Write.{headLines, rowLine, rowAt, rowLines, textOf, showNetwork, writeRefusal}
 use Rattle.grid.specs.Write.{textAfter, sizeAfter}
 use Rattle.grid.specs.InnerSteps.{sizesOf, Quiet, Near, ended, sideLines, placeLines}
 use Rattle.grid.proofs.WriteSizes.{text-cons, network-text, near, network-size, whole-most, head-length}
@@ -77,9 +71,7 @@ row-inside levels columns rows (suc r) s h l =
     rw e (omega (arith, suc-mul r columns, mul-le-mul-right columns l))
 
 pub points-most : (levels : List ℕ) (columns rows : ℕ) → Sized levels columns rows → length levels ≤ 65536
-points-most levels columns rows s =
-    let full = s .full in
-    omega (arith, mul-le-mul (s .sides .low) (s .sides .narrow))
+points-most levels columns rows s = let full = s .full in omega (arith, mul-le-mul (s .sides .low) (s .sides .narrow))
 
 -- a part by its start and its end
 pub part-row : (levels : List ℕ) (start n : ℕ)

@@ -1,27 +1,16 @@
 -- Lines as a text, and its size. Assumes nothing.
-use Prim.Native.Nat.{ℕ, zero, suc, _+_, _-_, _*_, _/_, _%_, _≤_, _<_}
+use Prim.Native.Nat.{ℕ, zero, suc, _+_, _-_, _*_, _/_, _≤_, _<_}
 use mathlib.Core.Path.{_≡_, refl, sym, ap, _∙_}
 use mathlib.Core.List.{List, [], _∷_, _++_, map, append-assoc, append-nil}
-use native.Mathlib.Nat.{suc-mul, zero-mul, mul-le-mul, mul-le-mul-right}
-use native.Mathlib.Numerals.{add-one}
-use native.Mathlib.Omega.{arith}
-use borrow.Author.Tests.{ltb-true, ltb-false, le-leb, lt-leb, eq-eqb, ne-eqb}
-use lib.Dec.{ltb}
-use lib.ListN.{length, getD, take, drop, length-append, length-drop, drop-of-length-le, List·getD-eq-default}
-use lib.Seq.{take-add, take-all, length-take-le, drop-cons, getD-take, getD-drop}
-use Rattle.text.specs.Number.{showWhole, showLevel}
-use Rattle.text.specs.Field.{joinedBy}
-use Rattle.room.specs.Room.{front}
-use Rattle.text.proofs.Digits.{either}
-use Rattle.text.proofs.Shown.{whole-one, whole-longer, shown-width, decimal-long, level-most}
-use Rattle.network.specs.Edges.{Checked, Sized}
-use Rattle.network.specs.Limits.{maxNetworkLevel, maxOrigin}
-use Rattle.network.specs.Refusals.{networkRefusal}
-use Rattle.network.proofs.Refusals.{checked-on, checked-off}
+use native.Mathlib.{Nat.suc-mul, Nat.zero-mul, Numerals.add-one, Omega.arith}
+use lib.ListN.{length, getD, take, drop, length-append, length-drop, drop-of-length-le}
+use lib.Seq.{take-add, take-all, length-take-le, drop-cons}
+use Rattle.text.specs.{Number.showWhole, Number.showLevel, Field.joinedBy}
+use Rattle.text.proofs.Shown.{whole-one, whole-longer, shown-width, decimal-long}
+use Rattle.network.specs.{Edges.Checked, Limits.maxNetworkLevel, Limits.maxOrigin}
 use Rattle.network.specs.declared.Frame.{Frame}
-use Rattle.grid.specs.Write.{keyLine, headLines, rowLine, rowAt, rowLines, textOf, showNetwork, writeRefusal}
-use Rattle.grid.specs.Write.{textAfter, sizeAfter}
-use Rattle.grid.specs.InnerSteps.{sizesOf, Quiet, Near, ended, sideLines, placeLines}
+use Rattle.grid.specs.Write.{keyLine, headLines, rowLine, rowAt, rowLines, textOf, showNetwork}
+use Rattle.grid.specs.InnerSteps.{sizesOf, Near, ended, sideLines, placeLines}
 
 -- ---- lines as a text
 

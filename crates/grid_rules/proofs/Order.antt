@@ -1,21 +1,15 @@
 -- A text is refused with 17, 12, 13 or 14, in this order, exactly where the rules say. Assumes nothing.
 use Prim.Native.Nat.{ℕ, zero, suc, _+_, _-_, _*_, _≤_, _<_}
-use mathlib.Core.Path.{_≡_, refl, sym, ap, _∙_}
-use mathlib.Core.List.{List, []}
+use mathlib.Core.{Path._≡_, Path.refl, Path.sym, Path.ap, Path._∙_, List.List, List.[]}
 use mathlib.Core.Bool.{Bool, true, false, cond, _&&_, true≢false}
 use native.Mathlib.Omega.{arith}
 use borrow.Author.Tests.{eqb-true, eqb-false, eq-eqb, leb-true, le-leb}
-use lib.Dec.{eqb, leb}
-use lib.ListN.{length, getD, drop, length-drop}
+use lib.{Dec.eqb, Dec.leb, ListN.length, ListN.getD, ListN.drop, ListN.length-drop}
 use Rattle.refusal.specs.Range.{allWithin}
-use Rattle.refusal.proofs.Laws.{and-left}
-use Rattle.refusal.proofs.Ranges.{within-at}
-use Rattle.text.specs.Line.{linesOf}
-use Rattle.text.specs.Field.{countOf, fieldOf}
-use Rattle.text.specs.Spelled.{bytes}
+use Rattle.refusal.proofs.{Laws.and-left, Ranges.within-at}
+use Rattle.text.specs.{Line.linesOf, Field.countOf, Field.fieldOf, Spelled.bytes}
 use Rattle.text.proofs.Digits.{either}
-use Rattle.network.specs.Limits.{maxNetworkLevel}
-use Rattle.network.specs.Refusals.{sided, placed, filled}
+use Rattle.network.specs.{Limits.maxNetworkLevel, Refusals.sided, Refusals.placed, Refusals.filled}
 use Rattle.network.specs.declared.Frame.{Frame}
 use Rattle.network.proofs.Refusals.{both}
 use Rattle.grid.specs.Row.{all, valuesOf, given, hasValues, rowGiven, levelIn, levelsOf}
@@ -26,8 +20,7 @@ use Rattle.grid_rules.specs.Laid.{line, Behind, Sized}
 use Rattle.grid_rules.specs.Refused.{LineOn, Fault, InRange, Given, AllGiven, Refused, NoDataRefused}
 use Rattle.grid_rules.proofs.Places.{all-at, value-field, value-count, level-at}
 use Rattle.grid_rules.proofs.Said.{headed, five-there, six-there, fit, wide, row-line, sized}
-use Rattle.grid_rules.proofs.Lines.{all-from}
-use Rattle.grid_rules.proofs.Layouts.{behind, fault-from}
+use Rattle.grid_rules.proofs.{Lines.all-from, Layouts.behind, Layouts.fault-from}
 use Rattle.grid_rules.proofs.Ordered.{Ordered, ordered, one-test, both-true}
 use Rattle.grid_rules.proofs.Sound.{range-on, range-passes, levels-within, row-within, level-of, given-is}
 use Rattle.grid_rules.proofs.Sound.{given-other}

@@ -1,7 +1,6 @@
 -- Four tests in the order 17, 12, 13, 14: what each number says of them. Assumes nothing.
 use Prim.Native.Nat.{ℕ}
-use mathlib.Core.Path.{_≡_, refl}
-use mathlib.Core.Bool.{Bool, true, false, cond, _&&_}
+use mathlib.Core.{Path._≡_, Path.refl, Bool.Bool, Bool.true, Bool.false, Bool.cond, Bool._&&_}
 use native.Mathlib.Omega.{arith}
 
 pub record Ordered (a b c d : Bool) (n : ℕ) : Type 0 where

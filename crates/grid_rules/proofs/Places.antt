@@ -1,22 +1,15 @@
 -- Lists of tests, lines and values by their places. Assumes nothing.
 use Prim.Native.Nat.{ℕ, zero, suc, _+_, _-_, _*_, _≤_, _<_}
-use mathlib.Core.Path.{_≡_, refl, sym, ap, _∙_}
-use mathlib.Core.List.{List, [], _∷_, map}
+use mathlib.Core.{Path._≡_, Path.refl, Path.sym, Path.ap, Path._∙_, List.List, List.[], List._∷_, List.map}
 use mathlib.Core.Bool.{Bool, true, false, _&&_}
-use native.Mathlib.Nat.{suc-mul, mul-le-mul-right}
-use native.Mathlib.Omega.{arith}
+use native.Mathlib.{Nat.suc-mul, Nat.mul-le-mul-right, Omega.arith}
 use borrow.Author.Tests.{eqb-true, eqb-false}
-use lib.Dec.{eqb}
-use lib.ListN.{length, getD, List·getD-append}
-use lib.Seq.{getD-append-add}
+use lib.{Dec.eqb, ListN.length, ListN.getD, ListN.List·getD-append, Seq.getD-append-add}
 use Rattle.refusal.proofs.Laws.{and-left, and-right}
-use Rattle.text.specs.Line.{onto}
-use Rattle.text.specs.Field.{countOf, upTo, after, fieldOf}
+use Rattle.text.specs.{Line.onto, Field.countOf, Field.upTo, Field.after, Field.fieldOf}
 use Rattle.text.proofs.Digits.{either}
-use Rattle.grid.specs.Row.{all, valuesOf, hasValues, levelIn, rowLevels, levelsOf}
-use Rattle.grid.specs.File.{firstOff}
-use Rattle.grid.proofs.StoreLaws.{levels-length}
-use Rattle.grid.proofs.ValueLaws.{all-cons}
+use Rattle.grid.specs.{Row.all, Row.valuesOf, Row.hasValues, Row.levelIn, Row.rowLevels, Row.levelsOf, File.firstOff}
+use Rattle.grid.proofs.{StoreLaws.levels-length, ValueLaws.all-cons}
 
 -- ---- tests
 

@@ -1,25 +1,19 @@
 -- A text that is read says its network, line by line and place by place. Assumes nothing.
 use Prim.Native.Nat.{ℕ, suc, _+_, _-_, _*_, _≤_, _<_}
 use mathlib.Core.Path.{_≡_, refl, sym, ap, _∙_}
-use mathlib.Core.List.{List, [], _∷_, _++_, map}
-use mathlib.Core.Bool.{Bool, true, false, _&&_}
+use mathlib.Core.{List.List, List.[], List._∷_, List._++_, List.map, Bool.Bool, Bool.true, Bool.false}
 use native.Mathlib.Omega.{arith}
 use borrow.Author.Tests.{eqb-true, eq-eqb, leb-true, leb-false}
-use lib.Dec.{eqb, leb}
-use lib.ListN.{length, getD, take, drop, length-drop, take-append-drop, List·getD-eq-default}
+use lib.{Dec.leb, ListN.length, ListN.getD, ListN.take, ListN.drop, ListN.length-drop, ListN.List·getD-eq-default}
 use lib.Seq.{getD-drop, getD-append-add, take-nil, take-at}
-use Rattle.text.specs.Line.{linesOf}
-use Rattle.text.specs.Field.{countOf, fieldOf}
-use Rattle.text.specs.Number.{isGot, valueOf, showWhole, showLevel}
-use Rattle.text.specs.Same.{sameText}
-use Rattle.text.specs.Spelled.{bytes}
-use Rattle.text.proofs.Digits.{either, got-value}
+use Rattle.text.specs.{Line.linesOf, Field.countOf, Field.fieldOf}
+use Rattle.text.specs.{Number.isGot, Number.valueOf, Number.showWhole, Number.showLevel, Same.sameText, Spelled.bytes}
+use Rattle.text.proofs.{Digits.either, Digits.got-value, Sames.same-equal, Sames.same-self}
 use Rattle.grid.specs.Row.{all, valuesOf, given, isValue, isRow, hasValues, rowGiven, levelIn, levelsOf}
-use Rattle.grid.specs.File.{ncols, nrows, xllcenter, yllcenter, cellsize, begins, numberAfter, numberAt, names, sixth}
+use Rattle.grid.specs.File.{ncols, nrows, xllcenter, yllcenter, cellsize, begins, numberAt, names, sixth}
 use Rattle.grid.specs.File.{headOn, namedOn, frameOf, noDataOf, rowsOf, faultLine, rowsFit}
 use Rattle.grid.specs.Read.{textFrame, textLevels, readRefusal, headerAfter, levelsAfter}
 use Rattle.grid.proofs.ReadLaws.{fit-both, fit-length, Passed, passed}
-use Rattle.text.proofs.Sames.{same-equal, same-self}
 use Rattle.grid.proofs.Values.{key-line, value-is}
 use Rattle.grid_rules.specs.Laid.{line, Named, Headed, Sized, Laid, Says, frameIn, levelsIn}
 use Rattle.grid_rules.proofs.Places.{test-at, all-at, map-at, value-field, value-count, level-at}

@@ -1,29 +1,22 @@
 -- Frames in range, and values that are given: the tests that 12 and 13 go by. Assumes nothing.
 use Prim.Native.Nat.{ℕ, suc, _≤_, _<_}
 use mathlib.Core.Path.{_≡_, refl, sym, ap, _∙_}
-use mathlib.Core.List.{List, [], _∷_, _++_, map}
-use mathlib.Core.Bool.{true, _&&_, true≢false}
+use mathlib.Core.{List.List, List.[], List._∷_, List._++_, List.map, Bool.true, Bool._&&_, Bool.true≢false}
 use native.Mathlib.Omega.{arith}
 use borrow.Author.Tests.{leb-true, le-leb, not-true}
-use lib.Dec.{leb}
-use lib.ListN.{length, getD, length-map}
+use lib.{Dec.leb, ListN.length, ListN.getD, ListN.length-map}
 use Rattle.refusal.specs.Range.{allWithin}
 use Rattle.refusal.proofs.Ranges.{within-each}
-use Rattle.text.specs.Field.{countOf, fieldOf}
-use Rattle.text.specs.Number.{levelOf, valueOf, showLevel}
-use Rattle.text.specs.Same.{sameText}
-use Rattle.text.proofs.Digits.{either}
-use Rattle.text.proofs.Shown.{level-back}
+use Rattle.text.specs.{Field.countOf, Field.fieldOf, Number.levelOf, Number.valueOf, Number.showLevel, Same.sameText}
+use Rattle.text.proofs.{Digits.either, Shown.level-back, Sames.same-equal, Sames.same-self}
 use Rattle.network.specs.Limits.{leastSide, maxSide, leastSpacing, maxSpacing, maxOrigin}
 use Rattle.network.specs.Refusals.{between, sided, placed}
 use Rattle.network.specs.declared.Frame.{Frame}
 use Rattle.network.proofs.Refusals.{both, in-between}
 use Rattle.grid.specs.Row.{valuesOf, given, levelIn, rowLevels, levelsOf}
 use Rattle.grid.proofs.ReadLaws.{up-append}
-use Rattle.text.proofs.Sames.{same-equal, same-self}
 use Rattle.grid_rules.specs.Refused.{InRange}
-use Rattle.grid_rules.proofs.Places.{map-at, value-field, value-count}
-use Rattle.grid_rules.proofs.Ordered.{both-true}
+use Rattle.grid_rules.proofs.{Places.map-at, Places.value-field, Places.value-count, Ordered.both-true}
 
 -- ---- 12
 

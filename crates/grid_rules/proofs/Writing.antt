@@ -1,11 +1,8 @@
 -- A network is written exactly where the rules let it be, and lent room keeps the rest. Assumes nothing.
 use Prim.Native.Nat.{ℕ, _≤_}
-use mathlib.Core.Path.{_≡_, refl, _∙_}
-use mathlib.Core.Bool.{_&&_}
-use mathlib.Core.List.{List, [], _∷_}
+use mathlib.Core.{Path._≡_, Path.refl, Path._∙_, Bool._&&_, List.List, List.[], List._∷_}
 use native.Mathlib.Omega.{arith}
-use lib.ListN.{length}
-use lib.Dec.{leb}
+use lib.{ListN.length, Dec.leb}
 use borrow.Author.Tests.{eq-eqb, le-leb, leb-true}
 use Rattle.refusal.specs.Refuse.{refuse}
 use Rattle.refusal.proofs.Laws.{and-left, and-right}
@@ -14,8 +11,7 @@ use Rattle.room.proofs.Fronts.{front-past, left-alone}
 use Rattle.text.proofs.Digits.{either}
 use Rattle.network.specs.declared.Frame.{Frame}
 use Rattle.network.specs.Limits.{maxNetworkLevel}
-use Rattle.network.proofs.Refusals.{checked-on, checked-off}
-use Rattle.network.proofs.Ranges.{network-refused}
+use Rattle.network.proofs.{Refusals.checked-on, Refusals.checked-off, Ranges.network-refused}
 use Rattle.grid.specs.Read.{numbersOf, textFrame, textLevels, readRefusal, headerAfter, levelsAfter}
 use Rattle.grid.specs.Write.{showNetwork, writeRefusal, textAfter, sizeAfter}
 use Rattle.grid_rules.specs.Writing.{WriteRefused, Keeps}
@@ -52,10 +48,7 @@ module _ (levels : List ℕ) (f : Frame) (text sizes : List ℕ) where
 
 keeps : (n : ℕ) (answer room : List ℕ) → Keeps n (length answer) room (leaves n answer room)
 keeps n answer room =
-    record {
-      refused = left-alone n answer room;
-      past = λ z i h. rw (eq-eqb n 0 z) (front-past answer room i 0 h);
-    }
+    record { refused = left-alone n answer room; past = λ z i h. rw (eq-eqb n 0 z) (front-past answer room i 0 h) }
 
 -- the room for a text and its size, and for the five numbers of a header and the levels
 pub write-keeps : (levels : List ℕ) (f : Frame) (text sizes : List ℕ)

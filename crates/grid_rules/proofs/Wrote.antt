@@ -1,12 +1,10 @@
 -- A text that is written says its network, line by line and place by place. Assumes nothing.
 use Prim.Native.Nat.{ℕ}
 use mathlib.Core.Path.{_≡_, refl, sym, ap, _∙_}
-use mathlib.Core.List.{List, [], _∷_, _++_, append-assoc}
-use mathlib.Core.Bool.{true, true≢false}
+use mathlib.Core.{List.List, List.[], List._∷_, List._++_, List.append-assoc, Bool.true, Bool.true≢false}
 use native.Mathlib.Omega.{arith}
 use lib.ListN.{length, getD, take}
-use Rattle.text.specs.Same.{sameText}
-use Rattle.text.specs.Spelled.{bytes}
+use Rattle.text.specs.{Same.sameText, Spelled.bytes}
 use Rattle.network.specs.Refusals.{networkRefusal}
 use Rattle.network.specs.declared.Frame.{Frame}
 use Rattle.grid.specs.File.{begins, names}

@@ -2,26 +2,21 @@
 -- columns and answers that the
 -- sequence's history means. Assumes nothing.
 use mathlib.Core.Path.{_≡_, refl, sym, ap, subst, _∙_}
-use mathlib.Core.Bool.{Bool, true, false, cond, _&&_, true≢false}
+use mathlib.Core.Bool.{Bool, true, false, cond, true≢false}
 use mathlib.Core.List.{List, [], _∷_, _++_}
 use Prim.Native.Nat.{ℕ, _+_, _-_, _≤_, _<_}
 use native.Mathlib.Omega.{arith}
-use lib.ListN.{length, take, drop, length-append}
-use lib.Seq.{take-append-seam, drop-append-seam}
-use lib.Dec.{eqb, leb}
+use lib.{ListN.length, ListN.drop, ListN.length-append, Seq.take-append-seam, Seq.drop-append-seam, Dec.eqb, Dec.leb}
 use borrow.Author.Tests.{leb-true, leb-false, le-leb, eq-eqb, ne-eqb}
-use Rattle.book_rules.specs.Columns.{Book, sound}
-use Rattle.book_rules.specs.Calls.{Call, after}
+use Rattle.book_rules.specs.{Columns.Book, Columns.sound, Calls.Call, Calls.after}
 use Rattle.book_rules.specs.Calls.Call.{enter, supply, takeBack, withdraw}
 use Rattle.book_rules.specs.History.{Made, movements, booked, answered, listAnswered, rowsOf, emptyBook}
 use Rattle.book_rules.specs.Chain.{Chain}
 use Rattle.book_rules.specs.Chain.Chain.{done, called}
-use Rattle.book_rules.proofs.History.{history}
-use Rattle.book_rules.proofs.Order.{decides, given-by, sound-decides}
+use Rattle.book_rules.proofs.{History.history, Order.decides, Order.given-by, Order.sound-decides}
 use Rattle.room.specs.Room.{front}
 use Rattle.journal.specs.Journal.{widthOf, callAt, complete, callsOf, laidOut, callsFor, replayRefusal}
-use Rattle.journal.specs.Journal.{Replayed}
-use Rattle.journal.specs.Spelling.{spelled, journalOf, Spelled}
+use Rattle.journal.specs.{Journal.Replayed, Spelling.spelled, Spelling.journalOf, Spelling.Spelled}
 use Rattle.journal.specs.Replay.{ReplayHolds}
 use Rattle.journal.proofs.Reading.{calls-more, laid-more, nothing-left}
 

@@ -1,14 +1,11 @@
 -- A journal on its layout is calls spelled one after the other, and no number more. Assumes nothing.
 use mathlib.Core.Path.{_≡_, refl, sym, ap, _∙_}
-use mathlib.Core.Bool.{Bool, true, false, cond, _||_}
-use mathlib.Core.List.{List, [], _∷_, _++_}
+use mathlib.Core.{Bool.Bool, Bool.true, Bool.false, Bool.cond, Bool._||_, List.List, List.[], List._∷_, List._++_}
 use Prim.Native.Nat.{ℕ, zero, suc, _+_, _≤_, _<_}
 use native.Mathlib.Omega.{arith}
 use lib.ListN.{length, take, drop, getD, length-drop, take-append-drop}
-use lib.Seq.{length-take-le, drop-drop}
-use lib.Dec.{eqb}
+use lib.{Seq.length-take-le, Seq.drop-drop, Dec.eqb}
 use borrow.Author.Tests.{eqb-true}
-use Rattle.book_rules.specs.Calls.{Call}
 use Rattle.book_rules.specs.Calls.Call.{enter, supply, takeBack, withdraw}
 use Rattle.journal.specs.Journal.{widthOf, callAt, callsOf, laidOut}
 use Rattle.journal.specs.Spelling.{spelled, journalOf, LaidExactly}
@@ -97,7 +94,4 @@ spelled-from (suc most) = one-more most (spelled-from most)
 
 pub laid-exactly : (j : List ℕ) → LaidExactly j
 laid-exactly j =
-    record {
-      on = λ e. sym (spelled-from (length j) j (omega arith) e);
-      only = λ cs e. rw e (journal-calls cs);
-    }
+    record { on = λ e. sym (spelled-from (length j) j (omega arith) e); only = λ cs e. rw e (journal-calls cs) }

@@ -1,13 +1,11 @@
 -- A journal, call by call: what the whole says, said of what is still to be read. Assumes nothing.
 use mathlib.Core.Path.{_≡_, refl, sym, ap, _∙_}
-use mathlib.Core.Bool.{Bool, true, false, cond, _&&_, _||_, and-false}
-use mathlib.Core.List.{List, [], _∷_}
+use mathlib.Core.Bool.{Bool, true, false, cond, _||_, and-false}
+use mathlib.Core.{List.List, List.[], List._∷_, Logic._⊎_, Logic.⊎-elim}
 use Prim.Native.Nat.{ℕ, zero, suc, _+_, _-_, _≤_, _<_}
 use native.Mathlib.Omega.{arith}
-use lib.ListN.{length, take, drop, getD, length-drop}
-use lib.Seq.{drop-drop, take-all}
+use lib.{ListN.length, ListN.take, ListN.drop, ListN.getD, ListN.length-drop, Seq.drop-drop, Seq.take-all}
 use lib.Dec.{eqb, leb}
-use mathlib.Core.Logic.{_⊎_, ⊎-elim}
 use borrow.Author.Tests.{le-leb, lt-leb, leb-true, ne-eqb}
 use Rattle.refusal.proofs.Laws.{and-left, and-right}
 use Rattle.book_rules.specs.Calls.{Call}

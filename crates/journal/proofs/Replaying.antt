@@ -1,20 +1,14 @@
 -- A replay, call by call: the calls made so far have led here, and those still to come give what all give.
 -- Assumes nothing.
-use mathlib.Core.Path.{_≡_, refl, sym, ap, _∙_}
-use mathlib.Core.Bool.{true}
-use mathlib.Core.List.{List, [], _∷_}
+use mathlib.Core.{Path._≡_, Path.refl, Path.sym, Path.ap, Path._∙_, Bool.true, List.List, List.[], List._∷_}
 use Prim.Native.Nat.{ℕ, suc, _+_, _≤_, _<_}
-use native.Mathlib.Nat.{add-zero}
-use native.Mathlib.Omega.{arith}
-use lib.ListN.{length, drop, getD, set, length-drop}
-use lib.Seq.{drop-drop, getD-drop}
-use lib.Dec.{leb}
+use native.Mathlib.{Nat.add-zero, Omega.arith}
+use lib.{ListN.length, ListN.drop, ListN.getD, ListN.set, ListN.length-drop, Seq.drop-drop, Seq.getD-drop, Dec.leb}
 use borrow.Author.Tests.{eq-eqb, ne-eqb, leb-true}
 use Rattle.refusal.proofs.Laws.{refuse-none}
 use Rattle.room.specs.Room.{front}
 use Rattle.room.proofs.Laws.{frontTo, front-to-more, front-to-end}
-use Rattle.book_rules.specs.Columns.{Book, sound}
-use Rattle.book_rules.specs.Calls.{Call, Called, refusal, after}
+use Rattle.book_rules.specs.{Columns.Book, Columns.sound, Calls.Call, Calls.Called, Calls.refusal, Calls.after}
 use Rattle.book_rules.specs.History.{Made, made, booked, answered}
 use Rattle.book_rules.proofs.Kept.{called-sound}
 use Rattle.journal.specs.Journal.{callAt, callsOf, laidOut, madeFor, callsFor, replayRefusal, Replayed}

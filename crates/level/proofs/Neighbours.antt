@@ -1,24 +1,18 @@
--- Each number of RULES, "Energy and load", lies between its neighbours.
--- Assumes nothing.
-use mathlib.Core.Path.{_≡_, refl, subst}
-use mathlib.Core.Bool.{Bool, true, false, cond}
+-- Each number of RULES, "Energy and load", lies between its neighbours. Assumes nothing.
+use mathlib.Core.{Path._≡_, Path.refl, Path.subst, Bool.Bool, Bool.true, Bool.false, Bool.cond}
 use mathlib.Core.Logic.{_↔_, Iff·trans, Iff·not}
 use Prim.Native.Nat.{ℕ, zero, suc, _+_, _*_, _/_, _%_, _^_, _≤_, _<_}
 use native.Mathlib.Nat.{le-antisymm, lt-of-not-le, not-le-of-lt, suc-mul, div-mul-le-self, lt-div-mul-add}
-use native.Mathlib.Nat.{le-div-iff-mul-le}
-use native.Mathlib.Omega.{arith}
+use native.Mathlib.{Nat.le-div-iff-mul-le, Omega.arith}
 use lib.Dec.{ltb, lit<}
 use borrow.Author.Tests.{le-ltb, lt-ltb, ltb-true, ltb-false}
-use Rattle.level.specs.declared.Level.{Level}
+use Rattle.level.specs.declared.{Level.Level, Verdict.Verdict}
 use Rattle.level.specs.declared.Level.the-variants.{BelowZero, At}
-use Rattle.level.specs.declared.Verdict.{Verdict}
 use Rattle.level.specs.declared.Verdict.the-variants.{Within, Over}
-use Rattle.level.specs.Tables.{tableA, tableB}
-use Rattle.level.specs.Energy.{energyOf, meanOf}
+use Rattle.level.specs.{Tables.tableA, Energy.energyOf}
 use Rattle.level.specs.Level.{levelGiven, levelValue, verdictNumber, bound, levelOf, verdictOf}
 use Rattle.level.specs.Neighbours.{Quotient, Reaches, SmallestReaching, ByNeighbours}
-use Rattle.level.proofs.EnergyLaws.{a-root, b-root}
-use Rattle.level.proofs.Promises.{below-zero, smallest}
+use Rattle.level.proofs.{EnergyLaws.a-root, EnergyLaws.b-root, Promises.below-zero, Promises.smallest}
 
 quotient : (a b : ℕ) → zero < b → Quotient a b (a / b)
 quotient a b h = record { reached = div-mul-le-self a b; next = rw suc-mul (lt-div-mul-add h) }
@@ -38,9 +32,7 @@ reaches m n = le-div-iff-mul-le (lit< tt)
 
 -- of two levels that are each the smallest neither is before the other
 not-before : (m i j : ℕ) → SmallestReaching m i → SmallestReaching m j → i ≤ j
-not-before m i j a b =
-    let l : i < suc j = lt-of-not-le (λ h. a .no-smaller j h (b .reaches)) in
-    omega arith
+not-before m i j a b = let l : i < suc j = lt-of-not-le (λ h. a .no-smaller j h (b .reaches)) in omega arith
 
 level-smallest : (m : ℕ) → 1000 ≤ m → m < 2 ^ 64 → SmallestReaching m (levelValue (levelOf m))
 level-smallest m lo hi =

@@ -1,11 +1,8 @@
--- What levels mean, in the rules' numbers: the level is the smallest that reaches the mean.
--- Assumes nothing.
+-- What levels mean, in the rules' numbers: the level is the smallest that reaches the mean. Assumes nothing.
 use mathlib.Core.Path.{_≡_, refl, sym, ap, _∙_}
-use mathlib.Core.Bool.{Bool, true, false, cond, true≢false}
-use mathlib.Core.Logic.{⊎-elim}
+use mathlib.Core.{Bool.Bool, Bool.true, Bool.false, Bool.cond, Bool.true≢false, Logic.⊎-elim}
 use Prim.Native.Nat.{ℕ, zero, suc, _+_, _^_, _≤_, _<_}
-use native.Mathlib.Nat.{eq-or-lt-of-le}
-use native.Mathlib.Omega.{arith}
+use native.Mathlib.{Nat.eq-or-lt-of-le, Omega.arith}
 use lib.Dec.{leb}
 use borrow.Author.Tests.{le-leb, leb-true, leb-false, le-ltb, lt-ltb}
 use Rattle.level.specs.declared.Level.{Level}

@@ -1,29 +1,21 @@
 -- Laws of an account: from the sums that the code makes, from the array of arrays, and four numbers in lent room.
 -- Assumes nothing.
-use mathlib.Core.Path.{_≡_, refl}
-use mathlib.Core.Bool.{true}
-use mathlib.Core.List.{List, [], _∷_}
+use mathlib.Core.{Path._≡_, Path.refl, Bool.true, List.List, List.[], List._∷_}
 use Prim.Native.Nat.{ℕ, suc, _+_, _*_, _≤_, _<_}
-use native.Mathlib.Numerals.{add-one}
-use native.Mathlib.Omega.{arith}
-use lib.ListN.{length, set}
-use lib.Seq.{sets-eq}
+use native.Mathlib.{Numerals.add-one, Omega.arith}
+use lib.{ListN.length, ListN.set, Seq.sets-eq}
 use Rattle.movement.specs.Limits.{groupCount}
 use Rattle.room.specs.Room.{front, put, Writes}
 use Rattle.room.proofs.Fronts.{front-grows}
 use Rattle.load_rules.specs.declared.Group.{Group}
-use Rattle.load_rules.specs.Shares.{Share}
-use Rattle.load_rules.specs.Tally.{tally}
+use Rattle.load_rules.specs.{Shares.Share, Tally.tally}
 use Rattle.load_rules.specs.Factors.{ratio, sumTo, knownSum, unknownSum, generalFactor}
 use Rattle.load_rules.specs.Load.{scaledSum, totalOf, answer, daysFit, loadOf}
 use Rattle.load_rules.specs.Account.{groupNumbers, groupsTo, wholeNumbers, accountFrom}
-use Rattle.load_rules.proofs.TallyLaws.{AllGrouped}
-use Rattle.load_rules.proofs.Accounts.{length-groups}
-use Rattle.load.specs.declared.sums.Sums.{Sums}
-use Rattle.load.specs.declared.sums.Totals.{Totals}
+use Rattle.load_rules.proofs.{TallyLaws.AllGrouped, Accounts.length-groups}
+use Rattle.load.specs.declared.sums.{Sums.Sums, Totals.Totals}
 use Rattle.load.specs.InnerSteps.{table, groupAt, Scalable, Bounded, sumsOf, totalsOf, loadFrom}
-use Rattle.load.proofs.BoundLaws.{fits-next}
-use Rattle.load.proofs.SumsLaws.{sums-totals, from-table, from-shares}
+use Rattle.load.proofs.{BoundLaws.fits-next, SumsLaws.sums-totals, SumsLaws.from-table, SumsLaws.from-shares}
 
 -- four numbers stored one past the other
 pub put-four : (room : List ℕ) (at a b c d : ℕ) → at + 4 ≤ length room

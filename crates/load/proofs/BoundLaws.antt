@@ -1,22 +1,16 @@
 -- Laws of the sums over groups that movements within the bounds give: one group more fits, and so do the total and the
--- mean.
--- Assumes nothing.
-use mathlib.Core.Path.{_≡_, refl}
-use mathlib.Core.Bool.{Bool, true, false, cond}
-use mathlib.Core.List.{List}
+-- mean. Assumes nothing.
+use mathlib.Core.{Path._≡_, Path.refl, Bool.Bool, Bool.true, Bool.false, Bool.cond, List.List}
 use Prim.Native.Nat.{ℕ, suc, _+_, _-_, _*_, _/_, _≤_, _<_}
-use native.Mathlib.Nat.{div-le-self, div-div-eq-div-mul, le-trans}
-use native.Mathlib.Omega.{arith}
+use native.Mathlib.{Nat.div-le-self, Nat.div-div-eq-div-mul, Nat.le-trans, Omega.arith}
 use lib.Dec.{eqb}
-use Rattle.level.specs.Limits.{maxEnergy, maxTotal, maxMean}
-use Rattle.level.specs.Energy.{meanOf}
+use Rattle.level.specs.{Limits.maxEnergy, Limits.maxTotal, Limits.maxMean, Energy.meanOf}
 use Rattle.level.proofs.ScaleLaws.{scaled-le, div-mono}
 use Rattle.movement.specs.Limits.{groupCount}
 use Rattle.load_rules.specs.declared.Group.{Group}
 use Rattle.load_rules.specs.Factors.{ratio, scaledBy, sumTo, known}
 use Rattle.load_rules.specs.Load.{countsOf, scaledEnergy}
-use Rattle.load_rules.proofs.SumLaws.{sum-le, sum-more, sum-times}
-use Rattle.load_rules.proofs.FactorLaws.{known-sum}
+use Rattle.load_rules.proofs.{SumLaws.sum-le, SumLaws.sum-more, SumLaws.sum-times, FactorLaws.known-sum}
 use Rattle.load.specs.InnerSteps.{groupAt, Scalable, Bounded, Fitting, sumsOf}
 
 -- a product with a factor is at most the highest energy for each movement above

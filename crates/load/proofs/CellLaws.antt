@@ -1,16 +1,9 @@
--- Laws of the array of arrays: what stands at a group's number, and what a store there changes.
--- Assumes nothing.
-use mathlib.Core.Path.{_≡_, refl, sym, subst}
-use mathlib.Core.Bool.{cond}
-use mathlib.Core.Logic.{⊎-elim}
+-- Laws of the array of arrays: what stands at a group's number, and what a store there changes. Assumes nothing.
+use mathlib.Core.{Path._≡_, Path.refl, Path.sym, Path.subst, Bool.cond, Logic.⊎-elim, List.List}
 use Prim.Native.Nat.{ℕ, zero, suc, _<_}
-use native.Mathlib.Nat.{eq-or-lt-of-le}
-use native.Mathlib.Omega.{arith}
-use lib.ListN.{replicate, set}
-use lib.Dec.{eqb}
-use mathlib.Core.List.{List}
-use Rattle.load_rules.specs.declared.Counts.{Counts}
-use Rattle.load_rules.specs.declared.Group.{Group}
+use native.Mathlib.{Nat.eq-or-lt-of-le, Omega.arith}
+use lib.{ListN.replicate, ListN.set, Dec.eqb}
+use Rattle.load_rules.specs.declared.{Counts.Counts, Group.Group}
 use Rattle.load.specs.InnerSteps.{table, groupAt, withGroup}
 
 -- P holds at each number below n

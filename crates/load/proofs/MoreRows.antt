@@ -1,31 +1,17 @@
 -- A group, and the tally, with one row more. Assumes nothing.
-use mathlib.Core.Path.{_≡_, refl, ap, fun-ext, _∙_}
-use mathlib.Core.Bool.{Bool, true, false, cond}
+use mathlib.Core.{Path._≡_, Path.refl, Path.ap, Path.fun-ext, Path._∙_, Bool.Bool, Bool.true, Bool.false, Bool.cond}
 use mathlib.Core.List.{List, [], _∷_, _++_, append-nil}
-use Prim.Native.Nat.{ℕ, zero, suc, _+_, _*_, _≤_, _<_}
-use native.Mathlib.Nat.{suc-mul, mul-le-mul-right, add-zero, add-mul}
-use native.Mathlib.Numerals.{add-one}
-use native.Mathlib.Omega.{arith}
-use lib.ListN.{length, getD, length-append}
-use lib.Dec.{eqb, lit≤}
+use Prim.Native.Nat.{ℕ, _+_, _<_}
+use native.Mathlib.{Nat.add-zero, Omega.arith}
+use lib.Dec.{eqb}
 use borrow.Author.Tests.{eqb-true, eq-eqb, ne-eqb}
-use Rattle.level.specs.Limits.{maxWeighted, maxMovements, maxEnergy}
-use Rattle.level.proofs.EnergyLaws.{energy-le}
-use Rattle.movement.specs.Limits.{maxLevel, groupCount}
-use Rattle.movement.specs.Period.{weightOf}
-use Rattle.movement.specs.declared.period.Period.{Period}
-use Rattle.movement.specs.declared.period.Period.the-variants.{Day, Evening, Night}
-use Rattle.movement.specs.Group.{groupPeriod}
-use Rattle.book_rules.specs.Columns.{Book, sound}
-use Rattle.book_rules.proofs.Shapes.{sound-fits}
-use Rattle.book_rules.proofs.SoundBook.{sound-exactly}
+use Rattle.movement.specs.Limits.{groupCount}
 use Rattle.load_rules.specs.declared.Group.{Group}
-use Rattle.load_rules.specs.Shares.{Share, energyIn, rowShare, sharesTo}
+use Rattle.load_rules.specs.Shares.{Share, energyIn, rowShare}
 use Rattle.load_rules.specs.Shares.Share.{has, lacks}
 use Rattle.load_rules.specs.Tally.{groupWith, addsComputed, addsMissing, addsEnergy, sumOf, tally}
-use Rattle.load_rules.proofs.SumLaws.{sum-ext}
-use Rattle.load_rules.proofs.TallyLaws.{sum-append, AllGrouped, grouped-append, counted-le}
-use Rattle.load.specs.InnerSteps.{table, groupAt, withGroup, RoomForOne, Bounded, withRow}
+use Rattle.load_rules.proofs.TallyLaws.{sum-append}
+use Rattle.load.specs.InnerSteps.{table, groupAt, withGroup, withRow}
 use Rattle.load.proofs.CellLaws.{at-table, put-table}
 
 -- A group with one row more, by identity and mark

@@ -1,33 +1,23 @@
 -- What a sound book says of its rows, one by one, and of the tally of its first rows. Assumes nothing.
-use mathlib.Core.Path.{_≡_, refl, ap, fun-ext, _∙_}
-use mathlib.Core.Bool.{Bool, true, false, cond}
-use mathlib.Core.List.{List, [], _∷_, _++_, append-nil}
+use mathlib.Core.{Path._≡_, Path.ap, Bool.Bool, Bool.true, Bool.false, Bool.cond}
+use mathlib.Core.List.{List, [], _∷_, _++_}
 use Prim.Native.Nat.{ℕ, zero, suc, _+_, _*_, _≤_, _<_}
-use native.Mathlib.Nat.{suc-mul, mul-le-mul-right, add-zero, add-mul}
-use native.Mathlib.Numerals.{add-one}
-use native.Mathlib.Omega.{arith}
-use lib.ListN.{length, getD, length-append}
-use lib.Dec.{eqb, lit≤}
-use borrow.Author.Tests.{eqb-true, eq-eqb, ne-eqb}
+use native.Mathlib.{Nat.suc-mul, Nat.mul-le-mul-right, Nat.add-mul, Numerals.add-one, Omega.arith}
+use lib.{ListN.length, ListN.getD, ListN.length-append, Dec.eqb, Dec.lit≤}
 use Rattle.level.specs.Limits.{maxWeighted, maxMovements, maxEnergy}
 use Rattle.level.proofs.EnergyLaws.{energy-le}
-use Rattle.movement.specs.Limits.{maxLevel, groupCount}
-use Rattle.movement.specs.Period.{weightOf}
+use Rattle.movement.specs.{Limits.maxLevel, Limits.groupCount, Period.weightOf, Group.groupPeriod}
 use Rattle.movement.specs.declared.period.Period.{Period}
 use Rattle.movement.specs.declared.period.Period.the-variants.{Day, Evening, Night}
-use Rattle.movement.specs.Group.{groupPeriod}
 use Rattle.book_rules.specs.Columns.{Book, sound}
-use Rattle.book_rules.proofs.Shapes.{sound-fits}
-use Rattle.book_rules.proofs.SoundBook.{sound-exactly}
+use Rattle.book_rules.proofs.{Shapes.sound-fits, SoundBook.sound-exactly}
 use Rattle.load_rules.specs.declared.Group.{Group}
 use Rattle.load_rules.specs.Shares.{Share, energyIn, rowShare, sharesTo}
 use Rattle.load_rules.specs.Shares.Share.{has, lacks}
-use Rattle.load_rules.specs.Tally.{groupWith, addsComputed, addsMissing, addsEnergy, sumOf, tally}
-use Rattle.load_rules.proofs.SumLaws.{sum-ext}
-use Rattle.load_rules.proofs.TallyLaws.{sum-append, AllGrouped, grouped-append, counted-le}
+use Rattle.load_rules.specs.Tally.{addsComputed, addsMissing, addsEnergy, sumOf, tally}
+use Rattle.load_rules.proofs.{SumLaws.sum-ext, TallyLaws.AllGrouped, TallyLaws.grouped-append, TallyLaws.counted-le}
 use Rattle.load.specs.InnerSteps.{table, groupAt, withGroup, RoomForOne, Bounded, withRow}
-use Rattle.load.proofs.CellLaws.{at-table, put-table}
-use Rattle.load.proofs.MoreRows.{row-table}
+use Rattle.load.proofs.{CellLaws.at-table, MoreRows.row-table}
 
 -- Bounds of V, U and S
 

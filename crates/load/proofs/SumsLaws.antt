@@ -1,8 +1,6 @@
--- Laws of the load: from the sums that the code makes, and from the array of arrays.
--- Assumes nothing.
+-- Laws of the load: from the sums that the code makes, and from the array of arrays. Assumes nothing.
 use mathlib.Core.Path.{_≡_, refl, ap, _∙_}
-use mathlib.Core.Bool.{Bool, true, false, cond, not, _&&_}
-use mathlib.Core.List.{List}
+use mathlib.Core.{Bool.Bool, Bool.true, Bool.false, Bool.cond, Bool.not, Bool._&&_, List.List}
 use Prim.Native.Nat.{ℕ, _+_, _≤_, _<_}
 use native.Mathlib.Omega.{arith}
 use lib.Dec.{eqb, leb, ltb}
@@ -12,18 +10,14 @@ use Rattle.level.specs.declared.Level.{Level}
 use Rattle.movement.specs.Limits.{groupCount}
 use Rattle.refusal.proofs.Laws.{and-left, and-right}
 use Rattle.book_rules.specs.Columns.{Book, sound}
-use Rattle.load_rules.specs.declared.Group.{Group}
-use Rattle.load_rules.specs.declared.Counts.{Counts}
-use Rattle.load_rules.specs.Shares.{Share}
-use Rattle.load_rules.specs.Tally.{tally, listFrom}
+use Rattle.load_rules.specs.declared.{Group.Group, Counts.Counts}
+use Rattle.load_rules.specs.{Shares.Share, Tally.tally, Tally.listFrom}
 use Rattle.load_rules.specs.Factors.{sumTo, known, unknown, knownSum, unknownSum, generalFactor}
 use Rattle.load_rules.specs.Load.{countsOf, scaledSum, totalOf, daysFit, noneComputed, loadRefusal}
 use Rattle.load_rules.specs.Load.{answer, refusedLoad, loadOf}
 use Rattle.load_rules.specs.Verdict.{limitFits, verdictRefusal, judged, judgedOf}
-use Rattle.load_rules.proofs.TallyLaws.{AllGrouped, rule-ten}
-use Rattle.load_rules.proofs.FactorLaws.{known-sum}
-use Rattle.load.specs.declared.sums.Sums.{Sums}
-use Rattle.load.specs.declared.sums.Totals.{Totals}
+use Rattle.load_rules.proofs.{TallyLaws.AllGrouped, TallyLaws.rule-ten, FactorLaws.known-sum}
+use Rattle.load.specs.declared.sums.{Sums.Sums, Totals.Totals}
 use Rattle.load.specs.InnerSteps.{table, groupAt, Scalable, Bounded, sumsOf, totalsOf, loadFrom}
 use Rattle.load.specs.InnerSteps.{judgedBy}
 use Rattle.load.proofs.BoundLaws.{scaled-sum-small}

@@ -1,30 +1,21 @@
 -- An account by look-up: what each of its 78 numbers is, and that V, U, total and level are the load's.
 -- Assumes nothing.
-use mathlib.Core.Path.{_≡_, refl, sym, ap, fun-ext, _∙_}
-use mathlib.Core.Bool.{_&&_}
-use mathlib.Core.List.{List}
+use mathlib.Core.{Path._≡_, Path.refl, Path.sym, Path.ap, Path.fun-ext, Path._∙_, Bool._&&_, List.List}
 use mathlib.Core.Logic.{⊎-elim}
 use Prim.Native.Nat.{ℕ, zero, suc, _+_, _*_, _<_}
-use native.Mathlib.Nat.{eq-or-lt-of-le}
-use native.Mathlib.Omega.{arith}
-use lib.ListN.{length, getD, length-append, List·getD-append}
-use lib.Seq.{getD-append-add}
-use lib.Dec.{ltb}
+use native.Mathlib.{Nat.eq-or-lt-of-le, Omega.arith}
+use lib.{ListN.length, ListN.getD, ListN.length-append, ListN.List·getD-append, Seq.getD-append-add, Dec.ltb}
 use Rattle.movement.specs.Limits.{groupCount}
 use Rattle.book_rules.specs.Columns.{Book, sound}
 use Rattle.book_rules.specs.History.{Movement, Made, emptyBook, booked, movements}
-use Rattle.load_rules.specs.declared.Group.{Group}
-use Rattle.load_rules.specs.declared.Counts.{Counts}
-use Rattle.load_rules.specs.declared.Load.{Load}
-use Rattle.load_rules.specs.Shares.{sharesOf, bookShares}
-use Rattle.load_rules.specs.Tally.{tally}
+use Rattle.load_rules.specs.declared.{Group.Group, Counts.Counts, Load.Load}
+use Rattle.load_rules.specs.{Shares.sharesOf, Shares.bookShares, Tally.tally}
 use Rattle.load_rules.specs.Factors.{knownSum, groupFactor, generalFactor}
 use Rattle.load_rules.specs.Load.{countsOf, scaledEnergy, scaledSum, totalOf, answer, bookLoad}
 use Rattle.load_rules.specs.Afresh.{loadAfter}
 use Rattle.load_rules.specs.Account.{groupNumbers, groupsTo, wholeNumbers, accountFrom, groupsOf, accountOf}
 use Rattle.load_rules.specs.Account.{wholeFrom, accountSize, AccountTells, AccountsEach}
-use Rattle.load_rules.proofs.SumLaws.{sum-ext}
-use Rattle.load_rules.proofs.FactorLaws.{never-divided}
+use Rattle.load_rules.proofs.{SumLaws.sum-ext, FactorLaws.never-divided}
 use Rattle.load_rules.proofs.Formulas.{known-summed, unknown-summed, quotient}
 use Rattle.load_rules.proofs.TallyLaws.{all-standing}
 use Rattle.load_rules.proofs.ListLaws.{shares-count, list-computed, list-missing, list-energy}

@@ -1,18 +1,13 @@
--- What movements bring to V, U and S, by look-up.
--- Assumes nothing.
-use mathlib.Core.Path.{_≡_, refl, ap, _∙_}
-use mathlib.Core.Bool.{Bool, true, false, cond, not, _&&_}
+-- What movements bring to V, U and S, by look-up. Assumes nothing.
+use mathlib.Core.{Path._≡_, Path.refl, Path.ap, Bool.cond, Bool.not, Bool._&&_}
 use mathlib.Core.List.{List, [], _∷_, _++_}
 use Prim.Native.Nat.{ℕ, _+_, _*_, _%_}
 use native.Mathlib.Omega.{arith}
-use lib.ListN.{getD}
-use lib.Dec.{eqb}
+use lib.{ListN.getD, Dec.eqb}
 use borrow.Author.Tests.{eq-eqb, ne-eqb}
 use Rattle.level.specs.Energy.{energyOf}
-use Rattle.movement.specs.Period.{weightOf}
-use Rattle.movement.specs.Group.{groupPeriod}
 use Rattle.movement.proofs.Ranges.{periods-hold}
-use Rattle.book_rules.specs.History.{Held, Movement, movement, hasLevels}
+use Rattle.book_rules.specs.History.{Movement, movement, hasLevels}
 use Rattle.book_rules.specs.History.Held.{none, holds}
 use Rattle.load_rules.specs.Afresh.{computedIn, missingIn, heldEnergy, energyOfGroup, Brought, EachBrings}
 use Rattle.load_rules.proofs.RefusalLaws.{none-exactly}

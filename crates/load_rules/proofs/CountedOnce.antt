@@ -1,40 +1,29 @@
 -- Demand 3: after any calls on an empty book, refused ones included, the load at each point is the one worked afresh
 -- from the list of movements,
--- and where one is computed it is answered and counts every movement once.
--- Assumes nothing.
+-- and where one is computed it is answered and counts every movement once. Assumes nothing.
 use mathlib.Core.Path.{_≡_, refl, sym, ap, subst, _∙_}
-use mathlib.Core.Bool.{Bool, true, false, cond, not, _&&_}
-use mathlib.Core.List.{List, [], _∷_}
+use mathlib.Core.{Bool.Bool, Bool.true, Bool.false, Bool.cond, Bool._&&_, List.List, List.[]}
 use Prim.Native.Nat.{ℕ, zero, suc, _+_, _*_, _^_, _≤_, _<_}
-use mathlib.Core.Logic.{_↔_}
-use native.Mathlib.Nat.{zero-div}
-use native.Mathlib.Omega.{arith}
-use lib.ListN.{length, getD, replicate}
-use lib.Dec.{eqb, ltb, lit<}
-use borrow.Author.Tests.{eqb-true, eqb-false, ltb-true, lt-ltb}
-use Rattle.level.specs.Energy.{meanOf}
-use Rattle.level.specs.Level.{levelOf}
+use native.Mathlib.{Nat.zero-div, Omega.arith}
+use lib.{ListN.length, ListN.getD, ListN.replicate, Dec.eqb, Dec.ltb, Dec.lit<}
+use borrow.Author.Tests.{eqb-false, ltb-true, lt-ltb}
+use Rattle.level.specs.{Energy.meanOf, Level.levelOf}
 use Rattle.level.proofs.Promises.{below-zero}
 use Rattle.movement.specs.Limits.{groupCount}
-use Rattle.refusal.specs.Refuse.{refuse}
 use Rattle.book_rules.specs.Columns.{Book, sound}
 use Rattle.book_rules.specs.History.{Movement, sizesFit, emptyBook, Made, booked, movements}
-use Rattle.book_rules.proofs.Standing.{AllGood}
-use Rattle.book_rules.proofs.History.{told-all, history-sound}
-use Rattle.load_rules.specs.declared.Group.{Group}
-use Rattle.load_rules.specs.declared.Counts.{Counts}
-use Rattle.load_rules.specs.declared.Load.{Load}
-use Rattle.load_rules.specs.declared.Judged.{Judged}
+use Rattle.book_rules.proofs.{Standing.AllGood, History.told-all, History.history-sound}
+use Rattle.load_rules.specs.declared.{Group.Group, Counts.Counts, Load.Load}
 use Rattle.load_rules.specs.Shares.{Share, anyComputed, sharesOf, bookShares}
 use Rattle.load_rules.specs.Tally.{sumOf, tally, listFrom}
-use Rattle.load_rules.specs.Factors.{sumTo, scaledBy, known, unknown, knownSum, unknownSum, groupFactor}
+use Rattle.load_rules.specs.Factors.{sumTo, scaledBy, known, knownSum, unknownSum, groupFactor}
 use Rattle.load_rules.specs.Factors.{generalFactor}
 use Rattle.load_rules.specs.Load.{countsOf, scaledEnergy, scaledSum, totalOf, daysFit, noneComputed}
 use Rattle.load_rules.specs.Load.{loadRefusal, answer, refusedLoad, loadOf, bookLoad}
 use Rattle.load_rules.specs.Verdict.{verdictRefusal, refusalNumber, judged, judgedOf, bookVerdict}
 use Rattle.load_rules.specs.Refusals.{InRange, DaysInRange, LimitInRange, NoneComputed, LoadNumbers}
 use Rattle.load_rules.specs.Refusals.{VerdictNumbers}
-use Rattle.load_rules.specs.Afresh.{listLoad, listVerdict, someComputed, computedIn, missingIn, energyOfGroup}
+use Rattle.load_rules.specs.Afresh.{listLoad, listVerdict, someComputed, energyOfGroup}
 use Rattle.load_rules.specs.Afresh.{countsAt, TotalHolds, CountsEach, Alone, EachCountedOnce}
 use Rattle.load_rules.proofs.SumLaws.{sum-ext}
 use Rattle.load_rules.proofs.FactorLaws.{never-divided, known-same, general-same, weights-all}
@@ -43,8 +32,7 @@ use Rattle.load_rules.proofs.ListLaws.{shares-count, shares-computed, l
 use Rattle.load_rules.proofs.HistoryLaws.{history-shares, history-grouped}
 use Rattle.load_rules.proofs.Determined.{over-exactly-when}
 use Rattle.load_rules.proofs.RefusalLaws.{range-exactly, days-exactly, limit-exactly, ten-exactly}
-use Rattle.load_rules.proofs.RefusalLaws.{load-numbers, verdict-numbers}
-use Rattle.load_rules.proofs.Formulas.{formulas}
+use Rattle.load_rules.proofs.{RefusalLaws.load-numbers, RefusalLaws.verdict-numbers, Formulas.formulas}
 use Rattle.load_rules.proofs.TotalBound.{energy-small, total-small, mean-small}
 
 -- The counts of an answer

@@ -1,23 +1,18 @@
 -- The number of a verdict's answer; and two outcomes that meet the contract of a load, or of a verdict, are equal.
 -- Assumes nothing.
 use mathlib.Core.Path.{_≡_, refl, sym, ap, _∙_}
-use mathlib.Core.Bool.{Bool, true, false, cond, not, _&&_}
-use mathlib.Core.List.{List}
+use mathlib.Core.{Bool.Bool, Bool.true, Bool.false, Bool.cond, Bool.not, Bool._&&_, List.List, Logic._↔_}
 use Prim.Native.Nat.{ℕ, _<_}
-use mathlib.Core.Logic.{_↔_}
 use native.Mathlib.Omega.{arith}
 use lib.Dec.{eqb, ltb}
 use borrow.Author.Tests.{eqb-true, eqb-false}
-use Rattle.level.specs.declared.Level.{Level}
-use Rattle.level.specs.declared.Verdict.{Verdict}
+use Rattle.level.specs.declared.{Level.Level, Verdict.Verdict}
 use Rattle.level.specs.Level.{levelGiven, levelValue, verdictOf, verdictNumber}
 use Rattle.level.proofs.Neighbours.{by-neighbours}
 use Rattle.refusal.specs.Refuse.{refuse}
 use Rattle.book_rules.specs.Columns.{Book, sound}
-use Rattle.load_rules.specs.declared.Load.{Load}
-use Rattle.load_rules.specs.declared.Judged.{Judged}
-use Rattle.load_rules.specs.Shares.{Share, bookShares}
-use Rattle.load_rules.specs.Tally.{tally}
+use Rattle.load_rules.specs.declared.{Load.Load, Judged.Judged}
+use Rattle.load_rules.specs.{Shares.Share, Shares.bookShares, Tally.tally}
 use Rattle.load_rules.specs.Load.{daysFit, noneComputed, loadRefusal, answer, refusedLoad, loadOf, bookLoad}
 use Rattle.load_rules.specs.declared.Judged.the-variants.{Refused, Given}
 use Rattle.load_rules.specs.Verdict.{limitFits, verdictRefusal, refusalNumber, overNumber, judged, judgedOf}

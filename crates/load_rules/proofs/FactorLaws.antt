@@ -1,9 +1,7 @@
 -- The factors are exact: V times both factors, summed over the groups with V > 0, is the number of movements; and a
--- product with one is rounded down.
--- Assumes nothing.
-use mathlib.Core.Path.{_≡_, refl, sym, ap, _∙_}
-use mathlib.Core.Bool.{Bool, true, false, cond}
-use Prim.Native.Nat.{ℕ, zero, suc, _+_, _*_, _/_, _≤_, _<_}
+-- product with one is rounded down. Assumes nothing.
+use mathlib.Core.{Path._≡_, Path.refl, Path.sym, Path.ap, Path._∙_, Bool.Bool, Bool.true, Bool.false, Bool.cond}
+use Prim.Native.Nat.{ℕ, zero, suc, _+_, _*_, _≤_, _<_}
 use native.Mathlib.Nat.{add-zero, add-mul, suc-mul, mul-assoc, mul-comm, mul-left-comm, mul-right-comm, mul-one}
 use native.Mathlib.Nat.{one-mul, mul-pos, eq-of-mul-eq-mul-left, div-mul-le-self, lt-div-mul-add}
 use native.Mathlib.Omega.{arith}
@@ -21,10 +19,7 @@ pub rounded-down : (x : Fraction) (e : ℕ) → zero < x .lower → RoundedDown 
 unfolding scaledBy
 rounded-down x e h =
     rw (ne-eqb (x .lower) 0 (omega arith))
-    (record {
-      reached = div-mul-le-self (e * x .upper) (x .lower);
-      next = rw suc-mul (lt-div-mul-add h);
-    })
+    (record { reached = div-mul-le-self (e * x .upper) (x .lower); next = rw suc-mul (lt-div-mul-add h) })
 
 pub never-divided : (x : Fraction) (e : ℕ) → x .lower ≡ 0 → scaledBy x e ≡ 0
 unfolding scaledBy

@@ -1,7 +1,5 @@
--- A total of both factors is the one of formulas 10 and 11, each step by its bounds.
--- Assumes nothing.
-use mathlib.Core.Path.{_≡_, refl}
-use mathlib.Core.Bool.{cond}
+-- A total of both factors is the one of formulas 10 and 11, each step by its bounds. Assumes nothing.
+use mathlib.Core.{Path._≡_, Path.refl, Bool.cond}
 use Prim.Native.Nat.{ℕ, zero, suc, _+_, _*_, _<_}
 use native.Mathlib.Omega.{arith}
 use lib.Dec.{eqb, ltb}
@@ -10,10 +8,8 @@ use Rattle.level.specs.Neighbours.{Quotient}
 use Rattle.movement.specs.Limits.{groupCount}
 use Rattle.load_rules.specs.declared.Counts.{Counts}
 use Rattle.load_rules.specs.Factors.{Fraction, scaledBy, sumTo, known, unknown, knownSum}
-use Rattle.load_rules.specs.Factors.{unknownSum, groupFactor, generalFactor}
-use Rattle.load_rules.specs.Afresh.{TotalHolds}
-use Rattle.load_rules.proofs.SumLaws.{sum-ext}
-use Rattle.load_rules.proofs.FactorLaws.{rounded-down, never-divided}
+use Rattle.load_rules.specs.{Factors.unknownSum, Factors.groupFactor, Factors.generalFactor, Afresh.TotalHolds}
+use Rattle.load_rules.proofs.{SumLaws.sum-ext, FactorLaws.rounded-down, FactorLaws.never-divided}
 
 -- known and unknown by the test V > 0
 known-tested : (v u : ℕ) → cond (eqb v 0) 0 (v + u) ≡ cond (ltb 0 v) (v + u) 0

@@ -1,20 +1,16 @@
--- The rows of a book after any calls bring to a point what the movements of the list bring.
--- Assumes nothing.
+-- The rows of a book after any calls bring to a point what the movements of the list bring. Assumes nothing.
 use mathlib.Core.Path.{_≡_, refl, ap, _∙_}
 use mathlib.Core.List.{List, [], _∷_, _++_, append-nil, append-assoc}
 use Prim.Native.Nat.{ℕ, zero, suc, _+_, _*_, _≤_, _<_}
-use native.Mathlib.Nat.{zero-mul, zero-add, suc-mul}
-use native.Mathlib.Omega.{arith}
-use lib.ListN.{length, getD, replicate, List·getD-append}
-use lib.Seq.{getD-append-add}
+use native.Mathlib.{Nat.zero-mul, Nat.zero-add, Nat.suc-mul, Omega.arith}
+use lib.{ListN.length, ListN.getD, ListN.replicate, ListN.List·getD-append, Seq.getD-append-add}
 use borrow.Author.Tests.{ne-eqb}
 use Rattle.movement.specs.Limits.{groupCount}
 use Rattle.book_rules.specs.Columns.{bookOf}
 use Rattle.book_rules.specs.History.{Held, Movement, markOf, levelsOf, column, identityCell, rowsOf, emptyBook, Made}
 use Rattle.book_rules.specs.History.{booked, movements}
 use Rattle.book_rules.specs.History.Held.{none, holds}
-use Rattle.book_rules.proofs.Standing.{AllGood}
-use Rattle.book_rules.proofs.History.{told-all}
+use Rattle.book_rules.proofs.{Standing.AllGood, History.told-all}
 use Rattle.load_rules.specs.Shares.{heldShare, sharesOf, rowShare, sharesTo, bookShares}
 use Rattle.load_rules.proofs.TallyLaws.{groupIn, AllGrouped}
 

@@ -1,15 +1,13 @@
--- The shares of a list of movements bring V, U and S of the movements themselves.
--- Assumes nothing.
+-- The shares of a list of movements bring V, U and S of the movements themselves. Assumes nothing.
 use mathlib.Core.Path.{_≡_, refl, ap}
 use mathlib.Core.Bool.{Bool, true, false, cond, not, _&&_, _||_}
 use mathlib.Core.List.{List, [], _∷_}
-use Prim.Native.Nat.{ℕ, suc, _+_}
+use Prim.Native.Nat.{ℕ, suc}
 use native.Mathlib.Omega.{arith}
-use lib.ListN.{length, getD}
-use lib.Dec.{eqb}
+use lib.{ListN.length, Dec.eqb}
 use Rattle.book_rules.specs.History.{Held, Movement, hasLevels}
 use Rattle.book_rules.specs.History.Held.{none, holds}
-use Rattle.load_rules.specs.Shares.{Share, energyIn, anyComputed, heldShare, sharesOf}
+use Rattle.load_rules.specs.Shares.{energyIn, anyComputed, heldShare, sharesOf}
 use Rattle.load_rules.specs.Tally.{addsComputed, addsMissing, addsEnergy, sumOf, tally}
 use Rattle.load_rules.specs.Afresh.{someComputed, computedIn, missingIn, heldEnergy, energyOfGroup}
 

@@ -1,28 +1,23 @@
 -- Each refusal of a load and of a verdict is given exactly where its reason holds and no earlier one does.
 -- Assumes nothing.
-use mathlib.Core.Path.{_≡_, refl, sym, ap, _∙_, subst}
+use mathlib.Core.Path.{_≡_, refl, sym, ap, _∙_}
 use mathlib.Core.Bool.{Bool, true, false, cond, not, _&&_, _||_, false≢true}
-use mathlib.Core.List.{List, [], _∷_}
-use mathlib.Core.Logic.{_↔_, Iff·trans}
-use Prim.Native.Nat.{ℕ, zero, suc, _≤_, _<_}
+use mathlib.Core.{List.List, List.[], List._∷_, Logic._↔_, Logic.Iff·trans}
+use Prim.Native.Nat.{ℕ, zero, suc, _<_}
 use native.Mathlib.Omega.{arith}
-use lib.ListN.{length, getD}
-use lib.Dec.{eqb, leb, ltb}
+use lib.{ListN.length, Dec.eqb, Dec.leb, Dec.ltb}
 use borrow.Author.Tests.{eqb-true}
 use Rattle.movement.proofs.Exactly.{less, most, both, opposite, refused-first, refused-later, not-given}
 use Rattle.refusal.specs.Refuse.{refuse}
-use Rattle.book_rules.specs.History.{Held, Movement, movement, sizesFit, hasLevels}
+use Rattle.book_rules.specs.History.{Held, Movement, sizesFit, hasLevels}
 use Rattle.book_rules.specs.History.Held.{none, holds}
-use Rattle.load_rules.specs.declared.Load.{Load}
-use Rattle.load_rules.specs.Shares.{Share, anyComputed, sharesOf}
-use Rattle.load_rules.specs.Tally.{tally}
+use Rattle.load_rules.specs.{Shares.Share, Shares.sharesOf, Tally.tally}
 use Rattle.load_rules.specs.Load.{daysFit, noneComputed, loadRefusal, answer, refusedLoad, loadOf}
 use Rattle.load_rules.specs.Verdict.{limitFits, verdictRefusal, refusalNumber, judgedOf}
 use Rattle.load_rules.specs.Afresh.{someComputed}
 use Rattle.load_rules.specs.Refusals.{InRange, DaysInRange, LimitInRange, NoneHeld, NoneComputed, LoadNumbers}
 use Rattle.load_rules.specs.Refusals.{VerdictNumbers}
-use Rattle.load_rules.proofs.ListLaws.{shares-count, shares-computed}
-use Rattle.load_rules.proofs.Determined.{number-of}
+use Rattle.load_rules.proofs.{ListLaws.shares-count, ListLaws.shares-computed, Determined.number-of}
 
 -- The reasons
 

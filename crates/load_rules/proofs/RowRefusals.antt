@@ -1,21 +1,17 @@
--- The refusals of a load and of a verdict on any book, by its rows.
--- Assumes nothing.
-use mathlib.Core.Path.{_≡_, refl, sym, ap, _∙_, subst}
+-- The refusals of a load and of a verdict on any book, by its rows. Assumes nothing.
+use mathlib.Core.Path.{_≡_, refl, sym, subst}
 use mathlib.Core.Bool.{Bool, true, false, cond, not, _&&_, _||_, false≢true}
 use mathlib.Core.List.{List, [], _∷_, _++_}
 use mathlib.Core.Logic.{_↔_, Iff·trans, Iff·and, Iff·not, ⊎-elim}
-use Prim.Native.Nat.{ℕ, zero, suc, _+_, _*_, _≤_, _<_}
-use native.Mathlib.Nat.{eq-or-lt-of-le}
-use native.Mathlib.Omega.{arith}
-use lib.ListN.{length, getD, length-append}
-use lib.Dec.{eqb, ltb}
+use Prim.Native.Nat.{ℕ, zero, suc, _+_, _*_, _<_}
+use native.Mathlib.{Nat.eq-or-lt-of-le, Omega.arith}
+use lib.{ListN.length, ListN.getD, ListN.length-append, Dec.eqb, Dec.ltb}
 use borrow.Author.Tests.{eqb-true, eqb-false}
 use Rattle.movement.proofs.Exactly.{less, both, opposite}
 use Rattle.book_rules.specs.Columns.{Book, sound}
 use Rattle.load_rules.specs.Shares.{Share, energyIn, anyComputed, rowShare, sharesTo, bookShares}
 use Rattle.load_rules.specs.Shares.Share.{has, lacks}
-use Rattle.load_rules.specs.Load.{noneComputed, bookLoad}
-use Rattle.load_rules.specs.Verdict.{bookVerdict}
+use Rattle.load_rules.specs.{Load.noneComputed, Load.bookLoad, Verdict.bookVerdict}
 use Rattle.load_rules.specs.Refusals.{NoneMarked, BookRefusals}
 use Rattle.load_rules.proofs.RefusalLaws.{days-exactly, limit-exactly, load-numbers, verdict-numbers}
 

@@ -1,10 +1,7 @@
--- Laws of sums over numbers.
--- Assumes nothing.
-use mathlib.Core.Path.{_≡_, refl, sym}
-use mathlib.Core.Bool.{Bool, true, false, cond}
+-- Laws of sums over numbers. Assumes nothing.
+use mathlib.Core.{Path._≡_, Path.refl, Path.sym, Bool.Bool, Bool.true, Bool.false, Bool.cond}
 use Prim.Native.Nat.{ℕ, zero, suc, _+_, _*_, _≤_, _<_}
-use native.Mathlib.Nat.{mul-add, mul-zero, zero-add, suc-add}
-use native.Mathlib.Omega.{arith}
+use native.Mathlib.{Nat.mul-add, Nat.mul-zero, Nat.zero-add, Nat.suc-add, Omega.arith}
 use lib.Dec.{eqb, ltb}
 use borrow.Author.Tests.{eqb-true, eqb-false, ltb-true, ltb-false, lt-ltb, le-ltb}
 use Rattle.load_rules.specs.Factors.{sumTo}

@@ -1,12 +1,10 @@
--- Laws of V, U and S: two lists of shares, how many there are, and rule 10.
--- Assumes nothing.
+-- Laws of V, U and S: two lists of shares, how many there are, and rule 10. Assumes nothing.
 use mathlib.Core.Path.{_≡_, refl, sym, ap, _∙_}
 use mathlib.Core.Bool.{Bool, true, false, cond, not, _&&_, false≢true}
 use mathlib.Core.List.{List, [], _∷_, _++_}
 use Prim.Native.Nat.{ℕ, zero, suc, _+_, _≤_, _<_}
 use native.Mathlib.Omega.{arith}
-use lib.ListN.{length}
-use lib.Dec.{eqb, ltb, lit≤}
+use lib.{ListN.length, Dec.eqb, Dec.ltb}
 use borrow.Author.Tests.{lt-ltb, ne-eqb, eq-eqb}
 use Rattle.movement.specs.Limits.{groupCount}
 use Rattle.load_rules.specs.declared.Counts.{Counts}

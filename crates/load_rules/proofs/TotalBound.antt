@@ -1,21 +1,11 @@
--- No total is over 10^13 for each movement, so that M of a book fits 64 bits.
--- Assumes nothing.
+-- No total is over 10^13 for each movement, so that M of a book fits 64 bits. Assumes nothing.
 use Rattle.refusal.proofs.Ranges.{within-at}
-use mathlib.Core.Path.{_≡_}
-use mathlib.Core.Bool.{Bool, true, false, cond, _&&_}
-use mathlib.Core.List.{List, [], _∷_}
-use Prim.Native.Nat.{ℕ, zero, suc, _+_, _*_, _/_, _^_, _≤_, _<_}
-use native.Mathlib.Nat.{le-trans, add-mul, div-le-self, div-div-eq-div-mul}
-use native.Mathlib.Omega.{arith}
-use lib.ListN.{getD}
-use lib.Dec.{eqb, leb}
-use borrow.Author.Tests.{leb-true}
-use Rattle.refusal.specs.Range.{allWithin}
-use Rattle.refusal.proofs.Laws.{and-left, and-right}
-use Rattle.level.specs.Limits.{maxEnergy}
-use Rattle.level.specs.Energy.{meanOf}
-use Rattle.level.proofs.EnergyLaws.{energy-le}
-use Rattle.level.proofs.ScaleLaws.{scaled-le}
+use mathlib.Core.{Bool.Bool, Bool.true, Bool.false, Bool.cond, Bool._&&_, List.List, List.[], List._∷_}
+use Prim.Native.Nat.{ℕ, _+_, _*_, _/_, _≤_, _<_}
+use native.Mathlib.{Nat.le-trans, Nat.add-mul, Nat.div-le-self, Nat.div-div-eq-div-mul, Omega.arith}
+use lib.{ListN.getD, Dec.eqb}
+use Rattle.level.specs.{Limits.maxEnergy, Energy.meanOf}
+use Rattle.level.proofs.{EnergyLaws.energy-le, ScaleLaws.scaled-le}
 use Rattle.movement.specs.Limits.{groupCount}
 use Rattle.movement.proofs.Ranges.{periods-hold}
 use Rattle.book_rules.specs.Columns.{topLevel}

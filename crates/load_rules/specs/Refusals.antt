@@ -8,7 +8,7 @@ use mathlib.Core.List.{List}
 use lib.ListN.{length, getD}
 use mathlib.Core.Bool.{true}
 use Rattle.book_rules.specs.Columns.{Book, sound}
-use Rattle.book_rules.specs.History.{Held, Movement, movement}
+use Rattle.book_rules.specs.History.{Movement, movement}
 use Rattle.book_rules.specs.History.Held.{none}
 use Rattle.load_rules.specs.Load.{bookLoad}
 use Rattle.load_rules.specs.Verdict.{refusalNumber, bookVerdict}

@@ -10,7 +10,6 @@ use Rattle.level.specs.declared.Verdict.{Verdict}
 use Rattle.movement.specs.Limits.{maxLimit}
 use Rattle.refusal.specs.Refuse.{refuse}
 use Rattle.book_rules.specs.Columns.{Book, sound}
-use Rattle.load_rules.specs.declared.Load.{Load}
 use Rattle.load_rules.specs.declared.Judged.{Judged}
 use Rattle.load_rules.specs.declared.Judged.the-variants.{Refused, Given}
 use Rattle.load_rules.specs.Shares.{Share, bookShares}

@@ -3,8 +3,7 @@ use Prim.Native.Nat.{ℕ, _<_}
 use native.Mathlib.Omega.{arith}
 use Rattle.network.specs.declared.Edge.{Edge}
 use Rattle.network.specs.declared.Edge.the-variants.{Horizontal, Vertical}
-use Rattle.network.specs.Limits.{maxSide}
-use Rattle.network.specs.Edges.{Sides, WithinEdge}
+use Rattle.network.specs.{Limits.maxSide, Edges.Sides, Edges.WithinEdge}
 use Rattle.mapping.specs.Places.{rowOf, colOf}
 
 pub ends-small : {nx ny : ℕ} (e : Edge) → Sides nx ny → WithinEdge nx ny e

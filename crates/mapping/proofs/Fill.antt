@@ -2,16 +2,13 @@
 use mathlib.Core.Path.{_≡_, refl, ap, _∙_}
 use mathlib.Core.List.{List, [], _∷_, _++_, append-assoc}
 use Prim.Native.Nat.{ℕ, suc, _+_, _*_, _≤_, _<_}
-use native.Mathlib.Numerals.{add-one}
-use native.Mathlib.Omega.{arith}
-use lib.Ieee.{Float}
-use lib.ListN.{length, getD, take, set, length-append}
+use native.Mathlib.{Numerals.add-one, Omega.arith}
+use lib.{Ieee.Float, ListN.length, ListN.getD, ListN.take, ListN.set, ListN.length-append}
 use lib.Seq.{take-suc, length-take-le}
 use Rattle.room.specs.Room.{front}
 use Rattle.room.proofs.Fronts.{front-more}
 use Rattle.network.specs.declared.Frame.{Frame}
-use Rattle.mapping.specs.Places.{locatedOf, shownOf}
-use Rattle.mapping.specs.Many.{numbersOf, placesOf}
+use Rattle.mapping.specs.{Places.locatedOf, Places.shownOf, Many.numbersOf, Many.placesOf}
 
 module _ (levels : List ℕ) (f : Frame) (v : ℕ) where
   numbers-last : (ns : List ℕ) (n : ℕ) → numbersOf levels f v (ns ++ (n ∷ []))

@@ -1,29 +1,19 @@
 -- What the calls leave in lent room, place by place. Assumes nothing.
-use mathlib.Core.Path.{_≡_, refl, sym, ap, _∙_, subst}
-use mathlib.Core.Bool.{Bool, true, _&&_}
-use mathlib.Core.Logic.{_↔_}
-use mathlib.Core.List.{List, [], _∷_}
+use mathlib.Core.{Path._≡_, Path.refl, Path.sym, Path.ap, Path._∙_, Path.subst, Bool.Bool, Bool.true, Bool._&&_}
+use mathlib.Core.{Logic._↔_, List.List, List.[], List._∷_}
 use Prim.Native.Nat.{ℕ, zero, suc, _+_, _*_, _≤_, _<_}
 use native.Mathlib.Omega.{arith}
 use borrow.Author.Tests.{leb-true, le-leb}
-use lib.Dec.{leb}
-use lib.Ieee.{Float}
-use lib.ListN.{length, getD}
+use lib.{Dec.leb, Ieee.Float, ListN.length, ListN.getD}
 use Rattle.refusal.specs.Refuse.{refuse}
 use Rattle.room.specs.Room.{front, fitsIn, thenRoom}
-use Rattle.room.proofs.Fronts.{front-at, front-past, left-alone}
-use Rattle.room.proofs.Answers.{first-none}
+use Rattle.room.proofs.{Fronts.front-at, Fronts.front-past, Fronts.left-alone, Answers.first-none}
 use Rattle.network.specs.declared.Frame.{Frame}
-use Rattle.network.specs.Ranges.{RoomRefused}
-use Rattle.network.specs.Refusals.{contourRefusal}
-use Rattle.network.proofs.Refusals.{both}
-use Rattle.network.proofs.Ranges.{room-refused}
-use Rattle.mapping.specs.Fractions.{whole, crossingOf, whichOf, fractionShown, askedWhich, askedFraction}
-use Rattle.mapping.specs.Fractions.{crossingAsked}
-use Rattle.mapping.specs.Places.{locatedOf, shownOf, mappedShown, mappedOf}
-use Rattle.mapping.specs.Many.{numbersOf, placesOf, Many}
-use Rattle.mapping.specs.OneCrossing.{OneCrossing}
-use Rattle.mapping.specs.Room.{shownAt, ManyInRoom, CrossingInRoom}
+use Rattle.network.specs.{Ranges.RoomRefused, Refusals.contourRefusal}
+use Rattle.network.proofs.{Refusals.both, Ranges.room-refused}
+use Rattle.mapping.specs.Fractions.{whole, crossingOf, whichOf, fractionShown}
+use Rattle.mapping.specs.{Places.locatedOf, Places.shownOf, Many.numbersOf, Many.placesOf, Many.Many}
+use Rattle.mapping.specs.{OneCrossing.OneCrossing, Room.shownAt, Room.ManyInRoom, Room.CrossingInRoom}
 use Rattle.mapping.proofs.Fill.{length-numbers, length-places}
 
 -- ---- refusals

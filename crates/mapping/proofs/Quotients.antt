@@ -1,20 +1,12 @@
 -- The binary64 quotient of two whole numbers is the nearest value to their fraction, and keeps the fraction's
 -- order. Assumes nothing.
-use mathlib.Core.Path.{_≡_, refl, sym, ap, _∙_, subst}
-use mathlib.Core.Bool.{Bool, true, false, cond}
-use Prim.Native.Nat.{ℕ, zero, suc, _*_, _^_, _≤_, _<_}
-use native.Mathlib.Nat.{mul-one, one-mul, mul-pos, mul-comm, mul-assoc, mul-left-comm, mul-right-comm}
-use native.Mathlib.Omega.{arith}
+use mathlib.Core.{Path._≡_, Path.sym, Path._∙_, Path.subst, Bool.false}
+use Prim.Native.Nat.{ℕ, _*_, _^_, _≤_, _<_}
+use native.Mathlib.{Nat.mul-one, Nat.mul-pos, Nat.mul-comm, Nat.mul-assoc, Nat.mul-left-comm, Omega.arith}
 use borrow.Author.Tests.{ne-eqb}
-use lib.Dec.{T, eqb, lit<}
-use lib.IntN.{ℤ, pos}
-use lib.Ieee.{Float, nan, inf, fin, Format, binary64, prec, up, down, unlike, round, div, ofInt, le}
-use lib.Ieee.Fits.{down-pos}
-use lib.Ieee.Exact.{HasValue}
-use lib.Ieee.Back.{round-whole}
-use lib.Ieee.Order.{round-mono}
-use lib.Ieee.Scale.{round-same}
-use lib.Ieee.Positive.{first-pos}
+use lib.Dec.{lit<}
+use lib.Ieee.{Float, nan, inf, fin, Format, binary64, up, down, round, div, ofInt}
+use lib.Ieee.{Fits.down-pos, Exact.HasValue, Back.round-whole, Order.round-mono, Scale.round-same, Positive.first-pos}
 use Rattle.mapping.specs.Fractions.{whole, Rounded}
 
 pub whole-value : (n : ℕ) → n ≤ 2 ^ 53 → HasValue (whole n) false n 1

@@ -1,19 +1,14 @@
 -- Sums and products of values that lie between whole numbers lie between the sums and products of those. Assumes
 -- nothing.
-use mathlib.Core.Path.{_≡_, refl, sym, ap, _∙_, subst}
-use mathlib.Core.Bool.{Bool, true, false, not, _&&_, _||_, cond, Bool·beq, true≢false}
-use Prim.Native.Nat.{ℕ, zero, suc, _+_, _*_, _^_, _≤_, _<_}
-use native.Mathlib.Nat.{mul-one, one-mul, mul-pos, mul-comm, mul-assoc, mul-left-comm, mul-right-comm, mul-le-mul}
-use native.Mathlib.Nat.{mul-le-mul-right, le-of-mul-le-mul-right, le-of-eq, le-of-lt, le-trans, add-zero}
-use native.Mathlib.Nat.{mul-mul-mul-comm, add-mul}
-use native.Mathlib.Omega.{arith}
-use lib.Dec.{T, ltb, eqb, lit<, lit≤, ltb→lt, eqb→eq}
-use lib.IntN.{ℤ, pos}
-use lib.Ieee.{Float, nan, inf, fin, Format, binary64, prec, up, down, round, add, mul, sum, ofInt, lt, eq, le, level}
-use lib.Ieee.Fits.{up-pos, down-pos, and-l}
-use lib.Ieee.Exact.{HasValue}
-use lib.Ieee.Back.{round-whole}
-use lib.Ieee.Order.{round-mono, le-of-values}
+use mathlib.Core.Path.{_≡_, refl, sym, ap, _∙_}
+use mathlib.Core.Bool.{Bool, true, false, _||_, Bool·beq, true≢false}
+use Prim.Native.Nat.{ℕ, _+_, _*_, _^_, _≤_, _<_}
+use native.Mathlib.Nat.{mul-one, mul-pos, mul-comm, mul-assoc, mul-right-comm, mul-le-mul}
+use native.Mathlib.Nat.{mul-le-mul-right, le-of-mul-le-mul-right, le-of-eq, le-trans}
+use native.Mathlib.{Nat.mul-mul-mul-comm, Nat.add-mul, Omega.arith}
+use lib.{Dec.T, Dec.ltb, Dec.eqb, Dec.lit<, Dec.lit≤, Dec.ltb→lt, Dec.eqb→eq, IntN.ℤ}
+use lib.Ieee.{Float, nan, inf, fin, binary64, up, down, round, add, mul, sum, ofInt, lt, eq, le, level}
+use lib.Ieee.{Fits.down-pos, Fits.and-l, Exact.HasValue, Back.round-whole, Order.round-mono, Order.le-of-values}
 use lib.Ieee.Scale.{finite, grid, round-val, round-under}
 use Rattle.mapping.specs.Fractions.{whole}
 

@@ -1,40 +1,26 @@
 -- What is answered for the edge of a number is the rules' crossing and map point, or none. Assumes nothing.
-use mathlib.Core.Path.{_≡_, refl, sym, ap, _∙_, subst}
-use mathlib.Core.Bool.{Bool, true, false, _&&_, true≢false}
-use mathlib.Core.Logic.{_⊎_, inl, inr}
-use mathlib.Core.List.{List}
-use Prim.Native.Nat.{ℕ, _+_, _*_, _^_, _≤_, _<_}
-use native.Mathlib.Nat.{mul-le-mul, le-of-lt}
-use native.Mathlib.Omega.{arith}
+use mathlib.Core.{Path._≡_, Path.refl, Path.sym, Path.ap, Path._∙_, Bool.Bool, Bool.true, Bool.false}
+use mathlib.Core.{Logic._⊎_, Logic.inl, List.List}
+use Prim.Native.Nat.{ℕ, _+_, _*_, _≤_, _<_}
+use native.Mathlib.{Nat.mul-le-mul, Nat.le-of-lt, Omega.arith}
 use borrow.Author.Tests.{ltb-true, eqb-true, lt-ltb, le-ltb, eq-eqb}
-use lib.Dec.{ltb, eqb}
-use lib.Ieee.{binary64, round, ofInt}
-use Rattle.network.specs.declared.Edge.{Edge}
+use lib.{Dec.ltb, Dec.eqb, Ieee.binary64, Ieee.round, Ieee.ofInt}
+use Rattle.network.specs.declared.{Edge.Edge, Frame.Frame}
 use Rattle.network.specs.declared.Edge.the-variants.{Horizontal, Vertical}
-use Rattle.network.specs.declared.Frame.{Frame}
-use Rattle.network.specs.Limits.{maxSide, maxSpacing, maxOrigin}
-use Rattle.network.specs.Edges.{edges, edgeAt, WithinEdge, Checked}
-use Rattle.network.specs.Crossed.{crossedEdge, crossedAt, distance}
-use Rattle.network.specs.Refusals.{contourRefusal}
-use Rattle.network.specs.Numbering.{OneIn}
-use Rattle.network.proofs.Numbers.{by-cond}
-use Rattle.network.proofs.Numbering.{parts, edges-numbered, crossed-exactly}
-use Rattle.network.proofs.Ranges.{contour-refused}
-use Rattle.network.proofs.Astride.{astride, num-den}
+use Rattle.network.specs.{Limits.maxSide, Limits.maxOrigin, Edges.edges, Edges.edgeAt, Edges.Checked}
+use Rattle.network.specs.{Crossed.crossedEdge, Crossed.crossedAt, Crossed.distance, Refusals.contourRefusal}
+use Rattle.network.proofs.{Numbers.by-cond, Numbering.parts, Numbering.edges-numbered, Numbering.crossed-exactly}
+use Rattle.network.proofs.{Ranges.contour-refused, Astride.astride, Astride.num-den}
 use Rattle.network.proofs.Refusals.{both, contour-not-refused}
-use Rattle.mapping.specs.declared.Crossing.{Crossing}
-use Rattle.mapping.specs.declared.Asked.{Asked}
-use Rattle.mapping.specs.declared.Asked.the-variants.{Crossed, Refused}
-use Rattle.mapping.specs.declared.Mapped.{Mapped}
-use Rattle.mapping.specs.declared.Mapped.the-variants.{Place, Denied}
+use Rattle.mapping.specs.declared.{Crossing.Crossing, Asked.Asked, Mapped.Mapped}
+use Rattle.mapping.specs.declared.Asked.the-variants.{Crossed}
+use Rattle.mapping.specs.declared.Mapped.the-variants.{Place}
 use Rattle.mapping.specs.Fractions.{whole, fractionOf, alongEdge, isCrossed, crossingOf, whichOf, fractionShown}
-use Rattle.mapping.specs.Fractions.{askedRefusal, askedWhich, askedFraction, crossingAsked}
-use Rattle.mapping.specs.Places.{rowOf, colOf, locate, locatedOf, mappedRefusal, mappedShown, mappedOf}
+use Rattle.mapping.specs.Fractions.{askedRefusal, askedFraction, crossingAsked}
+use Rattle.mapping.specs.Places.{rowOf, colOf, locate, mappedRefusal, mappedOf}
 use Rattle.mapping.specs.Ranges.{Within, Exactly, Divided, AlongRow, AlongColumn, None, ByNumber, Answered}
-use Rattle.mapping.proofs.Ends.{ends-small}
-use Rattle.mapping.proofs.Quotients.{whole-value}
-use Rattle.mapping.proofs.Range.{quotient-ranged, at-least, at-most}
-use Rattle.mapping.proofs.Stepwise.{moves}
+use Rattle.mapping.proofs.{Ends.ends-small, Quotients.whole-value}
+use Rattle.mapping.proofs.{Range.quotient-ranged, Range.at-least, Range.at-most, Stepwise.moves}
 
 -- ---- the fraction
 

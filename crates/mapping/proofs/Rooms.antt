@@ -1,17 +1,13 @@
 -- Calls that write map points and crossings into lent room: what they leave by each way out, and that two outcomes are
 -- equal. Assumes nothing.
-use mathlib.Core.Path.{_≡_, refl}
-use mathlib.Core.Bool.{false}
-use mathlib.Core.List.{List}
+use mathlib.Core.{Path._≡_, Bool.false, List.List}
 use Prim.Native.Nat.{ℕ, _*_, _≤_, _<_}
-use lib.Ieee.{Float}
-use lib.ListN.{length}
+use lib.{Ieee.Float, ListN.length}
 use Rattle.room.specs.Room.{front, thenRoom}
 use Rattle.room.proofs.Answers.{write-both, short-first, short-second, one-outcome-two}
 use Rattle.network.specs.declared.Frame.{Frame}
 use Rattle.network.specs.Refusals.{contourRefusal}
-use Rattle.mapping.specs.Many.{numbersOf, placesOf, Many}
-use Rattle.mapping.specs.OneCrossing.{OneCrossing}
+use Rattle.mapping.specs.{Many.numbersOf, Many.placesOf, Many.Many, OneCrossing.OneCrossing}
 use Rattle.mapping.proofs.Fill.{length-numbers, length-places}
 
 -- past the check of a network that is right, 14 is what is left

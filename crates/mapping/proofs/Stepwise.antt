@@ -1,20 +1,14 @@
 -- The moving coordinate of a map point, step by step: each is the nearest binary64 to the exact result, and the
 -- last lies on the edge. Assumes nothing.
-use mathlib.Core.Path.{_≡_, refl, sym, ap, _∙_, subst}
-use mathlib.Core.Bool.{true, false, true≢false}
-use Prim.Native.Nat.{ℕ, _+_, _*_, _^_, _≤_, _<_}
+use mathlib.Core.{Path._≡_, Path.refl, Path.ap, Path._∙_, Bool.true, Bool.false, Bool.true≢false}
+use Prim.Native.Nat.{ℕ, _+_, _*_, _≤_, _<_}
 use native.Mathlib.Nat.{mul-one, one-mul, mul-pos, mul-comm, mul-assoc, mul-left-comm, mul-mul-mul-comm, mul-le-mul}
-use native.Mathlib.Nat.{le-of-lt, add-zero, add-mul}
-use native.Mathlib.Omega.{arith}
+use native.Mathlib.{Nat.le-of-lt, Nat.add-zero, Nat.add-mul, Omega.arith}
 use lib.Dec.{lit<}
-use lib.Ieee.{Float, nan, inf, fin, binary64, up, down, round, add, mul, sum, unlike}
-use lib.Ieee.Fits.{down-pos}
-use lib.Ieee.Exact.{HasValue}
-use lib.Ieee.Scale.{round-same}
+use lib.Ieee.{Float, nan, inf, fin, binary64, up, down, round, add, mul, sum}
+use lib.Ieee.{Fits.down-pos, Exact.HasValue, Scale.round-same}
 use Rattle.network.specs.Limits.{maxSide, maxSpacing, maxOrigin}
-use Rattle.mapping.specs.Fractions.{whole}
-use Rattle.mapping.specs.Places.{moving}
-use Rattle.mapping.specs.Ranges.{Value, Moves}
+use Rattle.mapping.specs.{Fractions.whole, Places.moving, Ranges.Value, Ranges.Moves}
 use Rattle.mapping.proofs.Quotients.{whole-value}
 use Rattle.mapping.proofs.Range.{Ranged, whole-ranged, quotient-ranged, add-ranged, mul-ranged, at-least}
 use Rattle.mapping.proofs.Range.{at-most}

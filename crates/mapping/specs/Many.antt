@@ -5,7 +5,6 @@ use lib.Ieee.{Float}
 use Rattle.room.specs.Room.{WritesTwo}
 use Rattle.network.specs.declared.Frame.{Frame}
 use Rattle.network.specs.Refusals.{contourRefusal}
-use Rattle.mapping.specs.declared.Shown.{Shown}
 use Rattle.mapping.specs.Places.{locatedOf, shownOf}
 
 -- the number, and the coordinates, of the map point of each edge

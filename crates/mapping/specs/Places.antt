@@ -11,7 +11,6 @@ use Rattle.network.specs.Edges.{edgeAt}
 use Rattle.network.specs.Refusals.{contourRefusal}
 use Rattle.mapping.specs.declared.Crossing.{Crossing}
 use Rattle.mapping.specs.declared.Crossing.the-variants.{Nowhere, AlongHorizontal, AlongVertical}
-use Rattle.mapping.specs.declared.MapPoint.{MapPoint}
 use Rattle.mapping.specs.declared.Located.{Located}
 use Rattle.mapping.specs.declared.Located.the-variants.{Off, OnHorizontal, OnVertical}
 use Rattle.mapping.specs.declared.Mapped.{Mapped}

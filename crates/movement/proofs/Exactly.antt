@@ -1,12 +1,9 @@
 -- A test passes exactly if its fact holds, and refusals in their order: each number exactly where its fact fails and
--- every earlier one holds.
--- Assumes nothing.
+-- every earlier one holds. Assumes nothing.
 use Prim.Native.Nat.{ℕ, suc, _≤_, _<_}
 use mathlib.Core.Path.{_≡_, refl, sym}
-use mathlib.Core.Bool.{Bool, true, false, not, _&&_, false≢true}
-use mathlib.Core.Logic.{_↔_}
-use native.Mathlib.Nat.{lt-of-not-le, not-le-of-lt}
-use native.Mathlib.Omega.{arith}
+use mathlib.Core.{Bool.Bool, Bool.true, Bool.false, Bool.not, Bool._&&_, Bool.false≢true, Logic._↔_}
+use native.Mathlib.{Nat.lt-of-not-le, Nat.not-le-of-lt, Omega.arith}
 use lib.Dec.{eqb, leb, ltb}
 use borrow.Author.Tests.{ltb-true, leb-true, eqb-true, lt-ltb, le-leb, eq-eqb}
 use Rattle.refusal.specs.Refuse.{refuse}
@@ -31,10 +28,7 @@ opposite true = (λ e. absurd (false≢true e), λ e. absurd (false≢true (sym 
 opposite false = (λ e. refl, λ e. refl)
 
 pub not-less : (a b : ℕ) → (¬ (a < b)) ↔ b ≤ a
-not-less a b = (
-  λ n. let l : b < suc a = lt-of-not-le n in omega arith,
-  λ h l. not-le-of-lt l h,
-)
+not-less a b = (λ n. let l : b < suc a = lt-of-not-le n in omega arith, λ h l. not-le-of-lt l h)
 
 -- Refusals
 

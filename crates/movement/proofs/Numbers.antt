@@ -1,7 +1,6 @@
 -- The rules' numbers of types, kinds, periods and groups: a number in range and its case name each other, and a group
--- is below 18.
--- Assumes nothing.
-use Prim.Native.Nat.{ℕ, zero, suc, _+_, _*_, _%_, _≤_, _<_}
+-- is below 18. Assumes nothing.
+use Prim.Native.Nat.{ℕ, zero, suc, _+_, _*_, _%_, _<_}
 use mathlib.Core.Path.{_≡_, refl, ap, _∙_}
 use native.Mathlib.Omega.{arith}
 use Rattle.movement.specs.declared.aircraft.Aircraft.{Aircraft}

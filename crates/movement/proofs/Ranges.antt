@@ -1,25 +1,20 @@
--- Every range and edge of a movement holds exactly.
--- Assumes nothing.
-use Prim.Native.Nat.{ℕ, zero, suc, _+_, _*_, _%_, _≤_, _<_}
-use mathlib.Core.Path.{_≡_, refl}
-use mathlib.Core.Bool.{Bool, true, false, cond, _&&_}
-use mathlib.Core.List.{List, [], _∷_}
-use mathlib.Core.Logic.{_↔_, Iff·trans}
+-- Every range and edge of a movement holds exactly. Assumes nothing.
+use Prim.Native.Nat.{ℕ, zero, suc, _*_, _%_, _≤_, _<_}
+use mathlib.Core.{Path._≡_, Path.refl, Bool.Bool, Bool.true, Bool.false, Bool.cond, Bool._&&_}
+use mathlib.Core.{List.List, List.[], List._∷_, Logic._↔_, Logic.Iff·trans}
 use native.Mathlib.Omega.{arith}
-use lib.ListN.{length, getD}
-use lib.Dec.{eqb, leb, ltb}
+use lib.{ListN.length, ListN.getD, Dec.eqb, Dec.leb, Dec.ltb}
 use borrow.Author.Tests.{ltb-true, ltb-false, leb-true, lt-ltb, le-leb}
 use Rattle.refusal.specs.Range.{allWithin}
 use Rattle.refusal.proofs.Laws.{and-left, and-right}
 use Rattle.movement.specs.declared.period.Period.the-variants.{Day, Evening, Night}
 use Rattle.movement.specs.Aircraft.{aircraftNumbered, massFits}
 use Rattle.movement.specs.Period.{periodOf, periodNumber, periodNumbered, weightOf}
-use Rattle.movement.specs.Group.{groupOf, groupPeriod}
+use Rattle.movement.specs.Group.{groupPeriod}
 use Rattle.movement.specs.Rules.{fieldsFit, counts, movementRefusal, identityFits, levelsFit}
 use Rattle.movement.specs.Ranges.{FieldsInRange, LevelsInRange, RangesHold, PeriodsHold}
 use Rattle.movement.proofs.Exactly.{less, most, same, both, not-less, refused-first, refused-later}
-use Rattle.movement.proofs.Exactly.{passed-last, not-given}
-use Rattle.movement.proofs.Numbers.{group-of, group-period}
+use Rattle.movement.proofs.{Exactly.passed-last, Exactly.not-given, Numbers.group-of, Numbers.group-period}
 
 -- Rule 1
 

@@ -1,6 +1,5 @@
 -- A crossed edge has a level below v at one end, and one of at least v at the other. Assumes nothing.
-use mathlib.Core.Path.{_≡_, refl, sym}
-use mathlib.Core.Bool.{Bool, true, false, true≢false}
+use mathlib.Core.{Path._≡_, Path.refl, Path.sym, Bool.Bool, Bool.true, Bool.false, Bool.true≢false}
 use mathlib.Core.Logic.{_⊎_, inl, inr, ⊎-elim}
 use Prim.Native.Nat.{ℕ, _≤_, _<_}
 use borrow.Author.Tests.{leb-true, leb-false}

@@ -1,19 +1,16 @@
 -- Edges have the rules' numbers, and are crossed where it says. Assumes nothing.
-use mathlib.Core.Path.{_≡_, refl, sym, ap, _∙_}
-use mathlib.Core.Bool.{Bool, true, false}
-use mathlib.Core.Logic.{_⊎_, inl, inr, ⊎-elim, _↔_}
-use mathlib.Core.List.{List}
-use Prim.Native.Nat.{ℕ, _+_, _-_, _*_, _≤_, _<_}
+use mathlib.Core.{Path._≡_, Path.refl, Path.sym, Path.ap, Path._∙_, Bool.true}
+use mathlib.Core.{Logic._⊎_, Logic.inl, Logic.inr, Logic.⊎-elim, Logic._↔_, List.List}
+use Prim.Native.Nat.{ℕ, _-_, _≤_, _<_}
 use native.Mathlib.Omega.{arith}
 use borrow.Author.Tests.{leb-true, le-leb, lt-leb}
 use lib.Dec.{leb}
 use Rattle.network.specs.declared.Edge.{Edge}
 use Rattle.network.specs.declared.Edge.the-variants.{Horizontal, Vertical}
-use Rattle.network.specs.Edges.{edges, numberOf, edgeAt, levelAt}
+use Rattle.network.specs.Edges.{edgeAt}
 use Rattle.network.specs.Crossed.{unlike, crossedEdge, crossedAt, distance}
-use Rattle.network.specs.Numbering.{Apart, Parts, EdgesNumbered, CrossedExactly, OneIn}
-use Rattle.network.proofs.Numbers.{number-lt, at-number, number-at}
-use Rattle.network.proofs.Astride.{astride}
+use Rattle.network.specs.Numbering.{Apart, Parts, EdgesNumbered, CrossedExactly}
+use Rattle.network.proofs.{Numbers.number-lt, Numbers.at-number, Numbers.number-at, Astride.astride}
 
 pub edges-numbered : (nx ny : ℕ) → 2 ≤ nx → EdgesNumbered nx ny
 edges-numbered nx ny wide = record {

@@ -1,12 +1,9 @@
 -- Edges and their numbers, one to one. Assumes nothing.
-use mathlib.Core.Path.{_≡_, refl, sym, ap, _∙_, subst}
-use mathlib.Core.Bool.{Bool, true, false, cond}
-use Prim.Native.Nat.{ℕ, _+_, _-_, _*_, _/_, _%_, _≤_, _<_}
-use native.Mathlib.Nat.{mod-lt, div-lt-iff-lt-mul, div-add-mod', add-sub-cancel-left, mul-le-mul}
-use native.Mathlib.Omega.{arith}
+use mathlib.Core.{Path._≡_, Path.refl, Bool.Bool, Bool.true, Bool.false, Bool.cond}
+use Prim.Native.Nat.{ℕ, _+_, _-_, _*_, _/_, _≤_, _<_}
+use native.Mathlib.{Nat.mod-lt, Nat.div-lt-iff-lt-mul, Nat.div-add-mod', Nat.mul-le-mul, Omega.arith}
 use borrow.Author.Tests.{lt-ltb, le-ltb, ltb-true, ltb-false}
-use lib.Arith.{digits-lt, digits-div, digits-mod}
-use lib.Dec.{ltb}
+use lib.{Arith.digits-lt, Arith.digits-div, Arith.digits-mod, Dec.ltb}
 use Rattle.network.specs.declared.Edge.{Edge}
 use Rattle.network.specs.declared.Edge.the-variants.{Horizontal, Vertical}
 use Rattle.network.specs.Limits.{maxSide, maxEdges}

@@ -1,19 +1,16 @@
 -- Refusals 12, 13 and 15 are given exactly where the rules say. Assumes nothing.
-use mathlib.Core.Path.{_≡_, refl, sym, ap, _∙_, subst}
+use mathlib.Core.Path.{_≡_, refl, sym, _∙_, subst}
 use mathlib.Core.Bool.{Bool, true, false, _&&_, cond, true≢false}
-use mathlib.Core.Logic.{_⊎_, inl, inr, ⊎-elim, _↔_}
-use mathlib.Core.List.{List}
+use mathlib.Core.{Logic._⊎_, Logic.inl, Logic.inr, Logic.⊎-elim, Logic._↔_, List.List}
 use Prim.Native.Nat.{ℕ, _*_}
 use native.Mathlib.Omega.{arith}
 use borrow.Author.Tests.{le-leb, eq-eqb, leb-true, eqb-true}
-use lib.Dec.{leb, eqb}
-use lib.ListN.{length}
-use Rattle.refusal.specs.Range.{allWithin}
-use Rattle.refusal.specs.Refuse.{refuse, first}
+use lib.{Dec.leb, ListN.length}
+use Rattle.refusal.specs.{Range.allWithin, Refuse.refuse, Refuse.first}
 use Rattle.refusal.proofs.Ranges.{within-at, within-each}
 use Rattle.network.specs.declared.Frame.{Frame}
 use Rattle.network.specs.Limits.{maxNetworkLevel}
-use Rattle.network.specs.Refusals.{between, sided, placed, filled, checked, networkRefusal}
+use Rattle.network.specs.Refusals.{between, sided, placed, filled, networkRefusal}
 use Rattle.network.specs.Refusals.{contourChecked, contourRefusal}
 use Rattle.network.specs.Ranges.{RightFrame, RightLevels, RightContour}
 use Rattle.network.specs.Ranges.{NetworkRefused, ContourRefused, RoomRefused}

@@ -1,19 +1,15 @@
 -- What a network that is not refused is. Assumes nothing.
-use mathlib.Core.Path.{_≡_, refl}
-use mathlib.Core.Bool.{Bool, true, false, _&&_, cond}
-use mathlib.Core.List.{List}
+use mathlib.Core.{Path._≡_, Path.refl, Bool.Bool, Bool.true, Bool.false, Bool._&&_, Bool.cond, List.List}
 use Prim.Native.Nat.{ℕ, _≤_}
 use native.Mathlib.Omega.{arith}
 use borrow.Author.Tests.{leb-true, eqb-true}
-use lib.Dec.{leb, eqb}
-use Rattle.refusal.specs.Range.{allWithin}
-use Rattle.refusal.specs.Refuse.{first}
-use Rattle.refusal.proofs.Laws.{and-left, and-right}
-use Rattle.refusal.proofs.Ranges.{within-at}
+use lib.Dec.{leb}
+use Rattle.refusal.specs.{Range.allWithin, Refuse.first}
+use Rattle.refusal.proofs.{Laws.and-left, Laws.and-right, Ranges.within-at}
 use Rattle.network.specs.declared.Frame.{Frame}
 use Rattle.network.specs.Limits.{leastSide, maxSide, leastSpacing, maxSpacing, maxOrigin}
 use Rattle.network.specs.Limits.{maxNetworkLevel, leastContour, maxContour}
-use Rattle.network.specs.Edges.{Sides, Sized, Checked}
+use Rattle.network.specs.Edges.{Sides, Checked}
 use Rattle.network.specs.Refusals.{between, sided, placed, filled, checked, networkRefusal}
 use Rattle.network.specs.Refusals.{contourChecked, contourRefusal}
 
@@ -21,9 +17,7 @@ pub both : (a b : Bool) → (a && b) ≡ true → (a ≡ true) × (b ≡ true)
 both a b h = (and-left a b h, and-right a b h)
 
 pub in-between : (low x high : ℕ) → between low x high ≡ true → (low ≤ x) × (x ≤ high)
-in-between low x high h =
-    let p = both (leb low x) (leb x high) h in
-    (leb-true _ _ (p .0), leb-true _ _ (p .1))
+in-between low x high h = let p = both (leb low x) (leb x high) h in (leb-true _ _ (p .0), leb-true _ _ (p .1))
 
 -- ---- a network that is not refused
 

@@ -1,23 +1,17 @@
 -- Register rows: from the library's answer to numbers in lent room. Assumes nothing.
 use Prim.Native.Nat.{ℕ, _+_, _≤_}
 use mathlib.Core.Path.{_≡_, refl, sym, ap, _∙_}
-use mathlib.Core.Bool.{Bool, true, false, cond, _&&_}
-use mathlib.Core.List.{List, []}
+use mathlib.Core.{Bool.Bool, Bool.true, Bool.false, Bool.cond, Bool._&&_, List.List, List.[]}
 use native.Mathlib.Omega.{arith}
 use borrow.Author.Tests.{le-leb, ne-eqb, eqb-true}
-use lib.Dec.{leb, eqb}
-use lib.ListN.{length, getD, take}
-use lib.Seq.{length-take-le}
-use Rattle.text.proofs.Digits.{either}
-use Rattle.text.proofs.Indices.{length-listing}
+use lib.{Dec.leb, Dec.eqb, ListN.length, ListN.getD, ListN.take, Seq.length-take-le}
+use Rattle.text.proofs.{Digits.either, Indices.length-listing}
 use Rattle.text.specs.Line.{bareLine}
 use Rattle.room.specs.Room.{front, fitsIn, thenRoom, WritesTwo}
 use Rattle.register.specs.declared.cell.Cells.{Cells}
 use Rattle.register.specs.declared.cell.Table.the-variants.{Register}
 use Rattle.register.specs.Cell.{cellsOf}
-use Rattle.register.specs.declared.row.Fields.{Fields}
-use Rattle.register.specs.declared.row.Layout.{Layout}
-use Rattle.register.specs.declared.row.Answer.{Answer}
+use Rattle.register.specs.declared.row.{Fields.Fields, Layout.Layout, Answer.Answer}
 use Rattle.register.specs.declared.row.Answer.the-variants.{Row, Refused}
 use Rattle.register.specs.Row.{pointsFit, layoutOf, cellsLayout, rowLayout, eightFrom, offLayout, fieldList}
 use Rattle.register.specs.Row.{rowRefusal, RowRead}

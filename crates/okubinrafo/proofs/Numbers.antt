@@ -1,21 +1,15 @@
 -- The numbers of a load, one by one, and the load and the verdict in lent room. Assumes nothing.
 use Prim.Native.Nat.{ℕ, suc, _+_, _-_, _≤_, _<_}
-use mathlib.Core.Path.{_≡_, refl, sym, ap, _∙_}
-use mathlib.Core.Bool.{_&&_}
+use mathlib.Core.{Path._≡_, Path.refl, Path.sym, Path.ap, Path._∙_, Bool._&&_}
 use mathlib.Core.List.{List, [], _∷_, _++_, map}
-use native.Mathlib.Nat.{zero-add}
-use native.Mathlib.Numerals.{add-one}
-use native.Mathlib.Omega.{arith}
+use native.Mathlib.{Nat.zero-add, Numerals.add-one, Omega.arith}
 use lib.ListN.{length, getD, take, drop, set, length-append, length-map, List·getD-append, List·getD-map}
-use lib.Seq.{getD-append-add, paste-suc}
-use lib.Dec.{eqb, ltb}
-use Rattle.level.specs.declared.Level.{Level}
-use Rattle.level.specs.declared.Verdict.{Verdict}
+use lib.{Seq.getD-append-add, Seq.paste-suc, Dec.eqb, Dec.ltb}
+use Rattle.level.specs.declared.{Level.Level, Verdict.Verdict}
 use Rattle.level.specs.Level.{verdictNumber}
 use Rattle.text.proofs.Digits.{either}
 use Rattle.book_rules.specs.Columns.{Book, sound}
-use Rattle.load_rules.specs.declared.Counts.{Counts}
-use Rattle.load_rules.specs.declared.Judged.{Judged}
+use Rattle.load_rules.specs.declared.{Counts.Counts, Judged.Judged}
 use Rattle.load_rules.specs.declared.Judged.the-variants.{Refused, Given}
 use Rattle.load_rules.specs.Shares.{bookShares}
 use Rattle.load_rules.specs.Load.{loadRefusal, answer, refusedLoad, loadOf, bookLoad}

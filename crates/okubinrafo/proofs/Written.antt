@@ -1,12 +1,10 @@
 -- Register rows written: from the library's answer to numbers in lent room. Assumes nothing.
 use Prim.Native.Nat.{ℕ, _≤_}
-use mathlib.Core.Path.{_≡_, refl, sym, ap, _∙_}
-use mathlib.Core.Bool.{Bool, true, false, _&&_, and-true}
+use mathlib.Core.{Path._≡_, Path.refl, Path.sym, Path.ap, Path._∙_, Bool.false, Bool._&&_, Bool.and-true}
 use mathlib.Core.List.{List, [], _∷_}
 use native.Mathlib.Omega.{arith}
 use borrow.Author.Tests.{le-leb, ne-eqb, eq-eqb}
-use lib.Dec.{leb}
-use lib.ListN.{length, set}
+use lib.{Dec.leb, ListN.length, ListN.set}
 use Rattle.room.specs.Room.{front, fitsIn, thenRoom, WritesTwo}
 use Rattle.register.specs.declared.row.Fields.{Fields}
 use Rattle.register.specs.declared.write.Written.{Written}

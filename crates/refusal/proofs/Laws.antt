@@ -1,6 +1,5 @@
 -- Laws on tests and refusals that every crate uses: what a test that passed says of its parts, and what a branch on
--- a test says of the test.
--- Assumes nothing.
+-- a test says of the test. Assumes nothing.
 use mathlib.Core.Path.{_≡_, refl, sym, _∙_}
 use mathlib.Core.Bool.{Bool, true, false, not, _&&_, false≢true}
 use mathlib.Core.List.{List, [], _∷_}

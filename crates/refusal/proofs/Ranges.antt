@@ -1,14 +1,10 @@
 -- Laws of `allWithin`: for the loop that reads a list from its front, and for the values of a list that passed.
 -- Assumes nothing.
-use mathlib.Core.Path.{_≡_, refl, ap, _∙_}
-use mathlib.Core.Bool.{Bool, true, _&&_}
+use mathlib.Core.{Path._≡_, Path.refl, Path.ap, Path._∙_, Bool.Bool, Bool.true, Bool._&&_}
 use mathlib.Core.List.{List, [], _∷_}
 use Prim.Native.Nat.{ℕ, zero, suc, _+_, _≤_, _<_}
-use native.Mathlib.Numerals.{add-one}
-use native.Mathlib.Omega.{arith}
-use lib.Dec.{leb}
-use lib.ListN.{length, drop, getD, drop-of-length-le}
-use lib.Seq.{drop-cons}
+use native.Mathlib.{Numerals.add-one, Omega.arith}
+use lib.{Dec.leb, ListN.length, ListN.drop, ListN.getD, ListN.drop-of-length-le, Seq.drop-cons}
 use borrow.Author.Tests.{leb-true, le-leb}
 use Rattle.refusal.specs.Range.{allWithin}
 use Rattle.refusal.proofs.Laws.{and-left, and-right}

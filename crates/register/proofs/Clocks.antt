@@ -1,21 +1,16 @@
 -- Laws of times of day: what is written reads back, and what is read is what is written. Assumes nothing.
 use Prim.Native.Nat.{ℕ, _+_, _-_, _*_, _/_, _%_, _≤_, _<_}
-use mathlib.Core.Path.{_≡_, refl, sym, ap, _∙_}
-use mathlib.Core.List.{List, [], _∷_, _++_}
+use mathlib.Core.{Path._≡_, Path.refl, Path.sym, Path.ap, Path._∙_, List.List, List.[], List._∷_, List._++_}
 use mathlib.Core.Bool.{_&&_}
 use native.Mathlib.Omega.{arith}
 use borrow.Author.Tests.{lt-ltb, ltb-true, eqb-true}
 use lib.ListN.{length, getD, take, drop, length-drop}
-use lib.Seq.{length-take-le, split-at, drop-drop, getD-drop, take-all}
-use lib.Dec.{ltb, eqb}
+use lib.{Seq.length-take-le, Seq.split-at, Seq.drop-drop, Seq.getD-drop, Seq.take-all, Dec.ltb, Dec.eqb}
 use Rattle.refusal.proofs.Laws.{and-left, and-right}
-use Rattle.text.specs.Number.{digitsOf, showDigits}
-use Rattle.text.specs.Field.{countOf}
+use Rattle.text.specs.{Number.digitsOf, Number.showDigits, Field.countOf}
 use Rattle.text.specs.declared.number.Number.{Number}
 use Rattle.text.specs.declared.number.Number.the-variants.{Got, Off}
-use Rattle.text.proofs.Digits.{passed}
-use Rattle.text.proofs.Shown.{digits-back}
-use Rattle.text.proofs.Exact.{digits-text}
+use Rattle.text.proofs.{Digits.passed, Shown.digits-back, Exact.digits-text}
 use Rattle.text.proofs.Free.{byte-free, digits-free, nil-free}
 use Rattle.register.specs.Clock.{under, twoAt, clock, timeOf, showTime}
 

@@ -2,21 +2,16 @@
 -- that was
 -- read is the text of its value. Assumes nothing.
 use Prim.Native.Nat.{ℕ, zero, suc, _≤_, _<_}
-use mathlib.Core.Path.{_≡_, refl, sym, ap, _∙_}
-use mathlib.Core.List.{List, []}
-use mathlib.Core.Bool.{false, _&&_}
+use mathlib.Core.{Path._≡_, Path.refl, Path.sym, Path.ap, Path._∙_, List.List, List.[], Bool.false, Bool._&&_}
 use native.Mathlib.Omega.{arith}
 use borrow.Author.Tests.{le-leb, lt-leb, eq-eqb, ne-eqb, leb-true, eqb-true, eqb-false}
-use lib.ListN.{length}
-use lib.Dec.{leb, eqb}
+use lib.{ListN.length, Dec.leb, Dec.eqb}
 use Rattle.refusal.proofs.Laws.{and-left, and-right}
-use Rattle.text.specs.Number.{levelOf, showLevel}
-use Rattle.text.specs.Field.{countOf}
+use Rattle.text.specs.{Number.levelOf, Number.showLevel, Field.countOf}
 use Rattle.text.specs.declared.number.Number.the-variants.{Got}
 use Rattle.text.proofs.Digits.{either, whole-small}
 use Rattle.text.proofs.Shown.{whole-back, level-back, shown-width, level-most, level-least}
-use Rattle.text.proofs.Exact.{whole-exact, level-exact, level-small}
-use Rattle.text.proofs.Free.{shown-free, level-free}
+use Rattle.text.proofs.{Exact.whole-exact, Exact.level-exact, Exact.level-small, Free.shown-free, Free.level-free}
 use Rattle.register.specs.Cell.{levelOrBlank, rowCell, limitsCell, shownCell, cellText}
 use Rattle.register.specs.InnerCell.{blankCell, topOf}
 use Rattle.register.proofs.Clocks.{time-back, time-free, time-exact}

@@ -1,27 +1,19 @@
 -- Read and written again: a row that is read gives the same bytes, with its CRLF. Assumes nothing.
 use Prim.Native.Nat.{ℕ, zero, suc, _+_, _-_, _≤_, _<_}
-use mathlib.Core.Path.{_≡_, refl, sym, ap, _∙_}
-use mathlib.Core.List.{List, [], _∷_, _++_}
+use mathlib.Core.{Path._≡_, Path.refl, Path.sym, Path.ap, Path._∙_, List.List, List.[], List._∷_, List._++_}
 use mathlib.Core.Bool.{true, _&&_}
 use native.Mathlib.Omega.{arith}
 use borrow.Author.Tests.{le-leb, leb-true, leb-false, eq-eqb, eqb-true, eqb-false}
 use lib.ListN.{length, getD, take, replicate, length-append, List·getD-append}
-use lib.Seq.{length-take-le, getD-take}
-use lib.Dec.{leb, eqb}
+use lib.{Seq.length-take-le, Seq.getD-take, Dec.leb, Dec.eqb}
 use Rattle.refusal.specs.Range.{allWithin}
 use Rattle.refusal.proofs.Laws.{and-left, and-right, refuse-none, nil-of}
 use Rattle.refusal.proofs.Ranges.{within-at, within-each}
 use Rattle.movement.specs.Rules.{fieldsFit, identityFits, levelsFit}
-use Rattle.text.specs.Number.{isGot, valueOf}
-use Rattle.text.specs.Field.{countOf, fieldOf, joinedBy}
-use Rattle.text.specs.Index.{every, many, listing}
-use Rattle.text.specs.Line.{bareLine}
-use Rattle.text.specs.Spelled.{crlf}
+use Rattle.text.specs.{Field.countOf, Field.fieldOf, Field.joinedBy, Index.every, Index.many, Index.listing}
+use Rattle.text.specs.{Line.bareLine, Spelled.crlf}
 use Rattle.room.specs.Room.{front}
-use Rattle.text.specs.declared.number.Number.{Number}
-use Rattle.text.specs.declared.number.Number.the-variants.{Got, Off}
-use Rattle.text.proofs.Digits.{either, got-value}
-use Rattle.text.proofs.Fields.{fields-joined}
+use Rattle.text.proofs.{Digits.either, Digits.got-value, Fields.fields-joined}
 use Rattle.text.proofs.Indices.{every-each, many-zero, many-full, listing-at, listing-same, length-listing}
 use Rattle.register.specs.Cell.{cellAt, gotAt, valueAt, blankAt, cellText, cellsOf}
 use Rattle.register.specs.Row.{eightFrom, fieldsOf, rowLayout, cellsLayout, layoutOf, faultOf, rowRefusal}
@@ -29,12 +21,10 @@ use Rattle.register.specs.Row.{answerNumber, RowRead}
 use Rattle.register.specs.Write.{columns, textAt, showLine, showRow, zeroWhereBlank, rowLevelsFit, writeFault}
 use Rattle.register.specs.Write.{writeRefusal, writtenNumber, RowWritten}
 use Rattle.register.specs.declared.cell.Table.the-variants.{Register}
-use Rattle.register.specs.declared.row.Layout.{Layout}
-use Rattle.register.specs.declared.row.Answer.{Answer}
+use Rattle.register.specs.declared.row.{Layout.Layout, Answer.Answer}
 use Rattle.register.specs.declared.write.Written.{Written}
 use Rattle.register.proofs.Columns.{cell-exact, cell-blank, text-blank, text-marked, text-head}
-use Rattle.register.proofs.Writes.{column-level}
-use Rattle.register.proofs.Rows.{row-none, layout-points}
+use Rattle.register.proofs.{Writes.column-level, Rows.row-none, Rows.layout-points}
 
 -- a row on its layout: how many fields it has, that each was read, and what its levels leave blank
 pub record OnLayout (n : ℕ) (s : List ℕ) (l : Layout) (mark : ℕ) : Type 0 where

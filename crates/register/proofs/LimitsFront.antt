@@ -1,32 +1,24 @@
 -- limits.csv needs only its first 128 bytes: what follows them changes no answer. Assumes nothing.
 use Prim.Native.Nat.{ℕ, zero, suc, _+_, _-_, _*_, _≤_, _<_}
-use mathlib.Core.Path.{_≡_, refl, sym, ap, _∙_}
-use mathlib.Core.List.{List, [], _∷_}
+use mathlib.Core.{Path._≡_, Path.refl, Path.sym, Path.ap, Path._∙_, List.List, List.[], List._∷_}
 use mathlib.Core.Bool.{true, false, _&&_}
 use native.Mathlib.Omega.{arith}
 use borrow.Author.Tests.{lt-ltb, lt-leb, leb-true, leb-false, eqb-true}
 use lib.ListN.{length, getD, take, drop, length-drop}
-use lib.Seq.{getD-take, take-add, drop-at, length-take-le}
-use lib.Dec.{leb, eqb}
+use lib.{Seq.getD-take, Seq.take-add, Seq.drop-at, Seq.length-take-le, Dec.leb, Dec.eqb}
 use Rattle.refusal.proofs.Laws.{and-left, and-right}
-use Rattle.text.specs.Field.{countOf, fieldOf}
-use Rattle.text.specs.Index.{every}
-use Rattle.text.specs.Line.{firstLine, linesOf}
+use Rattle.text.specs.{Field.countOf, Field.fieldOf, Index.every, Line.firstLine, Line.linesOf}
 use Rattle.text.specs.declared.number.Number.{Number}
 use Rattle.text.specs.declared.number.Number.the-variants.{Got, Off}
 use Rattle.text.proofs.Digits.{either, whole-small, got-value}
-use Rattle.text.proofs.Exact.{whole-exact, level-exact, level-small}
-use Rattle.text.proofs.Fields.{fields-joined}
-use Rattle.text.proofs.Indices.{every-each}
-use Rattle.text.proofs.Lines.{lines-first, lines-next, lines-rest, lines-one}
+use Rattle.text.proofs.{Exact.whole-exact, Exact.level-exact, Exact.level-small, Fields.fields-joined}
+use Rattle.text.proofs.{Indices.every-each, Lines.lines-first, Lines.lines-next, Lines.lines-rest, Lines.lines-one}
 use Rattle.text.proofs.Shown.{shown-width, level-most}
 use Rattle.register.specs.Cell.{limitsCell, cellAt, gotAt, valueAt, cellsOf}
 use Rattle.register.specs.Header.{headerOf, limitsHeader}
 use Rattle.register.specs.LimitsFile.{secondLimits, headedLimits, limitsOf}
 use Rattle.register.specs.declared.cell.Table.the-variants as table
-use Rattle.register.proofs.Longest.{span, line-within}
-use Rattle.register.proofs.Writes.{comma-most}
-use Rattle.register.proofs.Rows.{header-range}
+use Rattle.register.proofs.{Longest.span, Longest.line-within, Writes.comma-most, Rows.header-range}
 
 -- the first line of a front of the text: the same where its CRLF is in the front, and else as long as the front
 front-line : (m : ℕ) (s : List ℕ) → length (firstLine s) + 2 ≤ m → firstLine (take m s) ≡ firstLine s

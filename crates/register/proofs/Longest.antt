@@ -1,29 +1,20 @@
 -- The longest row has 84 bytes before its CRLF: a longer one is off its layout. Assumes nothing.
 use Prim.Native.Nat.{ℕ, zero, suc, _+_, _*_, _≤_, _<_}
-use mathlib.Core.Path.{_≡_, ap}
-use mathlib.Core.List.{List, _++_}
-use native.Mathlib.Numerals.{add-one}
-use native.Mathlib.Omega.{arith}
+use mathlib.Core.{Path._≡_, Path.ap, List.List, List._++_}
+use native.Mathlib.{Numerals.add-one, Omega.arith}
 use borrow.Author.Tests.{eqb-true}
-use lib.ListN.{length, length-append}
-use lib.Dec.{leb, eqb}
+use lib.{ListN.length, ListN.length-append, Dec.leb, Dec.eqb}
 use Rattle.refusal.proofs.Laws.{and-right}
-use Rattle.text.specs.Field.{countOf, fieldOf, joinedBy}
-use Rattle.text.specs.Index.{listing}
-use Rattle.text.specs.Line.{bareLine}
+use Rattle.text.specs.{Field.countOf, Field.fieldOf, Field.joinedBy, Index.listing, Line.bareLine}
 use Rattle.text.specs.declared.number.Number.the-variants.{Got}
-use Rattle.text.proofs.Digits.{either, got-value}
-use Rattle.text.proofs.Fields.{fields-joined}
-use Rattle.text.proofs.Indices.{listing-none, every-each}
-use Rattle.text.proofs.Shown.{shown-width, level-most}
+use Rattle.text.proofs.{Digits.either, Digits.got-value, Fields.fields-joined}
+use Rattle.text.proofs.{Indices.listing-none, Indices.every-each, Shown.shown-width, Shown.level-most}
 use Rattle.register.specs.Cell.{rowCell, cellAt, gotAt, valueAt, shownCell, cellsOf}
 use Rattle.register.specs.InnerCell.{blankCell, topOf}
 use Rattle.register.specs.Row.{pointsFit, rowLayout, cellsLayout, layoutOf, offLayout}
 use Rattle.register.specs.InnerCell.{commaAt}
 use Rattle.register.specs.declared.cell.Table.the-variants.{Register}
-use Rattle.register.proofs.Columns.{cell-exact}
-use Rattle.register.proofs.Writes.{joined-more, comma-most}
-use Rattle.register.proofs.Rows.{layout-points}
+use Rattle.register.proofs.{Columns.cell-exact, Writes.joined-more, Writes.comma-most, Rows.layout-points}
 use Rattle.register.proofs.Converse.{marked}
 
 -- the most bytes that column k has, and what k columns of such widths have with their commas

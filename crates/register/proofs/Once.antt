@@ -1,12 +1,10 @@
 -- Two outcomes of one call are equal: an answer's number and values are the answer. Assumes nothing.
 use Prim.Native.Nat.{ℕ}
-use mathlib.Core.Path.{_≡_, sym, ap, _∙_}
-use mathlib.Core.List.{List}
+use mathlib.Core.{Path._≡_, Path.sym, Path.ap, Path._∙_, List.List}
 use native.Mathlib.Omega.{arith}
 use Rattle.register.specs.Row.{answerNumber, answerValues, fieldList, RowRead}
 use Rattle.register.specs.Write.{writtenNumber, writtenValues, RowWritten}
-use Rattle.register.specs.declared.row.Fields.{Fields}
-use Rattle.register.specs.declared.row.Answer.{Answer}
+use Rattle.register.specs.declared.row.{Fields.Fields, Answer.Answer}
 use Rattle.register.specs.declared.row.Answer.the-variants as answer
 use Rattle.register.specs.declared.write.Written.{Written}
 use Rattle.register.specs.declared.write.Written.the-variants as written

@@ -1,16 +1,11 @@
 -- Laws of a line's cells as they are read, one after the other. Assumes nothing.
 use Prim.Native.Nat.{ℕ, _+_, _-_, _≤_}
-use mathlib.Core.Path.{_≡_}
-use mathlib.Core.List.{List, _++_}
-use mathlib.Core.Bool.{Bool, true, false, cond, and-false}
+use mathlib.Core.{Path._≡_, List.List, List._++_, Bool.Bool, Bool.true, Bool.false, Bool.cond, Bool.and-false}
 use native.Mathlib.Omega.{arith}
 use borrow.Author.Tests.{leb-true, leb-false, eqb-true, ne-eqb}
-use lib.ListN.{replicate}
-use lib.Dec.{leb, eqb}
-use Rattle.text.specs.Field.{countOf, fieldOf}
-use Rattle.text.specs.Index.{every, many, listing}
-use Rattle.text.proofs.Digits.{either}
-use Rattle.text.proofs.Indices.{many-more}
+use lib.{ListN.replicate, Dec.leb, Dec.eqb}
+use Rattle.text.specs.{Field.countOf, Field.fieldOf, Index.every, Index.many, Index.listing}
+use Rattle.text.proofs.{Digits.either, Indices.many-more}
 use Rattle.register.specs.Cell.{cellsOf, gotCells, offCells, gotAt, valueAt, blankAt}
 use Rattle.register.specs.InnerCell.{blankCell}
 use Rattle.register.specs.declared.cell.Table.{Table}

@@ -1,35 +1,26 @@
 -- Written and read again: the fields of a row are the same values. Assumes nothing.
 use Prim.Native.Nat.{ℕ, zero, suc, _+_, _-_, _≤_, _<_}
-use mathlib.Core.Path.{_≡_, refl, sym, ap, _∙_}
-use mathlib.Core.List.{List, [], _∷_, _++_}
+use mathlib.Core.{Path._≡_, Path.refl, Path.sym, Path.ap, Path._∙_, List.List, List.[], List._∷_, List._++_}
 use mathlib.Core.Bool.{true}
 use native.Mathlib.Omega.{arith}
 use borrow.Author.Tests.{le-leb, eq-eqb, ne-eqb, eqb-true, eqb-false}
 use lib.ListN.{length, getD, take, drop, replicate, length-append, length-replicate}
-use lib.Seq.{take-at}
-use lib.Dec.{leb, eqb}
+use lib.{Seq.take-at, Dec.leb, Dec.eqb}
 use Rattle.refusal.specs.Range.{allWithin}
-use Rattle.refusal.proofs.Laws.{and-left, and-right}
-use Rattle.refusal.proofs.Ranges.{within-at}
-use Rattle.text.specs.Number.{isGot, valueOf}
-use Rattle.text.specs.Field.{countOf, fieldOf}
-use Rattle.text.specs.Index.{many, listing}
+use Rattle.refusal.proofs.{Laws.and-left, Laws.and-right, Ranges.within-at}
+use Rattle.text.specs.{Number.isGot, Number.valueOf, Field.countOf, Field.fieldOf, Index.many, Index.listing}
 use Rattle.room.specs.Room.{front}
 use Rattle.text.specs.declared.number.Number.the-variants.{Got}
-use Rattle.text.proofs.Digits.{either}
-use Rattle.text.proofs.Fields.{Free, join-field, join-count-all}
+use Rattle.text.proofs.{Digits.either, Fields.Free, Fields.join-field, Fields.join-count-all}
 use Rattle.text.proofs.Indices.{every-all, many-no, many-all, listing-at, listing-of, length-listing}
-use Rattle.text.proofs.Lines.{bare-back}
-use Rattle.text.proofs.Shown.{level-least}
+use Rattle.text.proofs.{Lines.bare-back, Shown.level-least}
 use Rattle.register.specs.Cell.{rowCell, cellAt, gotAt, valueAt, blankAt, cellText, cellsOf, gotCells}
 use Rattle.register.specs.Row.{eightFrom, rowLayout, cellsLayout, layoutOf, faultOf, rowRefusal, answerNumber}
 use Rattle.register.specs.Row.{answerValues, fieldList, RowRead}
 use Rattle.register.specs.Write.{columns, textAt, showLine, showRow, writeFault, writeRefusal, writtenNumber}
 use Rattle.register.specs.Write.{RowWritten}
 use Rattle.register.specs.declared.cell.Table.the-variants.{Register}
-use Rattle.register.specs.declared.row.Fields.{Fields}
-use Rattle.register.specs.declared.row.Layout.{Layout}
-use Rattle.register.specs.declared.row.Answer.{Answer}
+use Rattle.register.specs.declared.row.{Fields.Fields, Layout.Layout, Answer.Answer}
 use Rattle.register.specs.declared.write.Written.{Written}
 use Rattle.register.proofs.Columns.{text-no-comma, text-back, text-blank, text-marked, shown-level}
 use Rattle.register.proofs.Writes.{Fine, fault-fine, fine-writable, column-level}

@@ -1,21 +1,15 @@
 -- Laws of a row's refusals and of limits.csv. Assumes nothing.
 use Prim.Native.Nat.{ℕ, _-_, _/_, _%_, _≤_, _<_}
-use mathlib.Core.Path.{_≡_, ap}
-use mathlib.Core.List.{List, []}
-use mathlib.Core.Bool.{false, _&&_}
+use mathlib.Core.{Path._≡_, Path.ap, List.List, List.[], Bool.false, Bool._&&_}
 use native.Mathlib.Omega.{arith}
-use borrow.Author.Tests.{leb-true, ltb-true, eqb-true, eqb-false}
-use lib.ListN.{length, take}
-use lib.Dec.{leb, ltb, eqb}
-use Rattle.refusal.specs.Refuse.{refuse, first}
-use Rattle.refusal.specs.Range.{allWithin}
+use borrow.Author.Tests.{leb-true, ltb-true, eqb-true}
+use lib.{ListN.length, ListN.take, Dec.leb, Dec.ltb, Dec.eqb}
+use Rattle.refusal.specs.{Refuse.refuse, Range.allWithin}
 use Rattle.refusal.proofs.Laws.{and-left, and-right, refuse-none}
-use Rattle.text.specs.Field.{countOf}
-use Rattle.text.specs.Same.{sameText}
+use Rattle.text.specs.{Field.countOf, Same.sameText}
 use Rattle.text.specs.declared.number.Number.the-variants.{Got}
 use Rattle.text.proofs.Digits.{either, passed}
-use Rattle.register.specs.Cell.{cellsOf}
-use Rattle.register.specs.Row.{pointsFit, layoutOf, faultOf, rowRefusal}
+use Rattle.register.specs.{Cell.cellsOf, Row.pointsFit, Row.layoutOf, Row.faultOf, Row.rowRefusal}
 use Rattle.register.specs.Header.{headerOf}
 use Rattle.room.proofs.Answers.{first-none}
 use Rattle.register.specs.declared.cell.Table.{Table}

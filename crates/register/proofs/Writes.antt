@@ -1,30 +1,20 @@
 -- Laws of a row to be written: its values have a text each, and its line grows column by column. Assumes nothing.
 use Prim.Native.Nat.{ℕ, zero, suc, _+_, _-_, _≤_, _<_}
-use mathlib.Core.Path.{_≡_, refl, sym, ap, _∙_}
-use mathlib.Core.List.{List, [], _∷_, _++_}
+use mathlib.Core.{Path._≡_, Path.refl, Path.sym, Path.ap, Path._∙_, List.List, List.[], List._∷_, List._++_}
 use mathlib.Core.Bool.{true, cond, _&&_}
 use native.Mathlib.Omega.{arith}
 use borrow.Author.Tests.{leb-true, ltb-true, eqb-true, eq-eqb, ne-eqb}
-use lib.ListN.{length, getD}
-use lib.Dec.{leb, ltb, eqb}
+use lib.{ListN.length, ListN.getD, Dec.leb, Dec.ltb, Dec.eqb}
 use Rattle.refusal.specs.Range.{allWithin}
-use Rattle.refusal.proofs.Laws.{and-left, and-right, refuse-none}
-use Rattle.refusal.proofs.Ranges.{within-at}
-use Rattle.movement.specs.Limits.{maxIdentity}
-use Rattle.movement.specs.Rules.{fieldsFit, identityFits, levelsFit}
+use Rattle.refusal.proofs.{Laws.and-left, Laws.and-right, Laws.refuse-none, Ranges.within-at}
+use Rattle.movement.specs.{Limits.maxIdentity, Rules.fieldsFit, Rules.identityFits, Rules.levelsFit}
 use Rattle.movement.specs.Aircraft.{massFits, aircraftNumbered}
-use Rattle.text.specs.Field.{joinedBy}
-use Rattle.text.specs.Index.{listing}
-use Rattle.text.proofs.Digits.{either}
-use Rattle.text.proofs.Fields.{join-snoc}
-use Rattle.text.proofs.Indices.{listing-more, listing-cons}
-use Rattle.register.specs.Cell.{shownCell}
-use Rattle.register.specs.InnerCell.{topOf}
-use Rattle.register.specs.Row.{pointsFit, faultOf}
+use Rattle.text.specs.{Field.joinedBy, Index.listing, Number.showWhole}
+use Rattle.text.proofs.{Digits.either, Fields.join-snoc, Indices.listing-more, Indices.listing-cons}
+use Rattle.register.specs.{Cell.shownCell, InnerCell.topOf, Row.pointsFit, Row.faultOf}
 use Rattle.register.specs.Write.{columns, zeroWhereBlank, rowLevelsFit, writeFault}
 use Rattle.register.specs.InnerCell.{commaAt, Writable}
 use Rattle.register.specs.declared.row.Fields.{Fields}
-use Rattle.text.specs.Number.{showWhole}
 
 -- one field more at the end of a line
 joined-one : (f : ℕ → List ℕ)

@@ -1,6 +1,6 @@
 -- The columns of a register's row, by name: id,type,mtow,kind,time and then a level for each point. Assumes nothing.
 use Prim.Native.Nat.{ℕ, _+_}
-use mathlib.Core.List.{List, [], _∷_}
+use mathlib.Core.List.{[], _∷_}
 use lib.ListN.{getD}
 use Rattle.movement.specs.Limits.{maxPoints}
 

@@ -1,11 +1,9 @@
 -- A register that is accepted has its header, and none of its lines is refused. Assumes nothing.
-use mathlib.Core.Path.{_≡_, refl, sym, ap, _∙_}
-use mathlib.Core.Bool.{true, _&&_}
+use mathlib.Core.{Path._≡_, Path.refl, Path.sym, Path.ap, Path._∙_, Bool.true, Bool._&&_}
 use mathlib.Core.List.{List, [], _∷_}
 use Prim.Native.Nat.{ℕ, zero, suc, _+_, _≤_, _<_}
 use native.Mathlib.Omega.{arith}
-use lib.ListN.{length, getD, take}
-use lib.Dec.{eqb, leb}
+use lib.{ListN.length, ListN.getD, ListN.take, Dec.eqb, Dec.leb}
 use borrow.Author.Tests.{eqb-true, eqb-false, leb-true, leb-false}
 use Rattle.book_rules.specs.Columns.{Book}
 use Rattle.text.specs.Line.{linesOf}

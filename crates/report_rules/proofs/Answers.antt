@@ -1,17 +1,11 @@
--- The answer to limits.csv and a register, by how far each is read.
--- Assumes nothing.
-use mathlib.Core.Path.{_≡_, refl, sym, ap, _∙_}
-use mathlib.Core.Bool.{true, cond}
-use mathlib.Core.List.{List, [], _++_}
-use Prim.Native.Nat.{ℕ, _+_, _≤_, _<_}
+-- The answer to limits.csv and a register, by how far each is read. Assumes nothing.
+use mathlib.Core.{Path._≡_, Path.refl, Path.sym, Path.ap, Path._∙_, Bool.true, List.List, List.[], List._++_}
+use Prim.Native.Nat.{ℕ, _+_, _≤_}
 use native.Mathlib.Omega.{arith}
-use lib.Dec.{leb}
-use lib.ListN.{length, take, length-append, length-take}
-use lib.Seq.{take-append-le}
+use lib.{ListN.length, ListN.length-append, Seq.take-append-le}
 use borrow.Author.Tests.{ne-eqb, le-leb}
-use Rattle.movement.specs.Limits.{maxRows, maxPoints}
-use Rattle.book_rules.specs.Columns.{Book, sound}
-use Rattle.book_rules.specs.History.{emptyBook, booked, sizesFit}
+use Rattle.movement.specs.Limits.{maxPoints}
+use Rattle.book_rules.specs.{Columns.sound, History.emptyBook, History.booked, History.sizesFit}
 use Rattle.book_rules.proofs.History.{history-sound}
 use Rattle.register.specs.declared.limits_csv.LimitsFile.{LimitsFile}
 use Rattle.register.specs.LimitsFile.{limitsOf}

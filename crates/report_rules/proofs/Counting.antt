@@ -1,21 +1,18 @@
 -- The two numbers printed at each point: of all groups, the movements computed and those without levels.
 -- Assumes nothing.
-use mathlib.Core.Path.{_≡_, refl, sym, ap, _∙_}
+use mathlib.Core.Path.{_≡_, refl, _∙_}
 use mathlib.Core.Bool.{Bool, true, false, cond, not, _&&_, and-true, and-false}
 use mathlib.Core.List.{List, [], _∷_}
 use Prim.Native.Nat.{ℕ, suc, _+_, _<_}
 use native.Mathlib.Omega.{arith}
-use lib.Dec.{eqb, ltb}
-use lib.ListN.{length}
+use lib.{Dec.eqb, ListN.length}
 use borrow.Author.Tests.{lt-ltb}
 use Rattle.movement.specs.Limits.{groupCount}
 use Rattle.book_rules.specs.History.{Movement, hasLevels, Made, movements}
-use Rattle.book_rules.proofs.Standing.{AllGood}
-use Rattle.book_rules.proofs.History.{told-all}
+use Rattle.book_rules.proofs.{Standing.AllGood, History.told-all}
 use Rattle.load_rules.specs.declared.Load.{Load}
-use Rattle.load_rules.specs.Factors.{sumTo}
+use Rattle.load_rules.specs.{Factors.sumTo, Afresh.countsAt, Afresh.CountsEach}
 use Rattle.load_rules.specs.Afresh as afresh
-use Rattle.load_rules.specs.Afresh.{countsAt, CountsEach}
 use Rattle.load_rules.proofs.SumLaws.{sum-add, sum-zero, sum-ext, sum-one}
 use Rattle.report_text.specs.Totals as totals
 use Rattle.report_rules.specs.Flights.{howMany, computed}

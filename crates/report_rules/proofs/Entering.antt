@@ -1,14 +1,10 @@
--- *enter*, by its answer: what 0 and 2 say of a movement.
--- Assumes nothing.
+-- *enter*, by its answer: what 0 and 2 say of a movement. Assumes nothing.
 use Rattle.book_rules.proofs.Accepted.{neither-refused}
-use mathlib.Core.Path.{_≡_, refl}
-use mathlib.Core.Bool.{Bool, true, false, cond, not, _&&_}
-use mathlib.Core.List.{List}
+use mathlib.Core.{Path._≡_, Path.refl, Bool.Bool, Bool.true, Bool.false, Bool.not, Bool._&&_, List.List}
 use Prim.Native.Nat.{ℕ, _≤_}
 use native.Mathlib.Omega.{arith}
-use lib.ListN.{length}
-use lib.Dec.{eqb, ltb}
-use borrow.Author.Tests.{eqb-true, eqb-false, le-ltb, ltb-false}
+use lib.{ListN.length, Dec.eqb, Dec.ltb}
+use borrow.Author.Tests.{le-ltb, ltb-false}
 use Rattle.refusal.specs.Refuse.{refuse}
 use Rattle.refusal.proofs.Laws.{refuse-none}
 use Rattle.text.proofs.Digits.{either}

@@ -1,29 +1,24 @@
 -- No flight drops out: the movements that an accepted register leaves standing are its rows over 150 kg, each once.
 -- Assumes nothing.
-use mathlib.Core.Path.{_≡_, refl, sym, ap, subst, _∙_}
-use mathlib.Core.Bool.{Bool, true, false, cond, not, _&&_}
-use mathlib.Core.List.{List, [], _∷_, _++_}
+use mathlib.Core.{Path._≡_, Path.refl, Path.sym, Path.ap, Path._∙_, Bool.Bool, Bool.true}
+use mathlib.Core.List.{List, [], _∷_}
 use Prim.Native.Nat.{ℕ, zero, suc, _+_, _-_, _≤_, _<_}
 use native.Mathlib.Omega.{arith}
-use lib.ListN.{length, getD, take, drop}
-use lib.Dec.{eqb, ltb}
+use lib.{ListN.length, ListN.getD, ListN.drop, Dec.eqb, Dec.ltb}
 use borrow.Author.Tests.{eq-eqb, ne-eqb, eqb-true, eqb-false}
 use Rattle.text.specs.Line.{linesOf}
 use Rattle.text.proofs.Digits.{either}
 use Rattle.book_rules.specs.Columns.{Book}
-use Rattle.book_rules.specs.History.{Movement, emptyBook, booked, movements, listOf, accepted, rowsOf}
+use Rattle.book_rules.specs.History.{Movement, emptyBook, movements, listOf, accepted}
 use Rattle.book_rules.proofs.History.{Told, told, told-empty}
 use Rattle.register.specs.Row.{layoutOf}
 use Rattle.report_steps.specs.Intake.{takenNumber, rowTaken}
 use Rattle.report_steps.specs.Reading.{Reading, opening, lineRefusal, lineAfter, lineRead, linesRead, closing}
-use Rattle.report_steps.specs.Reading.{registered}
-use Rattle.report_steps.specs.Booking.{rowCalls, linesCalls, registerCalls}
-use Rattle.report_steps.proofs.Readings.{stuck}
-use Rattle.report_steps.proofs.Bookings.{row-booked, register-rows}
+use Rattle.report_steps.specs.{Reading.registered, Booking.rowCalls, Booking.linesCalls, Booking.registerCalls}
+use Rattle.report_steps.proofs.{Readings.stuck, Bookings.row-booked, Bookings.register-rows}
 use Rattle.report_rules.specs.Report.{bookRows}
 use Rattle.report_rules.specs.Flights.{rowsIn, flightsIn, howMany, standingIn, AllStand}
-use Rattle.report_rules.proofs.Listed.{accepted-then}
-use Rattle.report_rules.proofs.Rows.{row-read, row-flights}
+use Rattle.report_rules.proofs.{Listed.accepted-then, Rows.row-read, Rows.row-flights}
 
 -- flights of rows, one after the other
 flights-then : (test : Movement → Bool) (p : ℕ) (row : List ℕ) (rows : List (List ℕ))

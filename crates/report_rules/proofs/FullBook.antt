@@ -1,30 +1,21 @@
--- The report's book holds 2,000 flights, and one more is refused 6.
--- Assumes nothing.
-use mathlib.Core.Path.{_≡_, refl, sym, ap, _∙_}
-use mathlib.Core.Bool.{true, false}
-use mathlib.Core.List.{List}
-use Prim.Native.Nat.{ℕ, _+_, _≤_, _<_}
+-- The report's book holds 2,000 flights, and one more is refused 6. Assumes nothing.
+use mathlib.Core.{Path._≡_, Path.refl, Path.ap, Path._∙_, Bool.true, Bool.false, List.List}
+use Prim.Native.Nat.{ℕ, _≤_}
 use native.Mathlib.Omega.{arith}
-use lib.Dec.{eqb, ltb}
-use lib.ListN.{length}
+use lib.{Dec.ltb, ListN.length}
 use borrow.Author.Tests.{eq-eqb, le-leb, lt-ltb, le-ltb}
 use Rattle.movement.specs.Limits.{maxPoints}
 use Rattle.movement.proofs.Ranges.{ranges-hold}
-use Rattle.book_rules.specs.Columns.{Book}
-use Rattle.book_rules.specs.Calls.{refusal}
-use Rattle.book_rules.specs.History.{Movement, Made, made, emptyBook, booked, movements, standing, sizesFit}
+use Rattle.book_rules.specs.{Columns.Book, Calls.refusal}
+use Rattle.book_rules.specs.History.{Made, made, emptyBook, sizesFit}
 use Rattle.book_rules.specs.History.{standingRefusal, listRefusal}
 use Rattle.book_rules.proofs.History.{told-all, history-refusal}
 use Rattle.register.specs.Row.{layoutOf}
-use Rattle.report_steps.specs.Intake.{entering}
-use Rattle.report_steps.specs.Reading.{lineRefusal, registered}
-use Rattle.report_steps.specs.Booking.{registerCalls}
+use Rattle.report_steps.specs.{Intake.entering, Reading.registered, Booking.registerCalls}
 use Rattle.report_steps.proofs.Bookings.{register-booked}
-use Rattle.report_rules.specs.Report.{bookRows}
-use Rattle.report_rules.specs.Flights.{rowsIn, flightsIn, bookIn, standingIn}
+use Rattle.report_rules.specs.{Report.bookRows, Flights.bookIn, Flights.standingIn}
 use Rattle.report_rules.specs.FullBook.{Fresh, TwoThousand}
-use Rattle.report_rules.proofs.Flights.{all-stand}
-use Rattle.report_rules.proofs.Refusing.{row-refused}
+use Rattle.report_rules.proofs.{Flights.all-stand, Refusing.row-refused}
 
 module _ (p : ℕ) (register : List ℕ) (some : 1 ≤ p) (few : p ≤ 8)
     (accepted : registered p (emptyBook p bookRows) register .refusal ≡ 0) where

@@ -1,19 +1,13 @@
--- A header line, of a register or of limits.csv, is the full text up to its last point.
--- Assumes nothing.
-use mathlib.Core.Path.{_≡_, refl, ap, _∙_}
-use mathlib.Core.Bool.{true, _&&_}
-use mathlib.Core.List.{List}
+-- A header line, of a register or of limits.csv, is the full text up to its last point. Assumes nothing.
+use mathlib.Core.{Path._≡_, Path.refl, Path.ap, Path._∙_, Bool.true, Bool._&&_, List.List}
 use Prim.Native.Nat.{ℕ, _+_, _-_, _*_, _/_, _%_, _≤_}
 use native.Mathlib.Omega.{arith}
-use lib.ListN.{length, take}
-use lib.Seq.{length-take-le}
-use lib.Dec.{eqb, leb, ltb}
+use lib.{ListN.length, ListN.take, Seq.length-take-le, Dec.eqb, Dec.leb, Dec.ltb}
 use borrow.Author.Tests.{eqb-true, lt-ltb, le-leb, ltb-true, leb-true}
 use Rattle.refusal.proofs.Laws.{and-left, and-right}
 use Rattle.text.specs.Same.{sameText}
 use Rattle.text.specs.declared.number.Number.the-variants.{Got, Off}
-use Rattle.text.proofs.Digits.{either}
-use Rattle.text.proofs.Sames.{same-equal, same-self}
+use Rattle.text.proofs.{Digits.either, Sames.same-equal, Sames.same-self}
 use Rattle.register.specs.Header.{headerOf}
 
 -- a header is such a text, and such a text is a header

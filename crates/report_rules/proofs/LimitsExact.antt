@@ -1,38 +1,28 @@
--- limits.csv, by what its lines spell.
--- Assumes nothing.
+-- limits.csv, by what its lines spell. Assumes nothing.
 use mathlib.Core.Path.{_≡_, refl, sym, ap, _∙_}
-use mathlib.Core.Bool.{Bool, true, false, cond, _&&_, and-false}
-use mathlib.Core.Logic.{_⊎_, ⊎-elim}
+use mathlib.Core.{Bool.true, Bool.false, Bool.cond, Bool._&&_, Bool.and-false, Logic._⊎_, Logic.⊎-elim}
 use mathlib.Core.List.{List, [], _∷_, _++_}
-use Prim.Native.Nat.{ℕ, zero, suc, _+_, _-_, _*_, _≤_, _<_}
+use Prim.Native.Nat.{ℕ, zero, suc, _+_, _-_, _≤_, _<_}
 use native.Mathlib.Omega.{arith}
-use lib.Dec.{eqb, leb}
-use lib.ListN.{length, getD, take, replicate, List·getD-eq-default}
-use lib.Seq.{getD-append-add}
-use borrow.Author.Tests.{eq-eqb, ne-eqb, eqb-true, le-leb, lt-leb, leb-true, leb-false}
+use lib.{Dec.eqb, Dec.leb, ListN.length, ListN.getD, ListN.replicate, ListN.List·getD-eq-default, Seq.getD-append-add}
+use borrow.Author.Tests.{eq-eqb, eqb-true, le-leb, lt-leb, leb-true, leb-false}
 use Rattle.refusal.specs.Range.{allWithin}
-use Rattle.refusal.proofs.Laws.{and-left, and-right}
-use Rattle.refusal.proofs.Ranges.{within-at}
+use Rattle.refusal.proofs.{Laws.and-left, Laws.and-right, Ranges.within-at}
 use Rattle.movement.specs.Limits.{maxDays, maxLimit}
-use Rattle.text.specs.Line.{linesOf}
-use Rattle.text.specs.Field.{countOf, fieldOf}
-use Rattle.text.specs.Index.{every, listing}
-use Rattle.text.specs.Number.{isGot, valueOf, wholeOf, levelOf, showWhole, showLevel}
+use Rattle.text.specs.{Line.linesOf, Field.countOf, Field.fieldOf, Index.every, Index.listing}
+use Rattle.text.specs.Number.{isGot, valueOf, levelOf, showWhole, showLevel}
 use Rattle.text.specs.declared.number.Number.{Number}
 use Rattle.text.specs.declared.number.Number.the-variants.{Got, Off}
 use Rattle.text.proofs.Digits.{either, whole-small, got-value}
-use Rattle.text.proofs.Exact.{whole-exact, level-exact, level-small}
-use Rattle.text.proofs.Shown.{whole-back, level-back}
+use Rattle.text.proofs.{Exact.whole-exact, Exact.level-exact, Exact.level-small, Shown.whole-back, Shown.level-back}
 use Rattle.text.proofs.Indices.{every-each, every-all, length-listing}
-use Rattle.register.specs.Cell.{limitsCell, cellAt, gotAt, valueAt, cellsOf}
-use Rattle.register.specs.Row.{eightFrom}
+use Rattle.register.specs.{Cell.limitsCell, Cell.cellAt, Cell.gotAt, Cell.valueAt, Cell.cellsOf, Row.eightFrom}
 use Rattle.register.specs.Header.{headerOf, limitsHeader}
 use Rattle.register.specs.declared.cell.Table.the-variants as table
 use Rattle.register.specs.declared.limits_csv.LimitsFile.{LimitsFile}
 use Rattle.register.specs.LimitsFile.{refusedLimits, judgedLimits, secondLimits, headedLimits, limitsOf}
 use Rattle.report_rules.specs.LimitsSpelled.{Headed, Valued, RefusedAt, Accepted, LimitsExactly}
-use Rattle.report_rules.proofs.Printed.{listing-at, value-at}
-use Rattle.report_rules.proofs.Headers.{header-is, is-header}
+use Rattle.report_rules.proofs.{Printed.listing-at, Printed.value-at, Headers.header-is, Headers.is-header}
 
 -- Lists
 

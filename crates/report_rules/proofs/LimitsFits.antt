@@ -1,12 +1,8 @@
--- limits.csv that is accepted has 1 to 8 points, and limits that have a text.
--- Assumes nothing.
-use mathlib.Core.Path.{_≡_, refl, sym, ap, _∙_}
-use mathlib.Core.Bool.{Bool, true, false, cond, _&&_}
-use mathlib.Core.List.{List, []}
-use Prim.Native.Nat.{ℕ, _+_, _≤_, _<_}
+-- limits.csv that is accepted has 1 to 8 points, and limits that have a text. Assumes nothing.
+use mathlib.Core.{Path._≡_, Path.refl, Bool._&&_, List.List, List.[]}
+use Prim.Native.Nat.{ℕ, _+_, _≤_}
 use native.Mathlib.Omega.{arith}
-use lib.Dec.{leb}
-use lib.ListN.{length, getD}
+use lib.{Dec.leb, ListN.length, ListN.getD}
 use Rattle.refusal.specs.Range.{allWithin}
 use Rattle.refusal.proofs.Ranges.{within-at}
 use Rattle.movement.specs.Limits.{maxDays, maxLimit}
@@ -14,12 +10,10 @@ use Rattle.text.specs.Line.{linesOf}
 use Rattle.text.specs.declared.number.Number.{Number}
 use Rattle.text.specs.declared.number.Number.the-variants.{Got, Off}
 use Rattle.text.proofs.Digits.{either}
-use Rattle.register.specs.Cell.{cellsOf}
-use Rattle.register.specs.Row.{eightFrom}
-use Rattle.register.specs.Header.{headerOf, limitsHeader}
+use Rattle.register.specs.{Cell.cellsOf, Row.eightFrom, Header.headerOf, Header.limitsHeader}
 use Rattle.register.specs.declared.cell.Table.the-variants as table
 use Rattle.register.specs.declared.limits_csv.LimitsFile.{LimitsFile}
-use Rattle.register.specs.LimitsFile.{refusedLimits, judgedLimits, secondLimits, headedLimits, limitsOf}
+use Rattle.register.specs.LimitsFile.{judgedLimits, secondLimits, headedLimits, limitsOf}
 use Rattle.register.proofs.Rows.{header-range}
 use Rattle.report_text.specs.InnerRoom.{LimitsFit}
 

@@ -1,23 +1,15 @@
--- A row read and a row written are refused in the rules' order.
--- Assumes nothing.
-use mathlib.Core.Path.{_≡_, refl, sym, ap, _∙_}
-use mathlib.Core.Bool.{Bool, true, false, cond, _&&_}
-use mathlib.Core.Logic.{_↔_}
-use mathlib.Core.List.{List, [], _∷_}
-use Prim.Native.Nat.{ℕ, zero, suc, _≤_, _<_}
+-- A row read and a row written are refused in the rules' order. Assumes nothing.
+use mathlib.Core.{Path._≡_, Path.refl, Path._∙_, Bool.Bool, Bool.true, Bool.false, Bool._&&_, Logic._↔_}
+use mathlib.Core.List.{List}
+use Prim.Native.Nat.{ℕ, _≤_, _<_}
 use native.Mathlib.Omega.{arith}
-use lib.Dec.{eqb, leb}
-use lib.ListN.{length, getD}
-use borrow.Author.Tests.{eq-eqb, ne-eqb, eqb-true, eqb-false, le-leb, lt-leb, leb-true, leb-false}
-use Rattle.refusal.specs.Range.{allWithin}
-use Rattle.refusal.specs.Refuse.{refuse, first}
-use Rattle.refusal.proofs.Laws.{and-left, and-right}
-use Rattle.refusal.proofs.Ranges.{within-at}
-use Rattle.movement.specs.Limits.{maxPoints, maxLevel}
-use Rattle.movement.specs.Rules.{fieldsFit, identityFits, levelsFit}
+use lib.{Dec.eqb, Dec.leb, ListN.length, ListN.getD}
+use borrow.Author.Tests.{eq-eqb, eqb-true, le-leb, leb-true, leb-false}
+use Rattle.refusal.specs.{Range.allWithin, Refuse.refuse, Refuse.first}
+use Rattle.refusal.proofs.{Laws.and-left, Laws.and-right, Ranges.within-at}
+use Rattle.movement.specs.{Limits.maxPoints, Limits.maxLevel, Rules.fieldsFit, Rules.identityFits, Rules.levelsFit}
 use Rattle.movement.proofs.Ranges.{ranges-hold}
 use Rattle.text.proofs.Digits.{either}
-use Rattle.book_rules.specs.Order.{Given}
 use Rattle.book_rules.proofs.Order.{Decides, decides, given-by}
 use Rattle.register.specs.declared.row.Fields.{Fields}
 use Rattle.register.specs.Row.{pointsFit, layoutOf, faultOf, rowRefusal}

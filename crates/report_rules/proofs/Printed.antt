@@ -1,31 +1,23 @@
 -- What is printed, read back from the report's own bytes: a line for each point, and in it each field at its place.
 -- Assumes nothing.
-use mathlib.Core.Path.{_≡_, refl, sym, ap, _∙_}
-use mathlib.Core.Bool.{Bool, true, false, cond, _&&_, and-false}
+use mathlib.Core.{Path._≡_, Path.refl, Path.sym, Path.ap, Path._∙_, Bool.Bool, Bool.true, Bool._&&_}
 use mathlib.Core.List.{List, [], _∷_, _++_}
 use Prim.Native.Nat.{ℕ, zero, suc, _+_, _≤_, _<_}
 use native.Mathlib.Omega.{arith}
-use lib.ListN.{length, getD, drop, length-append, List·getD-append}
-use lib.Seq.{drop-append-add, getD-append-seam}
-use lib.Dec.{eqb, leb}
+use lib.ListN.{length, getD, length-append, List·getD-append}
+use lib.{Seq.drop-append-add, Seq.getD-append-seam, Dec.eqb, Dec.leb}
 use borrow.Author.Tests.{ne-eqb, eqb-true, eqb-false, leb-true}
 use Rattle.refusal.proofs.Laws.{and-left, and-right}
-use Rattle.level.specs.declared.Level.{Level}
+use Rattle.level.specs.declared.{Level.Level, Verdict.Verdict}
 use Rattle.level.specs.declared.Level.the-variants.{BelowZero, At}
-use Rattle.level.specs.declared.Verdict.{Verdict}
 use Rattle.level.specs.declared.Verdict.the-variants.{Within, Over}
 use Rattle.level.specs.Level.{verdictOf}
 use Rattle.load_rules.specs.declared.Load.{Load}
-use Rattle.text.specs.Line.{firstLine, linesOf}
-use Rattle.text.specs.Field.{countOf, fieldOf, joinedBy}
-use Rattle.text.specs.Index.{listing}
+use Rattle.text.specs.{Line.firstLine, Line.linesOf, Field.countOf, Field.fieldOf, Field.joinedBy, Index.listing}
 use Rattle.text.specs.Spelled.{bytes}
-use Rattle.text.proofs.Digits.{either}
-use Rattle.text.proofs.Fields.{Free, count-append, join-field}
-use Rattle.text.proofs.Free.{shown-free, level-free}
-use Rattle.text.proofs.Indices.{length-listing}
-use Rattle.text.proofs.Lines.{lines-step, lines-none}
-use Rattle.report_text.specs.Text.{lineEnd, ended, line, headerLine, levelText, verdictText, pointFields}
+use Rattle.text.proofs.{Digits.either, Fields.Free, Fields.count-append, Fields.join-field}
+use Rattle.text.proofs.{Free.shown-free, Free.level-free, Indices.length-listing, Lines.lines-step, Lines.lines-none}
+use Rattle.report_text.specs.Text.{ended, line, headerLine, levelText, verdictText, pointFields}
 
 -- Lines
 

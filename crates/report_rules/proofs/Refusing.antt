@@ -1,43 +1,27 @@
--- A report is refused with the number and the line that the rules give.
--- Assumes nothing.
+-- A report is refused with the number and the line that the rules give. Assumes nothing.
 use Rattle.refusal.proofs.Laws.{nil-of}
-use mathlib.Core.Path.{_≡_, refl, sym, ap, _∙_}
-use mathlib.Core.Bool.{Bool, true, false, cond, _&&_, and-false}
-use mathlib.Core.List.{List, [], _∷_, _++_}
+use mathlib.Core.{Path._≡_, Path.refl, Path.sym, Path.ap, Path._∙_, Bool.and-false, List.List, List.[], List._∷_}
 use Prim.Native.Nat.{ℕ, zero, suc, _+_, _≤_, _<_}
 use native.Mathlib.Omega.{arith}
-use native.Mathlib.Numerals.{add-one}
-use lib.ListN.{length, getD, take}
-use lib.Dec.{eqb}
+use lib.{ListN.length, ListN.getD, ListN.take, Dec.eqb}
 use borrow.Author.Tests.{eq-eqb, ne-eqb, eqb-true, eqb-false}
-use Rattle.text.specs.Line.{linesOf}
-use Rattle.text.specs.Field.{countOf, fieldOf, joinedBy}
-use Rattle.text.specs.Number.{showNumber}
-use Rattle.text.specs.Spelled.{bytes}
+use Rattle.text.specs.{Line.linesOf, Field.fieldOf, Number.showNumber, Spelled.bytes}
 use Rattle.text.specs.declared.number.Number.{Number}
 use Rattle.text.specs.declared.number.Number.the-variants.{Got, Off}
-use Rattle.text.proofs.Digits.{either}
-use Rattle.text.proofs.Fields.{Free, join-field}
-use Rattle.text.proofs.Free.{shown-free}
-use Rattle.book_rules.specs.Columns.{Book}
-use Rattle.book_rules.specs.Calls.{refusal, after}
-use Rattle.book_rules.specs.History.{emptyBook}
-use Rattle.register.specs.Header.{registerHeader}
-use Rattle.register.specs.LimitsFile.{limitsOf}
-use Rattle.register.specs.Row.{layoutOf}
+use Rattle.text.proofs.{Digits.either, Fields.Free, Fields.join-field, Free.shown-free}
+use Rattle.book_rules.specs.{Columns.Book, Calls.refusal, Calls.after, History.emptyBook}
+use Rattle.register.specs.{Header.registerHeader, LimitsFile.limitsOf, Row.layoutOf}
 use Rattle.report_steps.specs.Intake.{takenNumber, entering, supplying, suppliedTaken, enteredTaken, layoutTaken}
 use Rattle.report_steps.specs.Intake.{rowTaken}
 use Rattle.report_steps.specs.Reading.{Reading, opening, pointsRefusal, lineRefusal, lineRead, linesRead, closing}
 use Rattle.report_steps.specs.Reading.{headerPoints, registered}
 use Rattle.report_steps.proofs.Readings.{stuck, all-lines}
-use Rattle.report_text.specs.Text.{ended, line, refusedText, bookRefusal, bookText}
-use Rattle.report_rules.specs.Report.{bookRows, reportOf}
-use Rattle.report_rules.specs.Flights.{bookIn}
+use Rattle.report_text.specs.Text.{line, refusedText, bookRefusal, bookText}
+use Rattle.report_rules.specs.{Report.bookRows, Report.reportOf, Flights.bookIn}
 use Rattle.report_rules.specs.Refused.{Refuses, ReportRefused, FirstRefused, RegisterRefused, HeaderExactly}
 use Rattle.report_rules.specs.Refused.{RowRefused}
 use Rattle.report_rules.proofs.Answers.{reading-refused, reading-reported, register-text, report-refused}
-use Rattle.report_rules.proofs.Answers.{report-accepted}
-use Rattle.report_rules.proofs.Headers.{header-is, is-header}
+use Rattle.report_rules.proofs.{Answers.report-accepted, Headers.header-is, Headers.is-header}
 use Rattle.report_rules.proofs.Printed.{lines-ended, spelled-free, joined-free}
 
 -- The one line of a refusal

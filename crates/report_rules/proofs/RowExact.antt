@@ -1,33 +1,21 @@
--- A row is on its layout exactly if it is spelled so.
--- Assumes nothing.
-use mathlib.Core.Path.{_≡_, refl, sym, ap, _∙_}
-use mathlib.Core.Bool.{Bool, true, false, cond, _&&_}
-use mathlib.Core.Logic.{_⊎_, inl, inr, ⊎-elim}
-use mathlib.Core.List.{List, [], _∷_, _++_}
+-- A row is on its layout exactly if it is spelled so. Assumes nothing.
+use mathlib.Core.{Path._≡_, Path.refl, Path.sym, Path.ap, Path._∙_, Bool.Bool, Bool.true, Bool.false, Bool.cond}
+use mathlib.Core.{Logic._⊎_, Logic.inl, Logic.inr, Logic.⊎-elim, List.List, List.[], List._++_}
 use Prim.Native.Nat.{ℕ, zero, suc, _+_, _-_, _≤_, _<_}
 use native.Mathlib.Omega.{arith}
-use lib.ListN.{length, getD, replicate}
-use lib.Dec.{eqb, leb}
+use lib.{ListN.length, ListN.getD, ListN.replicate, Dec.eqb}
 use borrow.Author.Tests.{eq-eqb, ne-eqb, eqb-true, eqb-false, le-leb}
-use Rattle.text.specs.Line.{bareLine}
-use Rattle.text.specs.Field.{countOf, fieldOf}
-use Rattle.text.specs.Index.{every, many, listing}
-use Rattle.text.specs.Number.{isGot, showLevel}
-use Rattle.text.proofs.Digits.{either, got-value}
-use Rattle.text.proofs.Indices.{every-each, every-all, many-no, many-all}
-use Rattle.text.proofs.Shown.{level-least}
-use Rattle.register.specs.Cell.{levelOrBlank, rowCell, cellAt, gotAt, valueAt, blankAt, gotCells, cellsOf}
-use Rattle.register.specs.Cell.{shownCell}
-use Rattle.register.specs.InnerCell.{blankCell, topOf}
+use Rattle.text.specs.{Line.bareLine, Field.countOf, Field.fieldOf, Index.many, Index.listing, Number.isGot}
+use Rattle.text.proofs.{Digits.either, Indices.every-all, Indices.many-no, Indices.many-all, Shown.level-least}
+use Rattle.register.specs.Cell.{levelOrBlank, rowCell, gotAt, valueAt, blankAt, gotCells, cellsOf}
+use Rattle.register.specs.{Cell.shownCell, InnerCell.topOf}
 use Rattle.register.specs.Row.{pointsFit, offLayout, rowLayout, cellsLayout, layoutOf}
 use Rattle.register.specs.declared.cell.Cells.{Cells}
 use Rattle.register.specs.declared.cell.Table.the-variants.{Register}
 use Rattle.register.specs.declared.row.Fields.{Fields}
-use Rattle.register.proofs.Columns.{cell-level, cell-exact, shown-back, shown-level, top-level}
-use Rattle.register.proofs.Rows.{layout-points}
-use Rattle.register.proofs.Converse.{marked}
-use Rattle.report_rules.specs.Spelled.{column, RowSpelled}
-use Rattle.report_rules.specs.RowExact.{Spells, RowExactly}
+use Rattle.register.proofs.Columns.{cell-level, shown-back, shown-level, top-level}
+use Rattle.register.proofs.{Rows.layout-points, Converse.marked}
+use Rattle.report_rules.specs.{Spelled.column, RowExact.Spells, RowExact.RowExactly}
 use Rattle.report_rules.proofs.Spelling.{row-spelled, value-below, level-below}
 
 -- a row that spells these fields and levels is read

@@ -1,26 +1,22 @@
 -- A row of a register and the movements that stand: what its calls leave of the list, and when it is passed over.
 -- Assumes nothing.
-use mathlib.Core.Path.{_≡_, refl, sym, ap, subst, _∙_}
-use mathlib.Core.Bool.{Bool, true, false, cond}
+use mathlib.Core.{Path._≡_, Path.refl, Path.sym, Path.ap, Path.subst, Path._∙_, Bool.Bool, Bool.true}
 use mathlib.Core.List.{List, [], _∷_}
 use Prim.Native.Nat.{ℕ, _+_, _≤_}
 use native.Mathlib.Omega.{arith}
-use lib.ListN.{take}
-use lib.Dec.{eqb, ltb}
+use lib.{ListN.take, Dec.eqb, Dec.ltb}
 use borrow.Author.Tests.{eq-eqb, ne-eqb, eqb-true, eqb-false, le-ltb}
 use Rattle.text.proofs.Digits.{either}
 use Rattle.movement.specs.Group.{groupOf}
-use Rattle.book_rules.specs.Columns.{Book, sound}
-use Rattle.book_rules.specs.Calls.{refusal, after}
+use Rattle.book_rules.specs.{Columns.Book, Columns.sound, Calls.refusal, Calls.after}
 use Rattle.book_rules.specs.History.{Held, Movement, movement, step, listOf, Made, made, listRefusal, accepted, booked}
 use Rattle.book_rules.specs.History.Held.{none, holds}
 use Rattle.book_rules.proofs.History.{Told, refusal-told, told}
 use Rattle.register.specs.declared.row.Layout.{Layout}
 use Rattle.register.specs.Row.{layoutOf}
 use Rattle.report_steps.specs.declared.Taken.the-variants.{Entered, PassedOver, Refused}
-use Rattle.report_steps.specs.Intake.{takenNumber, entering, supplying, suppliedTaken, enteredTaken}
-use Rattle.report_steps.specs.Intake.{layoutTaken, rowTaken}
-use Rattle.report_steps.specs.Booking.{layoutCalls, rowCalls}
+use Rattle.report_steps.specs.Intake.{takenNumber, entering, supplying, enteredTaken}
+use Rattle.report_steps.specs.{Intake.layoutTaken, Intake.rowTaken, Booking.layoutCalls, Booking.rowCalls}
 use Rattle.report_rules.specs.Flights.{flightOf, flightsIn, howMany, Light, PassedExactly}
 use Rattle.report_rules.proofs.Listed.{many-added, many-held, one-accepted, one-refused}
 use Rattle.report_rules.proofs.Listed.{none-left, many-one, many-none}

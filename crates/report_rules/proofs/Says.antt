@@ -1,39 +1,30 @@
 -- No flight drops out of the report: what it prints at each point, read back from its bytes, is what its register has.
 -- Assumes nothing.
-use mathlib.Core.Path.{_≡_, refl, sym, ap, subst, _∙_}
-use mathlib.Core.Bool.{true, cond, not}
+use mathlib.Core.{Path._≡_, Path.refl, Path.sym, Path.ap, Path.subst, Path._∙_, Bool.not}
 use mathlib.Core.List.{List, [], _∷_}
-use Prim.Native.Nat.{ℕ, zero, suc, _+_, _≤_, _<_}
+use Prim.Native.Nat.{ℕ, zero, suc, _≤_, _<_}
 use native.Mathlib.Omega.{arith}
 use lib.ListN.{length, getD}
 use borrow.Author.Tests.{lt-ltb, le-ltb}
 use Rattle.level.specs.declared.Level.{Level}
 use Rattle.level.specs.declared.Level.the-variants.{BelowZero, At}
 use Rattle.level.specs.Level.{levelGiven, levelValue, verdictOf}
-use Rattle.book_rules.specs.Columns.{Book}
-use Rattle.book_rules.specs.History.{Movement, Made, emptyBook, booked, movements}
-use Rattle.load_rules.specs.declared.Load.{Load}
-use Rattle.load_rules.specs.Load.{bookLoad}
-use Rattle.load_rules.specs.Afresh.{CountsEach}
+use Rattle.book_rules.specs.{Columns.Book, History.Made, History.emptyBook, History.booked}
+use Rattle.load_rules.specs.{Load.bookLoad, Afresh.CountsEach}
 use Rattle.load_rules.proofs.CountedOnce.{counted-once}
-use Rattle.text.specs.Line.{linesOf}
-use Rattle.text.specs.Field.{countOf, fieldOf}
-use Rattle.text.specs.Index.{listing}
-use Rattle.text.specs.Number.{showNumber, showLevel}
+use Rattle.text.specs.{Line.linesOf, Field.countOf, Field.fieldOf, Index.listing, Number.showNumber, Number.showLevel}
 use Rattle.text.specs.Spelled.{bytes}
-use Rattle.text.proofs.Fields.{Free}
-use Rattle.text.proofs.Indices.{length-listing}
+use Rattle.text.proofs.{Fields.Free, Indices.length-listing}
 use Rattle.register.specs.declared.limits_csv.LimitsFile.{LimitsFile}
 use Rattle.register.specs.LimitsFile.{limitsOf}
-use Rattle.report_steps.specs.Reading.{registered}
-use Rattle.report_steps.specs.Booking.{registerCalls}
+use Rattle.report_steps.specs.{Reading.registered, Booking.registerCalls}
 use Rattle.report_steps.proofs.Bookings.{register-booked}
-use Rattle.report_text.specs.Text.{ended, line, headerLine, levelText, verdictText, pointFields, pointLine}
+use Rattle.report_text.specs.Text.{headerLine, levelText, verdictText, pointFields, pointLine}
 use Rattle.report_text.specs.Text.{pointsText, bookRefusal, bookText}
 use Rattle.report_text.specs.Totals as totals
-use Rattle.report_rules.specs.Report.{bookRows, registerText, reportOf}
+use Rattle.report_rules.specs.Report.{bookRows, reportOf}
 use Rattle.report_rules.specs.Flights.{rowsIn, flightsIn, howMany, computed, bookIn, standingIn, printed}
-use Rattle.report_rules.specs.Flights.{levelAt, PointSays, ReportSays}
+use Rattle.report_rules.specs.Flights.{levelAt, ReportSays}
 use Rattle.report_rules.proofs.Answers.{reading-reported, register-text, report-accepted}
 use Rattle.report_rules.proofs.Flights.{all-stand}
 use Rattle.report_rules.proofs.Printed.{lines-ended, header-unbroken, field-at, line-unbroken, listing-at}

@@ -1,30 +1,18 @@
--- A row on its layout spells its fields, column by column.
--- Assumes nothing.
+-- A row on its layout spells its fields, column by column. Assumes nothing.
 use Rattle.refusal.proofs.Laws.{nil-of}
-use mathlib.Core.Path.{_≡_, refl, sym, ap, _∙_}
-use mathlib.Core.Bool.{Bool, true, false, _&&_, and-false}
+use mathlib.Core.{Path._≡_, Path.refl, Path.sym, Path.ap, Path._∙_, Bool.true, Bool.false}
 use mathlib.Core.List.{List, [], _∷_, _++_}
-use Prim.Native.Nat.{ℕ, zero, suc, _+_, _-_, _≤_, _<_}
+use Prim.Native.Nat.{ℕ, _+_, _-_, _≤_, _<_}
 use native.Mathlib.Omega.{arith}
-use lib.ListN.{length, getD, replicate, List·getD-append}
-use lib.Dec.{eqb, leb}
+use lib.{ListN.length, ListN.getD, ListN.replicate, Dec.eqb}
 use borrow.Author.Tests.{eqb-true, lt-leb, le-leb}
-use Rattle.text.specs.Line.{bareLine}
-use Rattle.text.specs.Field.{fieldOf}
-use Rattle.text.specs.Index.{every, listing}
-use Rattle.text.specs.Number.{showWhole, showLevel}
-use Rattle.text.specs.Spelled.{bytes}
-use Rattle.register.specs.Clock.{showTime}
-use Rattle.text.specs.declared.number.Number.the-variants.{Got}
-use Rattle.text.proofs.Digits.{got-value}
-use Rattle.text.proofs.Indices.{length-listing, every-each}
-use Rattle.register.specs.Cell.{rowCell, cellAt, gotAt, valueAt, blankAt, shownCell}
-use Rattle.register.specs.InnerCell.{blankCell, topOf}
-use Rattle.register.specs.Row.{eightFrom, fieldsOf, rowLayout, layoutOf}
+use Rattle.text.specs.{Line.bareLine, Field.fieldOf, Index.listing, Number.showWhole, Number.showLevel, Spelled.bytes}
+use Rattle.register.specs.{Clock.showTime, Cell.cellAt, Cell.gotAt, Cell.valueAt, Cell.shownCell}
+use Rattle.text.proofs.{Digits.got-value, Indices.every-each}
+use Rattle.register.specs.{InnerCell.blankCell, InnerCell.topOf, Row.eightFrom, Row.rowLayout, Row.layoutOf}
 use Rattle.register.specs.declared.cell.Table.the-variants.{Register}
 use Rattle.register.specs.declared.row.Layout.{Layout}
-use Rattle.register.proofs.Columns.{cell-exact, shown-level, top-level}
-use Rattle.register.proofs.Rows.{layout-points}
+use Rattle.register.proofs.{Columns.cell-exact, Columns.shown-level, Columns.top-level, Rows.layout-points}
 use Rattle.register.proofs.Converse.{OnLayout, marked}
 use Rattle.report_rules.specs.Spelled.{column, RowSpelled}
 use Rattle.report_rules.proofs.Printed.{listing-at, value-at}

@@ -1,36 +1,26 @@
 -- The report is one of four texts, to the last byte; 10 is given exactly where flights stand and none has levels.
 -- Assumes nothing.
-use mathlib.Core.Path.{_≡_, refl, sym, ap, subst, _∙_}
-use mathlib.Core.Bool.{Bool, true, false, cond, _&&_}
-use mathlib.Core.Logic.{_⊎_, ⊎-elim}
-use mathlib.Core.List.{List, [], _∷_, _++_, append-assoc}
-use Prim.Native.Nat.{ℕ, zero, suc, _+_, _≤_, _<_}
+use mathlib.Core.{Path._≡_, Path.refl, Path.sym, Path.ap, Path.subst, Path._∙_, Bool.cond, Bool._&&_}
+use mathlib.Core.{Logic._⊎_, Logic.⊎-elim, List.List, List.[], List._∷_, List._++_, List.append-assoc}
+use Prim.Native.Nat.{ℕ, zero, suc, _+_, _≤_}
 use native.Mathlib.Omega.{arith}
-use lib.Dec.{eqb, leb}
-use lib.ListN.{length, getD}
-use borrow.Author.Tests.{eq-eqb, ne-eqb, leb-true}
+use lib.{Dec.leb, ListN.length, ListN.getD}
+use borrow.Author.Tests.{leb-true}
 use Rattle.refusal.specs.Range.{allWithin}
 use Rattle.refusal.proofs.Laws.{and-left, and-right}
 use Rattle.movement.specs.Limits.{maxDays, maxLimit}
-use Rattle.text.specs.Line.{linesOf}
-use Rattle.text.specs.Field.{countOf, joinedBy}
-use Rattle.text.specs.Index.{listing}
-use Rattle.text.specs.Number.{shown, showNumber}
+use Rattle.text.specs.{Line.linesOf, Field.countOf, Field.joinedBy, Index.listing, Number.shown, Number.showNumber}
 use Rattle.text.specs.Spelled.{bytes}
 use Rattle.text.specs.declared.number.Number.{Number}
 use Rattle.text.specs.declared.number.Number.the-variants.{Got, Off}
-use Rattle.text.proofs.Digits.{either}
-use Rattle.text.proofs.Fields.{join-count-all}
-use Rattle.text.proofs.Indices.{length-listing}
+use Rattle.text.proofs.{Digits.either, Fields.join-count-all, Indices.length-listing}
 use Rattle.book_rules.specs.Columns.{Book}
-use Rattle.book_rules.specs.History.{Held, Movement, movement, hasLevels, Made, emptyBook, booked, movements}
+use Rattle.book_rules.specs.History.{Held, Movement, hasLevels, Made, emptyBook, booked}
 use Rattle.book_rules.specs.History.Held.{none, holds}
 use Rattle.load_rules.specs.Load.{bookLoad}
 use Rattle.load_rules.specs.Refusals.{InRange, DaysInRange, NoneHeld, NoneComputed, LoadNumbers}
 use Rattle.load_rules.proofs.CountedOnce.{counted-once}
-use Rattle.register.specs.Cell.{cellsOf}
-use Rattle.register.specs.Row.{eightFrom}
-use Rattle.register.specs.Header.{headerOf, limitsHeader}
+use Rattle.register.specs.{Cell.cellsOf, Row.eightFrom, Header.headerOf, Header.limitsHeader}
 use Rattle.register.specs.declared.cell.Table.the-variants as table
 use Rattle.register.specs.declared.limits_csv.LimitsFile.{LimitsFile}
 use Rattle.register.specs.LimitsFile.{judgedLimits, secondLimits, headedLimits, limitsOf}
@@ -42,10 +32,8 @@ use Rattle.report_rules.specs.Report.{bookRows, reportOf}
 use Rattle.report_rules.specs.Flights.{howMany, computed, bookIn, standingIn}
 use Rattle.report_rules.specs.WholeText.{crlf, refusalBytes, readIn, flights, Whole, WholeText}
 use Rattle.report_rules.proofs.Answers.{reading-refused, reading-reported, register-text, report-refused}
-use Rattle.report_rules.proofs.Answers.{report-accepted}
-use Rattle.report_rules.proofs.LimitsFits.{limits-fit}
-use Rattle.report_rules.proofs.Printed.{fields-free, listing-at}
-use Rattle.report_rules.proofs.Flights.{all-stand}
+use Rattle.report_rules.proofs.{Answers.report-accepted, LimitsFits.limits-fit}
+use Rattle.report_rules.proofs.{Printed.fields-free, Printed.listing-at, Flights.all-stand}
 use Rattle.report_rules.proofs.Says.{book-points, points-lines, report-says}
 
 -- Texts

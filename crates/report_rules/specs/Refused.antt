@@ -4,7 +4,7 @@ use Prim.Native.Nat.{ℕ, _+_, _*_, _≤_, _<_}
 use Prim.Native.Char.{code}
 use mathlib.Core.Path.{_≡_}
 use mathlib.Core.Logic.{_↔_}
-use mathlib.Core.List.{List, [], _∷_}
+use mathlib.Core.List.{List, []}
 use lib.ListN.{length, getD, take}
 use Rattle.book_rules.specs.Columns.{Book}
 use Rattle.book_rules.specs.Calls.{refusal, after}
@@ -16,7 +16,7 @@ use Rattle.text.specs.Spelled.{bytes}
 use Rattle.register.specs.LimitsFile.{limitsOf}
 use Rattle.register.specs.Row.{layoutOf}
 use Rattle.report_steps.specs.Intake.{entering, supplying}
-use Rattle.report_steps.specs.Reading.{Reading, opening, linesRead, lineRefusal, registered}
+use Rattle.report_steps.specs.Reading.{opening, linesRead, lineRefusal, registered}
 use Rattle.report_text.specs.Text.{bookRefusal}
 use Rattle.report_rules.specs.Report.{bookRows, reportOf}
 use Rattle.report_rules.specs.Flights.{bookIn}

@@ -1,23 +1,18 @@
 -- The book that a register gives is the book after the calls that it makes: so what is proved of histories holds of
--- registers.
--- Assumes nothing.
+-- registers. Assumes nothing.
 use mathlib.Core.Path.{_≡_, refl, sym, ap, _∙_}
-use mathlib.Core.Bool.{Bool, true, false, cond, _&&_}
-use mathlib.Core.List.{List, [], _∷_, _++_}
+use mathlib.Core.{Bool.Bool, Bool.true, Bool.false, Bool.cond, Bool._&&_, List.List, List.[], List._∷_, List._++_}
 use Prim.Native.Nat.{ℕ, _-_}
-use lib.Dec.{eqb}
-use lib.ListN.{length}
+use lib.{Dec.eqb, ListN.length}
 use borrow.Author.Tests.{eqb-false}
 use Rattle.text.proofs.Digits.{either}
 use Rattle.text.specs.Line.{linesOf}
-use Rattle.book_rules.specs.Columns.{Book}
-use Rattle.book_rules.specs.Calls.{Call, refusal, after}
-use Rattle.book_rules.specs.History.{Made, made, booked, movements, emptyBook, rowsOf}
-use Rattle.book_rules.proofs.Accepted.{after-refused}
-use Rattle.book_rules.proofs.History.{history-rows}
+use Rattle.book_rules.specs.{Columns.Book, Calls.refusal, Calls.after}
+use Rattle.book_rules.specs.History.{Made, booked, movements, emptyBook, rowsOf}
+use Rattle.book_rules.proofs.{Accepted.after-refused, History.history-rows}
 use Rattle.register.specs.declared.row.Layout.{Layout}
 use Rattle.register.specs.Row.{layoutOf}
-use Rattle.report_steps.specs.Intake.{entering, supplying, layoutAfter, enteredAfter, rowAfter}
+use Rattle.report_steps.specs.Intake.{entering, layoutAfter, enteredAfter, rowAfter}
 use Rattle.report_steps.specs.Reading.{Reading, lineAfter, lineRead, linesRead, opening, closing, registered}
 use Rattle.report_steps.specs.Booking.{layoutCalls, rowCalls, linesCalls, registerCalls}
 

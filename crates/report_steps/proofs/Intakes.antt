@@ -1,23 +1,17 @@
 -- A row that is taken, case by case: from what the layout reads and what the two calls promise to what the row's
--- definition says.
--- Assumes nothing.
-use mathlib.Core.Path.{_≡_, refl, sym, ap, _∙_}
-use mathlib.Core.Bool.{Bool, true, false, cond}
-use mathlib.Core.List.{List}
+-- definition says. Assumes nothing.
+use mathlib.Core.{Path._≡_, Path.refl, Path.ap, Path._∙_, Bool.Bool, Bool.true, Bool.false, Bool.cond, List.List}
 use Prim.Native.Nat.{ℕ}
 use native.Mathlib.Omega.{arith}
-use lib.ListN.{take}
-use lib.Dec.{eqb}
+use lib.{ListN.take, Dec.eqb}
 use borrow.Author.Tests.{eq-eqb, ne-eqb}
-use Rattle.book_rules.specs.Columns.{Book, sound}
-use Rattle.book_rules.specs.Calls.{Call, Called, refusal, after}
-use Rattle.book_rules.proofs.Accepted.{after-refused}
-use Rattle.book_rules.proofs.Kept.{after-sound}
+use Rattle.book_rules.specs.{Columns.Book, Columns.sound, Calls.Call, Calls.Called, Calls.refusal, Calls.after}
+use Rattle.book_rules.proofs.{Accepted.after-refused, Kept.after-sound}
 use Rattle.register.specs.declared.row.Layout.{Layout}
 use Rattle.register.specs.Row.{layoutOf}
 use Rattle.report_steps.specs.declared.Taken.{Taken}
 use Rattle.report_steps.specs.declared.Taken.the-variants.{Entered, PassedOver, Refused}
-use Rattle.report_steps.specs.Intake.{entering, supplying, suppliedTaken, enteredTaken, enteredAfter}
+use Rattle.report_steps.specs.Intake.{entering, supplying, enteredTaken, enteredAfter}
 use Rattle.report_steps.specs.Intake.{layoutTaken, layoutAfter, rowTaken, rowAfter}
 use Rattle.report_steps.specs.InnerTaken.{RowTaken, LevelsTaken}
 

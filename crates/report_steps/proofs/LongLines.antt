@@ -11,13 +11,11 @@ use lib.Seq.{getD-take}
 use borrow.Author.Tests.{eq-eqb, lt-leb, leb-true}
 use Rattle.text.specs.Line.{endAt, firstLine, linesOf, bareLine}
 use Rattle.text.specs.declared.number.Number.the-variants.{Off}
-use Rattle.text.proofs.Digits.{either}
-use Rattle.text.proofs.Lines.{line-take, lines-step, bare-most}
+use Rattle.text.proofs.{Digits.either, Lines.line-take, Lines.lines-step, Lines.bare-most}
 use Rattle.book_rules.specs.Columns.{Book}
 use Rattle.register.specs.Header.{headerOf, registerHeader}
 use Rattle.register.proofs.Longest.{long-row}
-use Rattle.report_steps.specs.Stream.{longestRow, longestLine}
-use Rattle.report_steps.specs.Intake.{rowTaken, rowAfter}
+use Rattle.report_steps.specs.{Stream.longestRow, Stream.longestLine, Intake.rowTaken, Intake.rowAfter}
 use Rattle.report_steps.specs.Reading.{Reading, headerPoints, lineRefusal, lineAfter, lineRead, linesRead}
 use Rattle.report_steps.specs.Reading.{readOn, offAt, Unended}
 use Rattle.report_steps.proofs.Readings.{stuck}

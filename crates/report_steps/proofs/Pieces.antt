@@ -1,22 +1,13 @@
--- A piece of a register, and the bytes of it that wait at the front of the buffer.
--- Assumes nothing.
-use mathlib.Core.Path.{_≡_, refl, sym, ap, _∙_}
-use mathlib.Core.Bool.{true, false}
-use mathlib.Core.List.{List, _++_}
-use Prim.Native.Nat.{ℕ, suc, _+_, _-_, _≤_, _<_, min}
-use native.Mathlib.Numerals.{add-one}
-use native.Mathlib.Omega.{arith}
-use lib.Dec.{eqb}
+-- A piece of a register, and the bytes of it that wait at the front of the buffer. Assumes nothing.
+use mathlib.Core.{Path._≡_, Path.sym, Path.ap, Path._∙_, List.List, List._++_}
+use Prim.Native.Nat.{ℕ, suc, _+_, _-_, _≤_, _<_}
+use native.Mathlib.{Numerals.add-one, Omega.arith}
 use lib.ListN.{length, getD, set, take, drop, length-drop}
 use lib.Seq.{drop-at, drop-drop, length-take-le, take-add, drop-set-lt, getD-drop, take-suc, take-suc-set}
-use borrow.Author.Tests.{ne-eqb, eqb-true, ltb-true}
 use Rattle.text.specs.Line.{linesOf}
-use Rattle.text.proofs.Digits.{either}
-use Rattle.report_steps.specs.Stream.{longestLine}
-use Rattle.report_steps.specs.Reading.{Reading, offAt, Onward}
+use Rattle.report_steps.specs.{Stream.longestLine, Reading.Reading, Reading.offAt, Reading.Onward}
 use Rattle.report_steps.specs.InnerTaken.{LinesTaken, PieceTaken}
-use Rattle.report_steps.proofs.Readings.{stuck}
-use Rattle.report_steps.proofs.LongLines.{onward-long}
+use Rattle.report_steps.proofs.{Readings.stuck, LongLines.onward-long}
 
 -- one byte more is moved to the front
 pub front-next : (xs ys : List ℕ) (from n i : ℕ) → from + n ≤ length xs → i < n → length ys ≡ length xs

@@ -5,17 +5,13 @@ use mathlib.Core.Bool.{Bool, true, false, cond, _&&_, and-false}
 use mathlib.Core.List.{List, [], _∷_, _++_, append-nil, append-assoc}
 use Prim.Native.Nat.{ℕ, suc, _+_, _≤_, _<_}
 use native.Mathlib.Omega.{arith}
-use lib.Dec.{eqb}
-use lib.ListN.{length, drop, drop-of-length-le}
+use lib.{Dec.eqb, ListN.length, ListN.drop, ListN.drop-of-length-le}
 use borrow.Author.Tests.{eq-eqb, ne-eqb, eqb-false}
 use Rattle.text.specs.Line.{firstLine, linesOf}
-use Rattle.text.proofs.Digits.{either}
-use Rattle.text.proofs.Lines.{lines-step, lines-none}
-use Rattle.text.proofs.Streams.{stream-line}
+use Rattle.text.proofs.{Digits.either, Lines.lines-step, Lines.lines-none, Streams.stream-line}
 use Rattle.book_rules.specs.Columns.{Book}
 use Rattle.report_steps.specs.Reading.{Reading, lineRefusal, lineRead, linesRead, readOn, opening, closing}
-use Rattle.report_steps.specs.Reading.{registered}
-use Rattle.report_steps.specs.Reading.{Onward, Unended}
+use Rattle.report_steps.specs.{Reading.registered, Reading.Onward, Reading.Unended}
 
 -- Bytes that come piece by piece
 

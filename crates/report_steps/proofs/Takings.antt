@@ -1,19 +1,14 @@
 -- What the code knows on its way through a register: the lines taken so far, the last bytes, the header and a row.
 -- Assumes nothing.
-use mathlib.Core.Path.{_≡_, refl, ap, _∙_}
-use mathlib.Core.Bool.{true}
-use mathlib.Core.List.{List, _++_}
+use mathlib.Core.{Path._≡_, Path.refl, Path.ap, Path._∙_, Bool.true, List.List, List._++_}
 use Prim.Native.Nat.{ℕ, _+_, _-_, _≤_, _<_}
 use native.Mathlib.Omega.{arith}
-use lib.Dec.{eqb}
-use lib.ListN.{length, take, drop, length-drop}
-use lib.Seq.{drop-drop}
+use lib.{Dec.eqb, ListN.length, ListN.take, ListN.drop, ListN.length-drop, Seq.drop-drop}
 use borrow.Author.Tests.{eq-eqb, ne-eqb}
 use Rattle.text.specs.Line.{firstLine, linesOf}
 use Rattle.text.specs.declared.number.Number.{Number}
 use Rattle.text.specs.declared.number.Number.the-variants.{Got, Off}
-use Rattle.text.proofs.Digits.{either}
-use Rattle.text.proofs.Lines.{line-length, line-take}
+use Rattle.text.proofs.{Digits.either, Lines.line-length, Lines.line-take}
 use Rattle.book_rules.specs.Columns.{Book, sound}
 use Rattle.report_steps.specs.declared.Taken.{Taken}
 use Rattle.report_steps.specs.Intake.{takenNumber}

@@ -1,18 +1,13 @@
--- A level that a load answers has a text: it is at most 200.00.
--- Assumes nothing.
-use mathlib.Core.Path.{_≡_, refl, ap}
-use mathlib.Core.Bool.{Bool, true, false, cond, _&&_}
+-- A level that a load answers has a text: it is at most 200.00. Assumes nothing.
+use mathlib.Core.Bool.{Bool, _&&_}
 use Prim.Native.Nat.{ℕ, zero, suc, _+_, _≤_, _<_}
 use native.Mathlib.Omega.{arith}
 use lib.Dec.{eqb, ltb, leb}
-use Rattle.level.specs.declared.Level.the-variants.{At}
-use Rattle.level.specs.Level.{bound, firstFrom, levelOf, levelValue}
-use Rattle.level.specs.Energy.{meanOf}
+use Rattle.level.specs.{Level.bound, Level.firstFrom, Level.levelOf, Level.levelValue, Energy.meanOf}
 use Rattle.text.proofs.Digits.{either}
 use Rattle.book_rules.specs.Columns.{Book, sound}
 use Rattle.load_rules.specs.Load.{bookLoad, loadOf, answer, refusedLoad, loadRefusal, totalOf}
-use Rattle.load_rules.specs.Shares.{Share, bookShares}
-use Rattle.load_rules.specs.Tally.{tally}
+use Rattle.load_rules.specs.{Shares.bookShares, Tally.tally}
 
 first-most : (test : ℕ → Bool) (i f : ℕ) → firstFrom test i f ≤ i + f
 unfolding firstFrom

@@ -1,12 +1,7 @@
--- The lines of a report, as the writers group them.
--- Assumes nothing.
-use mathlib.Core.Path.{_≡_, refl, sym, ap, _∙_}
-use mathlib.Core.List.{List, [], _∷_, _++_, append-assoc}
+-- The lines of a report, as the writers group them. Assumes nothing.
+use mathlib.Core.{Path._≡_, Path.refl, Path.sym, List.List, List.[], List._∷_, List._++_, List.append-assoc}
 use Prim.Native.Nat.{ℕ, _+_}
-use Rattle.text.specs.Number.{showNumber}
-use Rattle.text.specs.Field.{joinedBy}
-use Rattle.text.specs.Spelled.{bytes}
-use Rattle.text.specs.Index.{listing}
+use Rattle.text.specs.{Number.showNumber, Field.joinedBy, Spelled.bytes, Index.listing}
 use native.Mathlib.Numerals.{add-one}
 use Rattle.report_text.specs.Text.{comma, lineEnd, ended, line, refusedText}
 

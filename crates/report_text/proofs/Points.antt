@@ -1,7 +1,5 @@
--- The lines of the points, one after another, behind the header.
--- Assumes nothing.
-use mathlib.Core.Path.{_≡_, refl, sym, ap, _∙_}
-use mathlib.Core.List.{List, _++_}
+-- The lines of the points, one after another, behind the header. Assumes nothing.
+use mathlib.Core.{Path._≡_, Path.ap, List.List, List._++_}
 use Prim.Native.Nat.{ℕ, _+_, _≤_}
 use native.Mathlib.Omega.{arith}
 use lib.ListN.{length, getD, length-append}

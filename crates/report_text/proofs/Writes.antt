@@ -1,14 +1,12 @@
--- Writes within so many bytes, one past the other.
--- Assumes nothing.
-use mathlib.Core.Path.{_≡_, refl, sym, ap, _∙_}
-use mathlib.Core.List.{List, [], _∷_, _++_}
+-- Writes within so many bytes, one past the other. Assumes nothing.
+use mathlib.Core.{Path._≡_, List.List, List.[], List._++_}
 use Prim.Native.Nat.{ℕ, _+_, _^_, _≤_, _<_}
 use native.Mathlib.Omega.{arith}
 use lib.ListN.{length, length-append}
-use Rattle.text.specs.Number.{showNumber, showLevel}
+use Rattle.text.specs.Number.{showNumber}
 use Rattle.room.specs.Room.{Wrote}
 use Rattle.room.proofs.Laws.{wrote-then, wrote-none}
-use Rattle.text.proofs.Shown.{shown-width, level-most}
+use Rattle.text.proofs.Shown.{shown-width}
 use Rattle.report_text.specs.InnerRoom.{longestNumber, WroteWithin}
 
 -- a number of a machine's 64 bits has at most 20 digits

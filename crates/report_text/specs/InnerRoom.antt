@@ -3,7 +3,7 @@
 use Prim.Native.Nat.{ℕ, _+_, _≤_, _<_}
 use mathlib.Core.Path.{_≡_}
 use mathlib.Core.List.{List}
-use lib.ListN.{length, getD}
+use lib.ListN.{getD}
 use Rattle.room.specs.Room.{Wrote}
 use Rattle.movement.specs.Limits.{maxPoints}
 use Rattle.book_rules.specs.Columns.{Book}

@@ -2,14 +2,10 @@
 -- Assumes nothing.
 use Prim.Native.Nat.{ℕ, zero, suc, _+_, _≤_, _<_}
 use mathlib.Core.Path.{_≡_, refl, sym, ap, _∙_}
-use mathlib.Core.Bool.{Bool, true, false, cond, _&&_, and-false}
-use mathlib.Core.List.{List, [], _++_}
-use native.Mathlib.Nat.{zero-add}
-use native.Mathlib.Omega.{arith}
+use mathlib.Core.{Bool.Bool, Bool.true, Bool.false, Bool.cond, Bool._&&_, Bool.and-false, List.List, List.[], List._++_}
+use native.Mathlib.{Nat.zero-add, Omega.arith}
 use borrow.Author.Tests.{le-leb, lt-leb, ne-eqb}
-use lib.Dec.{leb, eqb, leb·zero}
-use lib.ListN.{length, drop}
-use lib.Seq.{sets, sets-eq}
+use lib.{Dec.leb, Dec.eqb, Dec.leb·zero, ListN.length, ListN.drop, Seq.sets, Seq.sets-eq}
 use Rattle.refusal.specs.Refuse.{first}
 use Rattle.room.specs.Room.{front, put, fitsIn, thenRoom, leaves, Writes, WritesTwo}
 
@@ -30,9 +26,7 @@ front-put room answer = ap (λ k. answer ++ drop k room) (zero-add (length answe
 -- no refusal, and none after it
 pub first-none : (n next : ℕ) → first n next ≡ 0 → (n ≡ 0) × (next ≡ 0)
 first-none zero next e = (refl, e)
-first-none (suc n) next e =
-    let never : suc n ≡ 0 = rw (ne-eqb (suc n) 0 (omega arith)) at e in
-    absurd (omega arith)
+first-none (suc n) next e = let never : suc n ≡ 0 = rw (ne-eqb (suc n) 0 (omega arith)) at e in absurd (omega arith)
 
 -- with room enough the refusal is the call's own
 own : (n : ℕ) → cond (eqb n 0) 0 n ≡ n

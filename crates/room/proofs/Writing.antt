@@ -2,12 +2,10 @@
 use Prim.Native.Nat.{ℕ, _+_, _≤_}
 use mathlib.Core.Path.{_≡_, refl, sym, ap, _∙_}
 use mathlib.Core.List.{List, [], _++_, append-assoc, append-nil}
-use native.Mathlib.Nat.{zero-add}
 use native.Mathlib.Omega.{arith}
-use lib.ListN.{length, drop, length-append}
+use lib.ListN.{length, length-append}
 use Rattle.room.specs.Room.{front, put, Wrote}
-use Rattle.room.proofs.Answers.{front-put}
-use Rattle.room.proofs.Laws.{wrote-then, wrote-none, length-wrote}
+use Rattle.room.proofs.{Answers.front-put, Laws.wrote-then, Laws.wrote-none, Laws.length-wrote}
 
 pub wrote-leaves : {old text new : List ℕ} {r : ℕ} → Wrote old 0 text new r → new ≡ front text old
 wrote-leaves {old} {text} w = w .bytes ∙ front-put old text

@@ -1,8 +1,7 @@
 -- Answers in lent room, place by place. Assumes nothing.
-use Prim.Native.Nat.{ℕ, _≤_, _<_}
+use Prim.Native.Nat.{ℕ, _≤_}
 use mathlib.Core.Path.{_≡_, refl, ap, _∙_}
-use mathlib.Core.Bool.{Bool, true, false, _&&_, and-false}
-use mathlib.Core.List.{List}
+use mathlib.Core.{Bool.Bool, Bool.true, Bool.false, Bool._&&_, Bool.and-false, List.List}
 use native.Mathlib.Omega.{arith}
 use lib.ListN.{length, getD}
 use borrow.Author.Tests.{eq-eqb, ne-eqb, le-leb, lt-leb}
@@ -63,10 +62,7 @@ writes-two-so {why} {r} {a} {b} {ra} {rb} {ra′} {rb′} w =
     let enough = fitsIn a ra && fitsIn b rb in
     let n = thenRoom why enough in
     let both : (k : ℕ) → n ≡ k → (k ≡ 0 → ⊥) → (ra′ ≡ ra) × (rb′ ≡ rb) =
-    λ k e ne. (
-      stays n k a ra ra′ (w .left-first) e ne,
-      stays n k b rb rb′ (w .left-second) e ne,
-    ) in
+    λ k e ne. (stays n k a ra ra′ (w .left-first) e ne, stays n k b rb rb′ (w .left-second) e ne) in
     let short : why ≡ 0 → enough ≡ false → (r ≡ 14) × ((ra′ ≡ ra) × (rb′ ≡ rb)) =
     λ z lack. let e = fourteen why enough z lack in (w .number ∙ e, both 14 e (λ f. absurd (omega arith))) in
     record {

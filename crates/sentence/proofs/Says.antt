@@ -1,17 +1,13 @@
 -- The sentences, tested one by one: each says what its number is about, is plain and is short. Assumes nothing.
-use Prim.Native.Nat.{ℕ, zero, suc, _+_, _≤_, _<_}
-use mathlib.Core.Path.{_≡_, refl, sym, ap}
-use mathlib.Core.Bool.{Bool, true, false, not, _&&_}
-use mathlib.Core.List.{List, []}
+use Prim.Native.Nat.{ℕ, zero, suc, _≤_, _<_}
+use mathlib.Core.{Path._≡_, Path.refl, Path.sym, Path.ap, Bool.Bool, Bool.true, Bool.false, Bool.not, Bool._&&_}
+use mathlib.Core.List.{[]}
 use native.Mathlib.Omega.{arith}
 use borrow.Author.Tests.{not-true, ltb-true, ltb-false, leb-true}
-use lib.Dec.{eqb, leb, ltb}
-use lib.ListN.{length, getD, List·getD-eq-default}
+use lib.{Dec.eqb, Dec.leb, Dec.ltb, ListN.length, ListN.getD, ListN.List·getD-eq-default}
 use Rattle.refusal.proofs.Laws.{and-left, and-right}
-use Rattle.text.specs.Index.{every}
-use Rattle.text.specs.Same.{sameText}
-use Rattle.text.proofs.Digits.{either}
-use Rattle.text.proofs.Indices.{every-each}
+use Rattle.text.specs.{Index.every, Same.sameText}
+use Rattle.text.proofs.{Digits.either, Indices.every-each}
 use Rattle.sentence.specs.Sentence.{sentences, sentenceOf, maxSentence}
 use Rattle.sentence.specs.Told.{maxRefusal, subjects, framed, bounds, says, EachSays}
 
@@ -87,9 +83,7 @@ all-short = refl
 
 pub past-all : (number : ℕ) → maxRefusal < number → sentenceOf number ≡ []
 unfolding sentenceOf sentences
-past-all number h =
-    let beyond : length sentences ≤ number = omega arith in
-    List·getD-eq-default sentences [] beyond
+past-all number h = let beyond : length sentences ≤ number = omega arith in List·getD-eq-default sentences [] beyond
 
 pub each-short : (number : ℕ) → length (sentenceOf number) ≤ maxSentence
 unfolding short-test

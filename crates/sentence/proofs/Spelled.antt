@@ -1,7 +1,6 @@
 -- A sentence that was put is its number's, and the numbers that no arm of a match has. Assumes nothing.
 use Prim.Native.Nat.{ℕ, _+_, _≤_, _<_}
-use mathlib.Core.Path.{_≡_}
-use mathlib.Core.List.{List}
+use mathlib.Core.{Path._≡_, List.List}
 use native.Mathlib.Omega.{arith}
 use Rattle.room.specs.Room.{Wrote}
 use Rattle.sentence.specs.Sentence.{sentenceOf}

@@ -1,14 +1,10 @@
 -- A run of digits, one byte at a time. Assumes nothing.
 use Prim.Native.Nat.{ℕ, suc, _+_, _-_, _*_, _<_, _≤_, _^_}
-use mathlib.Core.Path.{_≡_, refl}
-use mathlib.Core.List.{List, [], _∷_}
+use mathlib.Core.{Path._≡_, Path.refl, List.List, List.[], List._∷_}
 use mathlib.Core.Bool.{Bool, true, false, cond, _&&_, not}
-use native.Mathlib.Nat.{pow-le-pow-right, pow-suc, add-zero}
-use native.Mathlib.Numerals.{add-one}
-use native.Mathlib.Omega.{arith}
+use native.Mathlib.{Nat.pow-le-pow-right, Nat.pow-suc, Nat.add-zero, Numerals.add-one, Omega.arith}
 use borrow.Author.Tests.{le-leb, lt-leb, leb-true}
-use lib.ListN.{length, getD, take, drop, length-drop}
-use lib.Seq.{drop-cons, take-all}
+use lib.{ListN.length, ListN.getD, ListN.take, ListN.drop, ListN.length-drop, Seq.drop-cons, Seq.take-all}
 use lib.Dec.{leb, ltb, eqb}
 use Rattle.refusal.proofs.Laws.{and-left, and-right}
 use Rattle.text.specs.Number.{valueOf, isGot, isDigit, digitsOf, wholeOf}
@@ -40,9 +36,7 @@ pub grows : (v i d : ℕ) → v < 10 ^ i → d ≤ 9 → v * 10 + d < 10 ^ (i + 
 grows v i d h e = rw (add-one, pow-suc 10 i) (omega arith)
 
 pub million : (v i : ℕ) → v < 10 ^ i → i < 7 → v < 1000000
-million v i h e =
-    let p : 10 ^ i ≤ 10 ^ 6 = pow-le-pow-right (omega arith) {j = 6} (omega arith) in
-    omega arith
+million v i h e = let p : 10 ^ i ≤ 10 ^ 6 = pow-le-pow-right (omega arith) {j = 6} (omega arith) in omega arith
 
 -- a test goes one way or the other
 pub either : {P : Type 0} (b : Bool) → (b ≡ true → P) → (b ≡ false → P) → P

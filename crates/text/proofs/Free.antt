@@ -7,9 +7,7 @@ use borrow.Author.Tests.{ne-eqb}
 use lib.Dec.{ltb}
 use Rattle.text.specs.Number.{shown, showWhole, showDigits, showDecimal, showLevel}
 use Rattle.text.specs.Field.{countOf}
-use Rattle.text.proofs.Digits.{either}
-use Rattle.text.proofs.Fields.{count-append}
-use Rattle.text.proofs.Shown.{digits-front}
+use Rattle.text.proofs.{Digits.either, Fields.count-append, Shown.digits-front}
 
 module _ (d : ℕ) (low : d < 46) where
   -- a byte from the point on is no parting byte

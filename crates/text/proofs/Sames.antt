@@ -1,14 +1,9 @@
 -- Laws of texts that are compared. Assumes nothing.
 use Prim.Native.Nat.{ℕ, suc, _+_, _≤_, _<_}
-use mathlib.Core.Path.{_≡_, refl, ap}
-use mathlib.Core.List.{List, [], _∷_}
-use mathlib.Core.Bool.{true, false, and-false}
-use native.Mathlib.Numerals.{add-one}
-use native.Mathlib.Omega.{arith}
+use mathlib.Core.{Path._≡_, Path.refl, Path.ap, List.List, List.[], List._∷_, Bool.true, Bool.false, Bool.and-false}
+use native.Mathlib.{Numerals.add-one, Omega.arith}
 use borrow.Author.Tests.{eq-eqb, ne-eqb, eqb-true}
-use lib.ListN.{length, getD, drop, drop-of-length-le}
-use lib.Seq.{drop-cons}
-use lib.Dec.{eqb}
+use lib.{ListN.length, ListN.getD, ListN.drop, ListN.drop-of-length-le, Seq.drop-cons, Dec.eqb}
 use Rattle.refusal.proofs.Laws.{and-left, and-right}
 use Rattle.text.specs.Same.{sameText}
 

@@ -1,15 +1,12 @@
 -- What is written reads back: of a whole number, and of one with decimals. Assumes nothing.
 use Prim.Native.Nat.{ℕ, zero, suc, _+_, _-_, _*_, _/_, _%_, _<_, _≤_, _^_}
-use mathlib.Core.Path.{_≡_, refl, sym, ap, _∙_}
-use mathlib.Core.List.{List, [], _∷_, _++_}
+use mathlib.Core.{Path._≡_, Path.refl, Path.sym, Path.ap, Path._∙_, List.List, List.[], List._∷_, List._++_}
 use mathlib.Core.Bool.{false, _&&_, and-false}
 use native.Mathlib.Nat.{pow-suc, pow-succ', pow-zero, pow-le-pow-right, zero-lt-suc, add-mul, mul-assoc, div-one}
-use native.Mathlib.Nat.{mod-lt, div-add-mod', div-lt-iff-lt-mul}
-use native.Mathlib.Omega.{arith}
+use native.Mathlib.{Nat.mod-lt, Nat.div-add-mod', Nat.div-lt-iff-lt-mul, Omega.arith}
 use borrow.Author.Tests.{le-leb, lt-ltb, le-ltb, ltb-true, ltb-false, ne-eqb, eqb-true, eqb-false}
 use lib.ListN.{length, getD, length-append, List·getD-append}
-use lib.Seq.{take-append-seam, drop-append-add, getD-append-seam}
-use lib.Dec.{ltb, eqb}
+use lib.{Seq.take-append-seam, Seq.drop-append-add, Seq.getD-append-seam, Dec.ltb, Dec.eqb}
 use Rattle.text.specs.Number.{isDigit, digitsOf, wholeOf, decimalOf, levelOf, joined, shown, showNumber}
 use Rattle.text.specs.Number.{showWhole, showDigits, showDecimal, showLevel}
 use Rattle.text.specs.declared.number.Number.the-variants.{Got, Off}
@@ -122,10 +119,7 @@ shown-width (suc k) (suc w) n h =
 
 pub shown-least : (k n : ℕ) → 1 ≤ length (shown (suc k) n)
 unfolding shown
-shown-least k n =
-    either (ltb n 10)
-    (λ yes. rw yes (omega arith))
-    (λ no. rw no (simp length-append (omega arith)))
+shown-least k n = either (ltb n 10) (λ yes. rw yes (omega arith)) (λ no. rw no (simp length-append (omega arith)))
 
 -- no zero leads, unless the number is zero itself
 shown-head : (k n : ℕ) → 0 < n → n < 10 ^ k → getD (shown k n) 0 0 ≡ 48 → ⊥

@@ -1,13 +1,9 @@
--- A line cut off the bytes read so far is the next line of the whole text, whatever follows.
--- Assumes nothing.
-use mathlib.Core.Path.{_≡_, refl, ap, _∙_}
-use mathlib.Core.Bool.{Bool, true, false, cond, _&&_}
+-- A line cut off the bytes read so far is the next line of the whole text, whatever follows. Assumes nothing.
+use mathlib.Core.{Path._≡_, Path.refl, Path.ap, Path._∙_, Bool.Bool, Bool.true, Bool.false, Bool.cond, Bool._&&_}
 use mathlib.Core.List.{List, [], _∷_, _++_}
 use Prim.Native.Nat.{ℕ, suc, _+_, _≤_}
 use native.Mathlib.Omega.{arith}
-use lib.Dec.{eqb}
-use lib.ListN.{length, drop, length-append}
-use lib.Seq.{drop-append-le}
+use lib.{Dec.eqb, ListN.length, ListN.drop, ListN.length-append, Seq.drop-append-le}
 use Rattle.text.specs.Line.{firstLine, linesOf}
 use Rattle.text.proofs.Lines.{lines-step}
 

@@ -1,12 +1,9 @@
 -- One byte parts the fields of a line, and nothing else does. Assumes nothing.
-use mathlib.Core.Path.{_≡_, refl, ap, _∙_}
-use mathlib.Core.List.{List, [], _∷_, _++_}
-use Prim.Native.Nat.{ℕ, suc, _+_, _<_}
+use mathlib.Core.{Path._≡_, Path.refl, Path.ap, Path._∙_, List.List, List.[], List._∷_, List._++_}
+use Prim.Native.Nat.{ℕ, suc, _+_}
 use native.Mathlib.Omega.{arith}
-use lib.Dec.{eqb}
-use lib.ListN.{length, getD}
 use borrow.Author.Tests.{eq-eqb, ne-eqb}
-use Rattle.text.specs.Field.{countOf, upTo, after, fieldOf}
+use Rattle.text.specs.Field.{countOf, fieldOf}
 use Rattle.text.proofs.Fields.{count-append, up-free, after-free, up-all}
 use Rattle.text_rules.specs.Texts.{Without, FieldsAre}
 

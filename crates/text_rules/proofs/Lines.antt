@@ -1,17 +1,14 @@
 -- A CRLF ends a line and nothing else does. Assumes nothing.
-use mathlib.Core.Path.{_≡_, refl, ap, _∙_}
-use mathlib.Core.Bool.{true, false, _&&_, and-false}
+use mathlib.Core.{Path._≡_, Path.refl, Path.ap, Path._∙_, Bool.true, Bool.false, Bool._&&_, Bool.and-false}
 use mathlib.Core.List.{List, [], _∷_, _++_}
 use Prim.Native.Nat.{ℕ, suc, _+_, _-_, _≤_}
 use native.Mathlib.Omega.{arith}
-use lib.Dec.{eqb, leb}
-use lib.ListN.{length, getD, take, drop, length-append, drop-of-length-le}
+use lib.{Dec.eqb, Dec.leb, ListN.length, ListN.getD, ListN.take, ListN.length-append, ListN.drop-of-length-le}
 use lib.Seq.{drop-append-add, drop-length, drop-cons, split-at}
 use borrow.Author.Tests.{eqb-true, leb-true}
 use Rattle.refusal.proofs.Laws.{and-left, and-right}
 use Rattle.text.specs.Line.{endAt, firstLine, linesOf, bareLine}
-use Rattle.text.proofs.Digits.{either}
-use Rattle.text.proofs.Lines.{lines-step, lines-none, bare-back}
+use Rattle.text.proofs.{Digits.either, Lines.lines-step, Lines.lines-none, Lines.bare-back}
 use Rattle.text_rules.specs.Texts.{Unbroken, LinesAre, EndsInCrlf, BareIs}
 
 -- past its first byte

@@ -1,16 +1,11 @@
 -- Numbers in their digits. Assumes nothing.
-use mathlib.Core.Path.{_≡_, refl, sym, ap, _∙_}
-use mathlib.Core.List.{List, [], _∷_, _++_}
-use Prim.Native.Nat.{ℕ, zero, suc, _+_, _-_, _*_, _/_, _%_, _^_, _≤_, _<_}
-use native.Mathlib.Omega.{arith}
-use native.Mathlib.Nat.{pow-zero, pow-suc, div-div-eq-div-mul, mul-comm}
-use lib.Dec.{ltb}
-use lib.ListN.{length, getD, length-append, List·getD-append}
-use lib.Seq.{getD-append-seam}
+use mathlib.Core.{Path._≡_, Path.refl, Path.sym, Path.ap, Path._∙_, List.List, List.[], List._∷_, List._++_}
+use Prim.Native.Nat.{ℕ, zero, suc, _+_, _-_, _/_, _%_, _^_, _≤_, _<_}
+use native.Mathlib.{Omega.arith, Nat.pow-zero, Nat.pow-suc, Nat.div-div-eq-div-mul, Nat.mul-comm}
+use lib.{Dec.ltb, ListN.length, ListN.getD, ListN.length-append, ListN.List·getD-append, Seq.getD-append-seam}
 use borrow.Author.Tests.{ltb-true, ltb-false}
-use Rattle.text.specs.Number.{wholeOf, levelOf, shown, showWhole, showDigits, showLevel}
-use Rattle.text.proofs.Digits.{either, whole-small}
-use Rattle.text.proofs.Exact.{whole-exact, level-exact, level-small}
+use Rattle.text.specs.Number.{wholeOf, levelOf, shown, showWhole, showLevel}
+use Rattle.text.proofs.{Digits.either, Digits.whole-small, Exact.whole-exact, Exact.level-exact, Exact.level-small}
 use Rattle.text.proofs.Shown.{shown-one, shown-more, whole-back, level-back}
 use Rattle.text_rules.specs.Texts.{InDigits, NumbersAre}
 

@@ -1,19 +1,14 @@
 -- The contours of a checked network are printable, and listed as the text takes them. Assumes nothing.
-use mathlib.Core.Path.{_≡_, refl, sym, ap, _∙_, subst}
-use mathlib.Core.Bool.{Bool, true, false, _&&_, cond}
-use mathlib.Core.List.{List, [], _∷_, _++_, map}
+use mathlib.Core.{Path._≡_, Path.refl, Path.sym, Path.ap, Path._∙_, Bool.Bool, Bool.true, Bool.false, Bool._&&_}
+use mathlib.Core.List.{List, [], _∷_, map}
 use Prim.Native.Nat.{ℕ, zero, suc, _+_, _≤_, _<_}
 use native.Mathlib.Omega.{arith}
 use borrow.Author.Tests.{ltb-true, eq-eqb}
-use lib.Dec.{ltb, eqb}
-use lib.ListN.{length, getD, take, drop, length-append}
-use lib.Seq.{take-append-seam, drop-append-seam}
+use lib.{Dec.ltb, ListN.length, ListN.getD, ListN.take, ListN.length-append, Seq.take-append-seam, Seq.drop-append-seam}
 use Rattle.network.specs.declared.Frame.{Frame}
-use Rattle.network.specs.Edges.{edges, Checked}
-use Rattle.network.specs.Crossed.{crossedAt}
+use Rattle.network.specs.{Edges.edges, Edges.Checked, Crossed.crossedAt}
 use Rattle.network.proofs.Refusals.{both}
-use Rattle.contour_rules.specs.Picture.{Picture, picture}
-use Rattle.contour_rules.specs.Crossings.{edgesIn}
+use Rattle.contour_rules.specs.{Picture.Picture, Picture.picture, Crossings.edgesIn}
 use Rattle.contour_rules.specs.Contours.{Contour, bit, contoursOf, edgesOf, countsOf, closedOf}
 use Rattle.contour_rules.specs.Once.{occurs, Sound, AllSound}
 use Rattle.contour_rules.proofs.Sums.{length-counts, length-closed, crossings-le, all-listed}

@@ -1,18 +1,13 @@
 -- The parts of any run of printing, joined, are the text. Assumes nothing.
-use mathlib.Core.Path.{_≡_, refl, sym, ap, _∙_}
-use mathlib.Core.Bool.{Bool, true, false}
-use mathlib.Core.List.{List, _++_}
-use mathlib.Core.Logic.{⊎-elim}
+use mathlib.Core.{Path._≡_, Path.refl, Path.sym, Path.ap, Path._∙_, Bool.Bool, Bool.true, Bool.false}
+use mathlib.Core.{List.List, List._++_, Logic.⊎-elim}
 use Prim.Native.Nat.{ℕ, suc, _+_, _≤_, _<_}
 use native.Mathlib.Omega.{arith}
 use borrow.Author.Tests.{ltb-true, ltb-false}
-use lib.Dec.{ltb}
-use lib.ListN.{length, take, drop, length-append, take-append-drop}
-use lib.Seq.{length-take-le}
+use lib.{Dec.ltb, ListN.length, ListN.take, ListN.drop, ListN.length-append, ListN.take-append-drop, Seq.length-take-le}
 use Rattle.network.specs.declared.Frame.{Frame}
-use Rattle.wkt.specs.declared.Cursor.{Cursor}
+use Rattle.wkt.specs.declared.{Cursor.Cursor, Part.Part}
 use Rattle.wkt.specs.Text.{textOf}
-use Rattle.wkt.specs.declared.Part.{Part}
 use Rattle.wkt.specs.InnerParts.{linesFrom, leftOf, pieceOf, walk, pieces, Printed}
 use Rattle.wkt.specs.InnerRuns.{Run, ended, printed}
 use Rattle.wkt.proofs.Steps.{left-end, left-first}

@@ -1,18 +1,13 @@
 -- How long the pieces of the text are: 64 bytes hold any. Assumes nothing.
-use mathlib.Core.Path.{_≡_, refl}
-use mathlib.Core.Bool.{Bool, true, false, cond}
 use mathlib.Core.List.{List, [], _∷_, _++_}
-use Prim.Native.Nat.{ℕ, zero, suc, _+_, _/_, _%_, _≤_}
+use Prim.Native.Nat.{ℕ, _+_, _/_, _≤_}
 use native.Mathlib.Omega.{arith}
-use lib.Dec.{ltb, eqb}
-use lib.ListN.{length, getD, length-append}
-use Rattle.text.specs.Number.{shown}
+use lib.{Dec.eqb, ListN.length, ListN.getD, ListN.length-append}
 use Rattle.text.proofs.Shown.{shown-short, decimal-long}
 use Rattle.network.specs.declared.Frame.{Frame}
 use Rattle.network.specs.Edges.{edgeAt}
 use Rattle.network.proofs.Numbers.{by-cond}
-use Rattle.wkt.specs.declared.Cursor.{Cursor}
-use Rattle.wkt.specs.declared.Spot.{Spot}
+use Rattle.wkt.specs.declared.{Cursor.Cursor, Spot.Spot}
 use Rattle.wkt.specs.Places.{spotOf}
 use Rattle.wkt.specs.Text.{showMetres, showSpot, placeText, comma, multilinestring, empty}
 use Rattle.wkt.specs.InnerParts.{lineAt, pointsAt, endText, beforeText, pieceOf}

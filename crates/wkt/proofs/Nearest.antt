@@ -1,11 +1,10 @@
 -- The rounded place: nearest, halves up, and never past the edge's end. Assumes nothing.
-use mathlib.Core.Path.{_≡_, sym}
-use Prim.Native.Nat.{ℕ, _+_, _*_, _/_, _%_, _≤_, _<_}
+use mathlib.Core.Path.{_≡_}
+use Prim.Native.Nat.{ℕ, _+_, _*_, _%_, _≤_, _<_}
 use native.Mathlib.Nat.{mod-lt, div-add-mod', div-lt-iff-lt-mul, add-mul, one-mul, mul-left-comm, mul-le-mul}
-use native.Mathlib.Nat.{mul-le-mul-left, le-of-lt}
-use native.Mathlib.Omega.{arith}
-use Rattle.network.specs.Limits.{maxSide, maxSpacing, maxOrigin}
-use Rattle.wkt.specs.Places.{nearest, offsetOf, standOf}
+use native.Mathlib.{Nat.mul-le-mul-left, Nat.le-of-lt, Omega.arith}
+use Rattle.network.specs.Limits.{maxSide, maxSpacing}
+use Rattle.wkt.specs.Places.{nearest, offsetOf}
 
 -- r is a / b rounded to nearest, halves up: r - 1/2 ≤ a / b < r + 1/2
 pub nearest-is : (a b : ℕ) → 0 < b
@@ -28,9 +27,7 @@ offset-small spacing num den z h =
 -- the numbers that the code comes by fit
 pub product-small : (spacing num : ℕ) → spacing ≤ maxSpacing → num ≤ 4294967295
     → 1000 * spacing * num ≤ 2147483647500000
-product-small spacing num h k =
-    let a : 1000 * spacing ≤ 500000 = omega arith in
-    omega (arith, mul-le-mul a k)
+product-small spacing num h k = let a : 1000 * spacing ≤ 500000 = omega arith in omega (arith, mul-le-mul a k)
 
 pub metres-small : (index spacing : ℕ) → index < maxSide → spacing ≤ maxSpacing → index * spacing ≤ 128000
 metres-small index spacing h k = omega (arith, mul-le-mul (le-of-lt h) k)

@@ -1,20 +1,15 @@
 -- A text that has room is printed whole in one part. Assumes nothing.
-use mathlib.Core.Path.{_≡_, refl, sym, ap, _∙_, subst}
-use mathlib.Core.Bool.{Bool, true, false, cond}
-use mathlib.Core.Logic.{_⊎_, inl, inr, ⊎-elim}
-use mathlib.Core.List.{List, [], _∷_, _++_, append-nil}
+use mathlib.Core.{Path._≡_, Path.refl, Path.sym, Path.ap, Path._∙_, Bool.Bool, Bool.true, Bool.false}
+use mathlib.Core.{Logic._⊎_, Logic.⊎-elim, List.List, List._++_, List.append-nil}
 use Prim.Native.Nat.{ℕ, zero, suc, _+_, _*_, _≤_, _<_}
 use native.Mathlib.Omega.{arith}
 use borrow.Author.Tests.{ltb-true, ltb-false}
-use lib.Dec.{ltb}
-use lib.ListN.{length, take, drop, length-append, take-append-drop}
-use lib.Seq.{length-take-le}
+use lib.{Dec.ltb, ListN.length, ListN.take, ListN.drop, ListN.length-append, ListN.take-append-drop, Seq.length-take-le}
 use Rattle.network.specs.declared.Frame.{Frame}
 use Rattle.network.specs.Limits.{maxEdges}
 use Rattle.network.proofs.Numbers.{edges-le}
 use Rattle.room.specs.Room.{front}
-use Rattle.wkt.specs.declared.Cursor.{Cursor}
-use Rattle.wkt.specs.declared.Part.{Part}
+use Rattle.wkt.specs.declared.{Cursor.Cursor, Part.Part}
 use Rattle.wkt.specs.Text.{textOf}
 use Rattle.wkt.specs.InnerParts.{linesFrom, Printable, Reached, leftOf, pieceOf, nextOf, Printed}
 use Rattle.wkt.proofs.Lengths.{piece-short}

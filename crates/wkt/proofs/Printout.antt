@@ -1,35 +1,23 @@
 -- Printed contours follow the rules' layout. Assumes nothing.
 use mathlib.Core.Path.{_≡_, refl, sym, ap, _∙_, subst}
-use mathlib.Core.Bool.{Bool, true, false, _&&_, cond}
-use mathlib.Core.Logic.{_⊎_, ⊎-elim}
-use mathlib.Core.List.{List, [], _∷_, _++_, map, append-assoc, append-nil}
+use mathlib.Core.{Bool.Bool, Bool.true, Bool.false, Bool._&&_, Bool.cond, Logic._⊎_, Logic.⊎-elim}
+use mathlib.Core.List.{List, [], _∷_, _++_, map, append-assoc}
 use Prim.Native.Nat.{ℕ, _+_, _-_, _*_, _/_, _%_, _≤_, _<_}
-use native.Mathlib.Nat.{mod-lt, div-add-mod', mul-le-mul, le-of-lt, mul-comm, mul-assoc, mul-left-comm, add-comm}
-use native.Mathlib.Nat.{add-zero}
-use native.Mathlib.Omega.{arith}
+use native.Mathlib.{Nat.mod-lt, Nat.div-add-mod', Nat.mul-comm, Nat.add-comm, Nat.add-zero, Omega.arith}
 use borrow.Author.Tests.{leb-true, le-leb}
-use lib.Dec.{leb}
-use lib.ListN.{length, getD, take}
-use Rattle.text.specs.Number.{showWhole, wholeOf}
+use lib.{Dec.leb, ListN.length, ListN.getD}
+use Rattle.text.specs.Number.{showWhole}
 use Rattle.text.proofs.Shown.{whole-back}
-use Rattle.network.specs.declared.Edge.{Edge}
+use Rattle.network.specs.declared.{Edge.Edge, Frame.Frame}
 use Rattle.network.specs.declared.Edge.the-variants.{Horizontal, Vertical}
-use Rattle.network.specs.declared.Frame.{Frame}
-use Rattle.network.specs.Limits.{maxSide, maxSpacing, maxOrigin}
-use Rattle.network.specs.Edges.{levelAt, edgeAt, Checked}
-use Rattle.network.specs.Crossed.{distance}
-use Rattle.network.specs.Numbering.{OneIn}
-use Rattle.network.specs.Ranges.{RoomRefused}
-use Rattle.network.proofs.Refusals.{both}
-use Rattle.network.proofs.Ranges.{room-refused}
-use Rattle.network.proofs.Numbering.{parts, edges-numbered}
-use Rattle.network.proofs.Astride.{num-den}
-use Rattle.contour_rules.specs.Picture.{Picture, picture}
-use Rattle.contour_rules.specs.Contours.{Contour, bit, contoursOf}
+use Rattle.network.specs.{Limits.maxSide, Limits.maxOrigin, Edges.levelAt, Edges.edgeAt, Edges.Checked}
+use Rattle.network.specs.{Crossed.distance, Numbering.OneIn, Ranges.RoomRefused}
+use Rattle.network.proofs.{Refusals.both, Ranges.room-refused, Numbering.parts, Numbering.edges-numbered}
+use Rattle.contour_rules.specs.{Picture.Picture, Picture.picture, Contours.Contour, Contours.bit}
 use Rattle.contour_rules.specs.Once.{Sound, AllSound}
 use Rattle.contour_rules.proofs.Every.{every-crossing}
 use Rattle.wkt.specs.declared.Spot.{Spot}
-use Rattle.wkt.specs.Places.{nearest, offsetOf, slideOf, standOf, spotOf}
+use Rattle.wkt.specs.Places.{offsetOf, slideOf, standOf, spotOf}
 use Rattle.wkt.specs.Text.{showMetres, showSpot, placeText, bracket, comma, closing, pointsText, linesText}
 use Rattle.wkt.specs.Text.{multilinestring, textOf, pointsOf, contoursText}
 use Rattle.wkt.specs.Calls.{networkText, printRefusal}

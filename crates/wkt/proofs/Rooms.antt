@@ -1,12 +1,10 @@
 -- A room filled piece by piece from its front. Assumes nothing.
-use mathlib.Core.Path.{_≡_, refl, sym, ap, _∙_}
-use mathlib.Core.Bool.{Bool, true, false}
+use mathlib.Core.{Path._≡_, Path.refl, Path.sym, Path.ap, Path._∙_, Bool.Bool, Bool.true, Bool.false}
 use mathlib.Core.List.{List, _++_, append-assoc}
 use Prim.Native.Nat.{ℕ, suc, _+_, _≤_, _<_}
 use native.Mathlib.Omega.{arith}
 use borrow.Author.Tests.{ltb-true, ltb-false}
-use lib.Dec.{ltb}
-use lib.ListN.{length, take, drop, length-append}
+use lib.{Dec.ltb, ListN.length, ListN.take, ListN.drop, ListN.length-append}
 use lib.Seq.{take-at, drop-at, drop-drop, length-take-le}
 use Rattle.room.specs.Room.{put, Wrote}
 use Rattle.room.proofs.Laws.{length-wrote}

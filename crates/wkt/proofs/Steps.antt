@@ -1,24 +1,20 @@
 -- A step of printing: the text left is the piece and then the text left at the next cursor, which printing comes by
 -- and which is nearer to the end. Assumes nothing.
-use mathlib.Core.Path.{_≡_, refl, sym, ap, _∙_, subst}
-use mathlib.Core.Bool.{Bool, true, false, cond}
+use mathlib.Core.{Path._≡_, Path.refl, Path.sym, Path.ap, Path._∙_, Bool.Bool, Bool.true, Bool.false, Bool.cond}
 use mathlib.Core.List.{List, [], _∷_, _++_, append-assoc, append-nil}
-use Prim.Native.Nat.{ℕ, zero, suc, _+_, _-_, _*_, _≤_, _<_}
-use native.Mathlib.Nat.{add-zero}
-use native.Mathlib.Numerals.{add-one}
-use native.Mathlib.Omega.{arith}
-use borrow.Author.Tests.{lt-ltb, le-ltb, ltb-true, ltb-false, ne-eqb, eq-eqb, eqb-true, eqb-false}
+use Prim.Native.Nat.{ℕ, suc, _+_, _-_, _*_, _≤_, _<_}
+use native.Mathlib.{Nat.add-zero, Numerals.add-one, Omega.arith}
+use borrow.Author.Tests.{lt-ltb, le-ltb, ltb-true, ltb-false, ne-eqb, eqb-true, eqb-false}
 use lib.Dec.{ltb, eqb}
 use lib.ListN.{length, getD, take, drop, length-append, length-drop, drop-of-length-le, List·getD-eq-default}
 use lib.ListN.{List·getD-append}
-use lib.Seq.{drop-cons, drop-drop, getD-drop, getD-take, getD-append-add, length-take-le, take-append-le}
+use lib.Seq.{drop-cons, drop-drop, getD-drop, getD-take, getD-append-add, length-take-le}
 use Rattle.network.specs.declared.Frame.{Frame}
 use Rattle.network.proofs.Numbers.{by-cond}
 use Rattle.wkt.specs.declared.Cursor.{Cursor}
-use Rattle.wkt.specs.Text.{placeText, bracket, comma, pointsText, linesText, multilinestring, empty, textOf}
-use Rattle.wkt.specs.Text.{pointsOf}
+use Rattle.wkt.specs.Text.{placeText, bracket, comma, pointsText, linesText, multilinestring, textOf}
 use Rattle.wkt.specs.InnerParts.{linesFrom, total, Printable, lineAt, linesAfter, pointsAt}
-use Rattle.wkt.specs.InnerParts.{Reached, fromLine, leftOf, endText, beforeText, pieceOf, nextOf}
+use Rattle.wkt.specs.InnerParts.{Reached, leftOf, endText, beforeText, pieceOf, nextOf}
 
 -- ---- counts
 

@@ -15,7 +15,7 @@ use Rattle.network.specs.Edges.{edges, Checked}
 use Rattle.network.specs.Crossed.{crossedAt}
 use Rattle.wkt.specs.declared.Cursor.{Cursor}
 use Rattle.wkt.specs.declared.Part.{Part}
-use Rattle.wkt.specs.Text.{placeText, bracket, comma, closing, pointsText, linesText, multilinestring, empty}
+use Rattle.wkt.specs.Text.{placeText, comma, closing, pointsText, linesText, multilinestring, empty}
 use Rattle.wkt.specs.Text.{textOf, pointsOf}
 
 -- lines as they are listed: edges one line after the other, and for each line its count and whether it closes, 1 or 0

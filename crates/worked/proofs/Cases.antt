@@ -1,31 +1,26 @@
--- The cases marked P hold.
--- Assumes nothing.
+-- The cases marked P hold. Assumes nothing.
 use mathlib.Core.Path.{_≡_, refl, sym, ap, _∙_}
-use mathlib.Core.Logic.{_⊎_, inl, inr, ⊎-elim}
-use mathlib.Core.List.{[]}
+use mathlib.Core.{Logic._⊎_, Logic.inl, Logic.inr, Logic.⊎-elim, List.[]}
 use Prim.Native.Nat.{ℕ, zero, suc, _+_, _*_, _/_, _%_, _^_, _≤_, _<_}
 use native.Mathlib.Omega.{arith}
-use lib.Dec.{lit<, lit≤, ltb}
+use lib.Dec.{lit<, lit≤}
 use borrow.Author.Tests.{lt-ltb, le-leb, eq-eqb, ne-eqb}
 use Rattle.movement.specs.Limits.{kindCount, secondsADay, maxIdentity, maxPoints, maxRows}
-use Rattle.movement.specs.Period.{periodNumber, periodNumbered}
-use Rattle.movement.specs.Group.{groupPeriod}
+use Rattle.movement.specs.{Period.periodNumber, Period.periodNumbered, Group.groupPeriod}
 use Rattle.movement.specs.Rules.{fieldsFit, counts, movementRefusal, identityFits}
 use Rattle.book_rules.specs.Calls.{refusedOr, refusal}
 use Rattle.book_rules.specs.Calls.Call.{enter}
 use Rattle.book_rules.specs.History.{made, emptyBook, booked, movements, accepted, listOf, listRefusal}
 use Rattle.book_rules.specs.History.{standingRefusal, sizesFit, standing}
-use Rattle.book_rules.proofs.History.{history-refusal}
-use Rattle.book_rules.proofs.Lookup.{call-does}
-use Rattle.level.specs.Tables.{tableA}
-use Rattle.level.specs.Energy.{energyOf}
+use Rattle.book_rules.proofs.{History.history-refusal, Lookup.call-does}
+use Rattle.level.specs.{Tables.tableA, Energy.energyOf}
 use Rattle.level.proofs.RootLaws.{root-only}
 use Rattle.contour_rules.specs.Contours.{waiting, follow, without, swept, crossedTo}
 use Rattle.text.specs.Number.{shown}
 use Rattle.wkt.specs.Text.{placeText, pointsText, linesText, textOf}
-use Rattle.worked.specs.Cases.{Case, InPeriod, EnterAnswered, CaseHolds, AllHold, cases, hill, hillFrame}
+use Rattle.worked.specs.Cases.{InPeriod, EnterAnswered, CaseHolds, AllHold, cases, hill, hillFrame}
 use Rattle.worked.specs.Cases.{hillContours, hillText}
-use Rattle.worked.specs.Cases.Case.{period, mass, energy, contour}
+use Rattle.worked.specs.Cases.Case.{contour}
 
 -- a group's period is read from its number
 loaded-as : (t k number : ℕ) → number < 3 → periodNumber (groupPeriod (6 * t + 3 * k + number)) ≡ number

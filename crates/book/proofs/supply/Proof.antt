@@ -5,24 +5,9 @@ use Rattle.book_rules.proofs.Accepted.{unsound}
 use Rattle.book.proofs.supply.Statement.{statement}
 use Rattle.book.proofs.supply.Tie as tie
 
-returns : tie.Need-returns
-returns c = unsound (failed (c .before .is-sound .ensures) (c .if1 .taken))
-
-supply-requires : tie.Need-supply-requires
-supply-requires c κs = passed (c .before .before .before .is-sound .ensures) (c .before .before .if1 .left)
-
-returns-2 : tie.Need-returns-2
-returns-2 c = c .before .before .before .before .supply .ensures
-
 pub supply-spec : {M : Type 1} → statement M
 supply-spec =
-    tie.close
-    (tie.spec
-    (λ c κs. search needs)
-    (λ c. search needs)
-    (λ c. search needs)
-    returns
-    supply-requires
-    (λ c. search needs)
-    (λ c. search needs)
-    returns-2)
+    tie.close (tie.spec (λ c κs. search needs) (λ c. search needs) (λ c. search needs)
+    (λ c. unsound (failed (c .before .is-sound .ensures) (c .if1 .taken)))
+    (λ c κs. passed (c .before .before .before .is-sound .ensures) (c .before .before .if1 .left))
+    (λ c. search needs) (λ c. search needs) (λ c. c .before .before .before .before .supply .ensures))

@@ -5,24 +5,9 @@ use Rattle.book_rules.proofs.Accepted.{unsound}
 use Rattle.book.proofs.take_back.Statement.{statement}
 use Rattle.book.proofs.take_back.Tie as tie
 
-returns : tie.Need-returns
-returns c = unsound (failed (c .before .is-sound .ensures) (c .if1 .taken))
-
-take-back-requires : tie.Need-take-back-requires
-take-back-requires c κs = passed (c .before .before .before .is-sound .ensures) (c .before .before .if1 .left)
-
-returns-2 : tie.Need-returns-2
-returns-2 c = c .before .before .before .before .take-back .ensures
-
 pub take-back-spec : {M : Type 1} → statement M
 take-back-spec =
-    tie.close
-    (tie.spec
-    (λ c κs. search needs)
-    (λ c. search needs)
-    (λ c. search needs)
-    returns
-    take-back-requires
-    (λ c. search needs)
-    (λ c. search needs)
-    returns-2)
+    tie.close (tie.spec (λ c κs. search needs) (λ c. search needs) (λ c. search needs)
+    (λ c. unsound (failed (c .before .is-sound .ensures) (c .if1 .taken)))
+    (λ c κs. passed (c .before .before .before .is-sound .ensures) (c .before .before .if1 .left))
+    (λ c. search needs) (λ c. search needs) (λ c. c .before .before .before .before .take-back .ensures))

@@ -5,30 +5,9 @@ use Rattle.book_rules.proofs.Accepted.{unsound}
 use Rattle.book.proofs.withdraw.Statement.{statement}
 use Rattle.book.proofs.withdraw.Tie as tie
 
-returns : tie.Need-returns
-returns c = unsound (failed (c .before .is-sound .ensures) (c .if1 .taken))
-
-withdraw-requires : tie.Need-withdraw-requires
-withdraw-requires c κs =
-    let left1 : tie.Else1 = search in
-    passed (left1 .before .is-sound .ensures) (left1 .if1 .left)
-
-returns-2 : tie.Need-returns-2
-returns-2 c = search
-
 pub withdraw-spec : {M : Type 1} → statement M
 withdraw-spec =
-    tie.close
-    (tie.spec
-    (λ c κs. search needs)
-    (λ c. search needs)
-    (λ c. search needs)
-    (λ c. search needs)
-    (λ c. search needs)
-    returns
-    withdraw-requires
-    (λ c. search needs)
-    (λ c. search needs)
-    (λ c. search needs)
-    (λ c. search needs)
-    returns-2)
+    tie.close (tie.spec (λ c κs. search needs) (λ c. search needs) (λ c. search needs) (λ c. search needs)
+    (λ c. search needs) (λ c. unsound (failed (c .before .is-sound .ensures) (c .if1 .taken)))
+    (λ c κs. let left1 : tie.Else1 = search in passed (left1 .before .is-sound .ensures) (left1 .if1 .left))
+    (λ c. search needs) (λ c. search needs) (λ c. search needs) (λ c. search needs) (λ c. search))

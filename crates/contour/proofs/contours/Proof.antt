@@ -1,8 +1,7 @@
 -- `contour::contours` meets its contract. Assumes nothing.
-use borrow.Author.Needs.{needs}
+use borrow.Author.{Needs.needs, Tests.ne-eqb}
 use mathlib.Core.Path.{sym, _∙_}
 use denote.Ref.{now}
-use borrow.Author.Tests.{ne-eqb}
 use Rattle.network.proofs.Refusals.{contour-not-refused}
 use Rattle.contour.proofs.contours.Statement.{statement}
 use Rattle.contour.proofs.contours.Tie as tie
@@ -30,15 +29,5 @@ returns-2 c =
 
 pub contours-spec : {M : Type 1} → statement M
 contours-spec =
-    tie.close
-    (tie.spec
-    (λ c κs. search needs)
-    (λ c. search needs)
-    (λ c. search needs)
-    list-out-requires
-    (λ c. search needs)
-    (λ c. search needs)
-    (λ c. search needs)
-    (λ c. search needs)
-    returns
-    returns-2)
+    tie.close (tie.spec (λ c κs. search needs) (λ c. search needs) (λ c. search needs) list-out-requires
+    (λ c. search needs) (λ c. search needs) (λ c. search needs) (λ c. search needs) returns returns-2)

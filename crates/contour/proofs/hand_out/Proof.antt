@@ -3,10 +3,8 @@ use borrow.Author.Needs.{needs}
 use mathlib.Core.Path.{_≡_, refl, sym, _∙_}
 use Prim.Native.Nat.{_≤_}
 use denote.Ref.{now}
-use lib.ListN.{length, take}
-use lib.Seq.{length-take-le}
-use Rattle.contour.proofs.Buffers.{all-fit}
-use Rattle.contour.proofs.Handing.{outcomes}
+use lib.{ListN.length, ListN.take, Seq.length-take-le}
+use Rattle.contour.proofs.{Buffers.all-fit, Handing.outcomes}
 use Rattle.contour.proofs.hand_out.Statement.{statement}
 use Rattle.contour.proofs.hand_out.Tie as tie
 
@@ -32,9 +30,6 @@ listed s = (
   length-take-le _ _ (s .pre .1 .1 .0),
   (length-take-le _ _ (s .pre .1 .1 .1 .0), length-take-le _ _ (s .pre .1 .1 .1 .1)),
 )
-
-copy-front-requires : tie.Need-copy-front-requires
-copy-front-requires c κs = let roomy = c .before in (start roomy .pre .1 .1 .0, fit roomy .0)
 
 copy-front-requires-2 : tie.Need-copy-front-requires-2
 copy-front-requires-2 c κs =
@@ -72,16 +67,7 @@ returns-2 c =
 
 pub hand-out-spec : {M : Type 1} → statement M
 hand-out-spec =
-    tie.close
-    (tie.spec
-    (λ c κs. search needs)
-    copy-front-requires
-    copy-front-requires-2
-    copy-front-requires-3
-    put-sizes-requires
-    (λ c. search needs)
-    (λ c. search needs)
-    (λ c. search needs)
-    (λ c. search needs)
-    returns
-    returns-2)
+    tie.close (tie.spec (λ c κs. search needs)
+    (λ c κs. let roomy = c .before in (start roomy .pre .1 .1 .0, fit roomy .0)) copy-front-requires-2
+    copy-front-requires-3 put-sizes-requires (λ c. search needs) (λ c. search needs) (λ c. search needs)
+    (λ c. search needs) returns returns-2)

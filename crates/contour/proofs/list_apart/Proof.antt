@@ -4,8 +4,7 @@ use Prim.Native.Nat.{ℕ, _≤_}
 use native.Mathlib.Omega.{arith}
 use denote.Ref.{now}
 use lib.ListN.{length, replicate, length-replicate}
-use Rattle.network.specs.Limits.{maxSide, maxEdges}
-use Rattle.network.specs.Edges.{edges}
+use Rattle.network.specs.{Limits.maxSide, Limits.maxEdges, Edges.edges}
 use Rattle.network.proofs.Numbers.{edges-le}
 use Rattle.contour_rules.specs.Picture.{Picture, picture}
 use Rattle.contour_rules.proofs.Every.{few}
@@ -61,18 +60,6 @@ returns c =
 
 pub list-apart-spec : {M : Type 1} → statement M
 list-apart-spec =
-    tie.close
-    (tie.spec
-    (λ c. search needs)
-    (λ c. search needs)
-    (λ c. search needs)
-    list-contours-requires
-    (λ c. search needs)
-    (λ c. search needs)
-    (λ c. search needs)
-    hand-out-requires
-    (λ c. search needs)
-    (λ c. search needs)
-    (λ c. search needs)
-    (λ c. search needs)
-    returns)
+    tie.close (tie.spec (λ c. search needs) (λ c. search needs) (λ c. search needs) list-contours-requires
+    (λ c. search needs) (λ c. search needs) (λ c. search needs) hand-out-requires (λ c. search needs)
+    (λ c. search needs) (λ c. search needs) (λ c. search needs) returns)

@@ -34,12 +34,5 @@ returns c =
 
 pub list-straight-spec : {M : Type 1} → statement M
 list-straight-spec =
-    tie.close
-    (tie.spec
-    (λ c κs. search needs)
-    put-sizes-requires
-    (λ c. search needs)
-    (λ c. search needs)
-    (λ c. search needs)
-    (λ c. search needs)
-    returns)
+    tie.close (tie.spec (λ c κs. search needs) put-sizes-requires (λ c. search needs) (λ c. search needs)
+    (λ c. search needs) (λ c. search needs) returns)

@@ -7,29 +7,17 @@ use borrow.Author.Needs.{needs}
 use Rattle.contours.proofs.answer.Statement.{statement}
 use Rattle.contours.proofs.answer.Tie as tie
 
-slice-aggregate-judged : tie.Need-slice-aggregate-judged
-slice-aggregate-judged c = sym (length-take-le _ _ (omega arith))
-
 judged-requires : tie.Need-judged-requires
 judged-requires c κs =
     let s : tie.Start = search in
     let whole : tie.Then1 = search in
     (s .pre .0 .ends (whole .if1 .taken), (s .pre .1 .1 .1 .0, (s .pre .1 .1 .0, s .pre .1 .1 .1 .1)))
 
-returns : tie.Need-returns
-returns c = search needs
-
-slice-aggregate-failed : tie.Need-slice-aggregate-failed
-slice-aggregate-failed c = sym (length-take-le _ _ (omega arith))
-
 failed-requires : tie.Need-failed-requires
 failed-requires c κs =
     let s : tie.Start = search in
     let broken : tie.Then2 = search in
     (s .pre .0 .fails (broken .if2 .taken), s .pre .1 .1 .1)
-
-returns-2 : tie.Need-returns-2
-returns-2 c = search needs
 
 overlong-requires : tie.Need-overlong-requires
 overlong-requires c κs =
@@ -38,18 +26,8 @@ overlong-requires c κs =
     let not-broken : tie.Else2 = search in
     (came-full (s .pre .0) (s .pre .1 .0) (not-whole .if1 .left) (not-broken .if2 .left), s .pre .1 .1 .1)
 
-returns-3 : tie.Need-returns-3
-returns-3 c = search needs
-
 pub answer-spec : {M : Type 1} → statement M
 answer-spec =
-    tie.close
-    (tie.spec
-    slice-aggregate-judged
-    judged-requires
-    returns
-    slice-aggregate-failed
-    failed-requires
-    returns-2
-    overlong-requires
-    returns-3)
+    tie.close (tie.spec (λ c. sym (length-take-le _ _ (omega arith))) judged-requires (λ c. search needs)
+    (λ c. sym (length-take-le _ _ (omega arith))) failed-requires (λ c. search needs) overlong-requires
+    (λ c. search needs))

@@ -1,15 +1,12 @@
 -- `contours::draw`: the network that was stored is the text's, and the levels in front of their room are the words'.
 -- Assumes nothing.
-use mathlib.Core.Path.{_≡_, sym}
-use mathlib.Core.List.{List}
+use mathlib.Core.{Path._≡_, Path.sym, List.List}
 use Prim.Native.Nat.{ℕ, _*_, _≤_}
 use native.Mathlib.Omega.{arith}
 use denote.Ref.{now}
-use lib.ListN.{length, getD}
-use lib.Seq.{length-take-le}
+use lib.{ListN.length, ListN.getD, Seq.length-take-le}
 use Rattle.grid.specs.Read.{textFrame, textLevels}
-use Rattle.contours_steps.specs.Sheet.{textRefusal}
-use Rattle.contours_steps.specs.InnerDrawing.{Stored}
+use Rattle.contours_steps.specs.{Sheet.textRefusal, InnerDrawing.Stored}
 use Rattle.contours_steps.proofs.Drawings.{given-fine, words-front, frame-back, points-are, accepted}
 use borrow.Author.Needs.{needs}
 use Rattle.contours.proofs.draw.Statement.{statement}
@@ -22,15 +19,7 @@ points {text} {header} {levels} st z = rw (st .numbers) (sym (points-are text z)
 
 inside : (s : tie.Start)
     → getD (now (s .args .header)) 1 0 * getD (now (s .args .header)) 0 0 ≤ length (now (s .args .levels))
-inside s =
-    let p = s .pre .1 .1 .1 in
-    omega (arith, points (p .1 .0) (p .0), p .1 .0 .fits)
-
-mul-points : tie.Need-mul-points
-mul-points c = let s : tie.Start = search in omega (arith, inside s)
-
-slice-aggregate-sheet : tie.Need-slice-aggregate-sheet
-slice-aggregate-sheet c = let s : tie.Start = search in sym (length-take-le _ _ (inside s))
+inside s = let p = s .pre .1 .1 .1 in omega (arith, points (p .1 .0) (p .0), p .1 .0 .fits)
 
 slice-aggregate-sheet-2 : tie.Need-slice-aggregate-sheet-2
 slice-aggregate-sheet-2 c =
@@ -49,17 +38,8 @@ sheet-requires c κs =
 
 pub draw-spec : {M : Type 1} → statement M
 draw-spec =
-    tie.close
-    (tie.spec
-    (λ c. search needs)
-    (λ c. search needs)
-    (λ c. search needs)
-    (λ c. search needs)
-    (λ c. search needs)
-    (λ c. search needs)
-    (λ c. search needs)
-    mul-points
-    slice-aggregate-sheet
-    slice-aggregate-sheet-2
-    sheet-requires
+    tie.close (tie.spec (λ c. search needs) (λ c. search needs) (λ c. search needs) (λ c. search needs)
+    (λ c. search needs) (λ c. search needs) (λ c. search needs)
+    (λ c. let s : tie.Start = search in omega (arith, inside s))
+    (λ c. let s : tie.Start = search in sym (length-take-le _ _ (inside s))) slice-aggregate-sheet-2 sheet-requires
     (λ c. search needs))

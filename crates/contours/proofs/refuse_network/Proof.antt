@@ -4,9 +4,6 @@ use borrow.Author.Needs.{needs}
 use Rattle.contours.proofs.refuse_network.Statement.{statement}
 use Rattle.contours.proofs.refuse_network.Tie as tie
 
-refused-line-requires : tie.Need-refused-line-requires
-refused-line-requires c κs = search needs
-
 refusal-requires : tie.Need-refusal-requires
 refusal-requires c κs =
     let s : tie.Start = search in
@@ -18,11 +15,5 @@ refusal-requires c κs =
 
 pub refuse-network-spec : {M : Type 1} → statement M
 refuse-network-spec =
-    tie.close
-    (tie.spec
-    refused-line-requires
-    refusal-requires
-    (λ c. search needs)
-    (λ c κs. search needs)
-    (λ c. search needs)
-    (λ c. search needs))
+    tie.close (tie.spec (λ c κs. search needs) refusal-requires (λ c. search needs) (λ c κs. search needs)
+    (λ c. search needs) (λ c. search needs))

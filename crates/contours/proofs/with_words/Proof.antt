@@ -25,12 +25,5 @@ refusal-requires c κs =
 
 pub with-words-spec : {M : Type 1} → statement M
 with-words-spec =
-    tie.close
-    (tie.spec
-    (λ c κs. search needs)
-    draw-requires
-    (λ c. search needs)
-    refusal-requires
-    (λ c κs. search needs)
-    (λ c. search needs)
-    (λ c. search needs))
+    tie.close (tie.spec (λ c κs. search needs) draw-requires (λ c. search needs) refusal-requires
+    (λ c κs. search needs) (λ c. search needs) (λ c. search needs))

@@ -1,12 +1,9 @@
 -- `journal::replay` meets its contract: 16, 9 or 14 and nothing changed, or all calls made. Assumes nothing.
-use mathlib.Core.Path.{_≡_, sym, _∙_}
+use mathlib.Core.Path.{sym, _∙_}
 use borrow.Author.Needs.{needs}
 use Rattle.journal.proofs.Replaying.{replay-ready, replay-refused, replay-done}
 use Rattle.journal.proofs.replay.Statement.{statement}
 use Rattle.journal.proofs.replay.Tie as tie
-
-returns : tie.Need-returns
-returns c = replay-refused (c .before .replay-refusal .ensures) (c .if1 .taken)
 
 run-requires : tie.Need-run-requires
 run-requires c κs =
@@ -24,18 +21,6 @@ returns-2 c =
 
 pub replay-spec : {M : Type 1} → statement M
 replay-spec =
-    tie.close
-    (tie.spec
-    (λ c κs. search needs)
-    (λ c. search needs)
-    (λ c. search needs)
-    (λ c. search needs)
-    (λ c. search needs)
-    returns
-    run-requires
-    (λ c. search needs)
-    (λ c. search needs)
-    (λ c. search needs)
-    (λ c. search needs)
-    (λ c. search needs)
-    returns-2)
+    tie.close (tie.spec (λ c κs. search needs) (λ c. search needs) (λ c. search needs) (λ c. search needs)
+    (λ c. search needs) (λ c. replay-refused (c .before .replay-refusal .ensures) (c .if1 .taken)) run-requires
+    (λ c. search needs) (λ c. search needs) (λ c. search needs) (λ c. search needs) (λ c. search needs) returns-2)

@@ -1,14 +1,9 @@
 -- `journal::replay_refusal` meets its contract. Assumes nothing.
-use borrow.Author.Tests.{lt-leb, le-leb}
-use borrow.Author.Needs.{needs}
+use borrow.Author.{Tests.lt-leb, Tests.le-leb, Needs.needs}
 use Rattle.refusal.proofs.Laws.{passed, failed}
 use Rattle.journal.specs.Journal.{replayRefusal}
 use Rattle.journal.proofs.replay_refusal.Statement.{statement}
 use Rattle.journal.proofs.replay_refusal.Tie as tie
-
-returns : tie.Need-returns
-unfolding replayRefusal
-returns c = simp (failed (c .before .is-laid-out .ensures) (c .if1 .taken))
 
 returns-2 : tie.Need-returns-2
 unfolding replayRefusal
@@ -17,9 +12,6 @@ returns-2 c =
       passed (c .before .before .before .is-laid-out .ensures) (c .before .before .if1 .left),
       failed (c .before .is-sound .ensures) (c .if2 .taken),
     )
-
-count-calls-requires : tie.Need-count-calls-requires
-count-calls-requires c κs = passed (c .before .before .before .is-laid-out .ensures) (c .before .before .if1 .left)
 
 returns-3 : tie.Need-returns-3
 unfolding replayRefusal
@@ -51,12 +43,8 @@ returns-4 c =
 
 pub replay-refusal-spec : {M : Type 1} → statement M
 replay-refusal-spec =
-    tie.close
-    (tie.spec
-    (λ c κs. search needs)
-    returns
-    (λ c κs. search needs)
-    returns-2
-    count-calls-requires
-    returns-3
+    tie.close (tie.spec (λ c κs. search needs)
+    (λ c. unfold replayRefusal in simp (failed (c .before .is-laid-out .ensures) (c .if1 .taken)))
+    (λ c κs. search needs) returns-2
+    (λ c κs. passed (c .before .before .before .is-laid-out .ensures) (c .before .before .if1 .left)) returns-3
     returns-4)

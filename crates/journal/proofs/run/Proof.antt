@@ -1,6 +1,6 @@
 -- `journal::run` meets its contract: the calls made so far and those still to come give what the whole journal gives.
 -- Assumes nothing.
-use mathlib.Core.Path.{_≡_, refl, sym, ap, _∙_}
+use mathlib.Core.Path.{_≡_, refl}
 use Prim.Native.Nat.{_-_, _≤_, _<_}
 use native.Mathlib.Omega.{arith}
 use lib.ListN.{length, length-set}
@@ -32,11 +32,6 @@ loop-holds : tie.Need-loop-holds Inv-loop μ-loop
 loop-holds c =
     let start : tie.Start Inv-loop μ-loop = search in
     (replay-starts _ _ _ _ (start .pre .0) (start .pre .1 .0), (refl, (refl, (refl, (refl, refl)))))
-
-mul-width-of : tie.Need-mul-width-of Inv-loop μ-loop
-mul-width-of c =
-    let start : tie.Start Inv-loop μ-loop = search in
-    let g = start .good in omega arith
 
 -- the places that the facts below look back to
 abbrev start : tie.After-width-of Inv-loop μ-loop → tie.Start Inv-loop μ-loop
@@ -89,11 +84,6 @@ mul-answers c =
     let at : tie.After-width-of Inv-loop μ-loop = search in
     let g = start at .good in let b = below at in let e = head at .loop .inv .1 in omega arith
 
-slice-write-answers : tie.Need-slice-write-answers Inv-loop μ-loop
-slice-write-answers c =
-    let at : tie.After-width-of Inv-loop μ-loop = search in
-    let b = below at in omega arith
-
 add-made : tie.Need-add-made Inv-loop μ-loop
 add-made c =
     let at : tie.After-width-of Inv-loop μ-loop = search in
@@ -118,35 +108,12 @@ loop-again c =
       (search needs, (search needs, (search needs, (search needs, simp length-set (omega (arith, inv .1)))))),
     )
 
-returns : tie.Need-returns Inv-loop μ-loop
-returns c = replay-ends (c .before .loop .inv .0) (c .loop-test .left)
-
 pub run-spec : {M : Type 1} → statement M
 run-spec =
-    tie.close
-    (tie.spec
-    Inv-loop
-    μ-loop
-    loop-holds
-    mul-width-of
-    (λ c. search needs)
-    (λ c. search needs)
-    (λ c. search needs)
-    (λ c κs. search needs)
-    mul-make-call
-    (λ c. search needs)
-    (λ c. search needs)
-    (λ c. search needs)
-    make-call-requires
-    mul-answers
-    slice-write-answers
-    add-made
-    add-at
-    loop-less
-    loop-again
-    (λ c. search needs)
-    (λ c. search needs)
-    (λ c. search needs)
-    (λ c. search needs)
-    (λ c. search needs)
-    returns)
+    tie.close (tie.spec Inv-loop μ-loop loop-holds
+    (λ c. let start : tie.Start Inv-loop μ-loop = search in let g = start .good in omega arith) (λ c. search needs)
+    (λ c. search needs) (λ c. search needs) (λ c κs. search needs) mul-make-call (λ c. search needs)
+    (λ c. search needs) (λ c. search needs) make-call-requires mul-answers
+    (λ c. let at : tie.After-width-of Inv-loop μ-loop = search in let b = below at in omega arith) add-made add-at
+    loop-less loop-again (λ c. search needs) (λ c. search needs) (λ c. search needs) (λ c. search needs)
+    (λ c. search needs) (λ c. replay-ends (c .before .loop .inv .0) (c .loop-test .left)))

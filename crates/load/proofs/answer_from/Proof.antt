@@ -1,11 +1,8 @@
--- `load::answer_from` meets its contract: the sums give refusal 10 or the total and its level.
--- Assumes nothing.
-use mathlib.Core.Path.{_≡_, sym, _∙_}
-use mathlib.Core.Bool.{_&&_}
+-- `load::answer_from` meets its contract: the sums give refusal 10 or the total and its level. Assumes nothing.
+use mathlib.Core.{Path._≡_, Path.sym, Path._∙_, Bool._&&_}
 use Prim.Native.Nat.{_+_}
 use lib.Dec.{eqb, ltb}
-use Rattle.load_rules.specs.Factors.{knownSum, unknownSum}
-use Rattle.load_rules.specs.Load.{countsOf}
+use Rattle.load_rules.specs.{Factors.knownSum, Factors.unknownSum, Load.countsOf}
 use Rattle.load.specs.InnerSteps.{groupAt, Scalable}
 use Rattle.load.proofs.SumsLaws.{sums-fit, sums-totals, sums-none, from-refused, from-answered}
 use borrow.Author.Needs.{needs}
@@ -32,11 +29,6 @@ returns c =
     ∙ sym (from-refused (groupAt (s .args .groups)) (s .args .days) (sym (none (c .before .before))
     ∙ c .before .if1 .taken))
 
-totals-of-requires : tie.Need-totals-of-requires
-totals-of-requires c κs =
-    let n : tie.After-summed = search in
-    (fits n, n .before .pre .1)
-
 returns-2 : tie.Need-returns-2
 returns-2 c =
     let t : tie.After-totals-of = search in
@@ -52,12 +44,5 @@ returns-2 c =
 
 pub answer-from-spec : {M : Type 1} → statement M
 answer-from-spec =
-    tie.close
-    (tie.spec
-    (λ c κs. search needs)
-    (λ c κs. search needs)
-    (λ c κs. search needs)
-    returns
-    totals-of-requires
-    (λ c κs. search needs)
-    returns-2)
+    tie.close (tie.spec (λ c κs. search needs) (λ c κs. search needs) (λ c κs. search needs) returns
+    (λ c κs. let n : tie.After-summed = search in (fits n, n .before .pre .1)) (λ c κs. search needs) returns-2)

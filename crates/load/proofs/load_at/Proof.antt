@@ -1,5 +1,4 @@
--- `load::load_at` meets its contract: 9, 11, and then the load of the rows.
--- Assumes nothing.
+-- `load::load_at` meets its contract: 9, 11, and then the load of the rows. Assumes nothing.
 use Rattle.refusal.proofs.Laws.{passed, failed}
 use Rattle.book_rules.specs.Columns.{Book, bookNow}
 use Rattle.load_rules.specs.Load.{loadRefusal, loadOf, bookLoad}
@@ -39,13 +38,5 @@ returns-3 c =
 
 pub load-at-spec : {M : Type 1} → statement M
 load-at-spec =
-    tie.close
-    (tie.spec
-    (λ c κs. search needs)
-    (λ c κs. search needs)
-    returns
-    (λ c κs. search needs)
-    (λ c κs. search needs)
-    returns-2
-    load-of-requires
-    returns-3)
+    tie.close (tie.spec (λ c κs. search needs) (λ c κs. search needs) returns (λ c κs. search needs)
+    (λ c κs. search needs) returns-2 load-of-requires returns-3)

@@ -4,11 +4,9 @@ use mathlib.Core.Path.{ap, _∙_}
 use native.Mathlib.Omega.{arith}
 use lib.ListN.{length}
 use Rattle.book_rules.specs.Columns.{Book, bookNow}
-use Rattle.load_rules.specs.Shares.{bookShares}
-use Rattle.load_rules.specs.Tally.{tally}
+use Rattle.load_rules.specs.{Shares.bookShares, Tally.tally}
 use Rattle.load.specs.InnerSteps.{groupAt, loadFrom}
-use Rattle.load.proofs.RowLaws.{rows-bounded, rows-grouped}
-use Rattle.load.proofs.SumsLaws.{from-table, from-shares}
+use Rattle.load.proofs.{RowLaws.rows-bounded, RowLaws.rows-grouped, SumsLaws.from-table, SumsLaws.from-shares}
 use borrow.Author.Needs.{needs}
 use Rattle.load.proofs.load_of.Statement.{statement}
 use Rattle.load.proofs.load_of.Tie as tie
@@ -37,9 +35,4 @@ returns c =
     (length (s .args .ids .now)) (omega arith))
 
 pub load-of-spec : {M : Type 1} → statement M
-load-of-spec =
-    tie.close
-    (tie.spec
-    (λ c κs. search needs)
-    answer-from-requires
-    returns)
+load-of-spec = tie.close (tie.spec (λ c κs. search needs) answer-from-requires returns)

@@ -1,13 +1,8 @@
--- `load::refusal` meets its contract: by definition.
--- Assumes nothing.
+-- `load::refusal` meets its contract: by definition. Assumes nothing.
 use borrow.Author.Needs.{needs}
 use Rattle.load_rules.specs.Load.{refusedLoad}
 use Rattle.load.proofs.refusal.Statement.{statement}
 use Rattle.load.proofs.refusal.Tie as tie
 
-returns : tie.Need-returns
-unfolding refusedLoad
-returns c = search needs
-
 pub refusal-spec : {M : Type 1} → statement M
-refusal-spec = tie.close (tie.spec returns)
+refusal-spec = tie.close (tie.spec (λ c. unfold refusedLoad in search needs))

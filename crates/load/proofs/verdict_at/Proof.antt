@@ -1,7 +1,6 @@
--- `load::verdict_at` meets its contract: 9, 11, 15, and then the verdict on the load of the rows.
--- Assumes nothing.
+-- `load::verdict_at` meets its contract: 9, 11, 15, and then the verdict on the load of the rows. Assumes nothing.
 use mathlib.Core.Path.{refl, sym, ap, _∙_}
-use borrow.Author.Tests.{le-leb, lt-leb}
+use borrow.Author.{Tests.le-leb, Tests.lt-leb, Needs.needs}
 use Rattle.refusal.proofs.Laws.{passed, failed}
 use Rattle.book_rules.specs.Columns.{Book, bookNow}
 use Rattle.load_rules.specs.Shares.{bookShares}
@@ -9,7 +8,6 @@ use Rattle.load_rules.specs.Verdict.{limitFits, verdictRefusal, judged, judgedO
 use Rattle.load_rules.proofs.Determined.{judging}
 use Rattle.load.specs.InnerSteps.{judgedBy}
 use Rattle.load.proofs.SumsLaws.{fits-there, judged-load}
-use borrow.Author.Needs.{needs}
 use Rattle.load.proofs.verdict_at.Statement.{statement}
 use Rattle.load.proofs.verdict_at.Tie as tie
 
@@ -65,13 +63,5 @@ returns-4 c =
 
 pub verdict-at-spec : {M : Type 1} → statement M
 verdict-at-spec =
-    tie.close
-    (tie.spec
-    (λ c κs. search needs)
-    returns
-    (λ c κs. search needs)
-    returns-2
-    returns-3
-    load-of-requires
-    (λ c κs. search needs)
-    returns-4)
+    tie.close (tie.spec (λ c κs. search needs) returns (λ c κs. search needs) returns-2 returns-3 load-of-requires
+    (λ c κs. search needs) returns-4)

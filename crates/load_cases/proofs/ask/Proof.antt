@@ -6,47 +6,16 @@ use borrow.Author.Needs.{needs}
 use Rattle.load_cases.proofs.ask.Statement.{statement}
 use Rattle.load_cases.proofs.ask.Tie as tie
 
-slice-aggregate-ask : tie.Need-slice-aggregate-ask
-slice-aggregate-ask c =
-    let start : tie.Start = search in
-    sym (length-take-le _ (start .args .ids .now) (omega arith))
-
-slice-aggregate-ask-2 : tie.Need-slice-aggregate-ask-2
-slice-aggregate-ask-2 c =
-    let start : tie.Start = search in
-    sym (length-take-le _ (start .args .groups .now) (omega arith))
-
-slice-aggregate-ask-3 : tie.Need-slice-aggregate-ask-3
-slice-aggregate-ask-3 c =
-    let start : tie.Start = search in
-    sym (length-take-le _ (start .args .marks .now) (omega arith))
-
-slice-aggregate-ask-4 : tie.Need-slice-aggregate-ask-4
-slice-aggregate-ask-4 c =
-    let start : tie.Start = search in
-    sym (length-take-le _ (start .args .levels .now) (omega arith))
-
 pub ask-spec : {M : Type 1} → statement M
 ask-spec =
-    tie.close
-    (tie.spec
-    (λ c κs. search needs)
-    (λ c κs. search needs)
+    tie.close (tie.spec (λ c κs. search needs) (λ c κs. search needs) (λ c. search needs) (λ c. search needs)
+    (λ c. search needs) (λ c. search needs) (λ c. search needs)
+    (λ c. let start : tie.Start = search in sym (length-take-le _ (start .args .ids .now) (omega arith)))
     (λ c. search needs)
+    (λ c. let start : tie.Start = search in sym (length-take-le _ (start .args .groups .now) (omega arith)))
     (λ c. search needs)
+    (λ c. let start : tie.Start = search in sym (length-take-le _ (start .args .marks .now) (omega arith)))
     (λ c. search needs)
-    (λ c. search needs)
-    (λ c. search needs)
-    slice-aggregate-ask
-    (λ c. search needs)
-    slice-aggregate-ask-2
-    (λ c. search needs)
-    slice-aggregate-ask-3
-    (λ c. search needs)
-    slice-aggregate-ask-4
-    (λ c κs. search needs)
-    (λ c. search needs)
-    (λ c. search needs)
-    (λ c. search needs)
-    (λ c. search needs)
+    (λ c. let start : tie.Start = search in sym (length-take-le _ (start .args .levels .now) (omega arith)))
+    (λ c κs. search needs) (λ c. search needs) (λ c. search needs) (λ c. search needs) (λ c. search needs)
     (λ c. search needs))

@@ -1,15 +1,11 @@
 -- `mapping::fill_points` meets its contract. Assumes nothing.
-use mathlib.Core.Path.{_≡_, sym, ap, _∙_}
-use Prim.Native.Nat.{_-_, _*_, _≤_}
-use native.Mathlib.Omega.{arith}
-use lib.ListN.{length, getD, take, length-set}
-use lib.Seq.{take-all}
+use mathlib.Core.Path.{_≡_, ap, _∙_}
+use Prim.Native.Nat.{_-_, _≤_}
+use lib.{ListN.length, ListN.getD, ListN.take, ListN.length-set, Seq.take-all}
 use denote.Ref.{now}
 use borrow.Author.Needs.{needs}
 use Rattle.room.specs.Room.{front}
-use Rattle.mapping.specs.declared.Shown.{Shown}
-use Rattle.mapping.specs.Places.{locatedOf, shownOf}
-use Rattle.mapping.specs.Many.{numbersOf, placesOf}
+use Rattle.mapping.specs.{Places.locatedOf, Places.shownOf, Many.numbersOf, Many.placesOf}
 use Rattle.mapping.proofs.Fill.{numbers-none, places-none, numbers-turn, places-turn}
 use Rattle.mapping.proofs.fill_points.Statement.{statement}
 use Rattle.mapping.proofs.fill_points.Tie as tie
@@ -39,9 +35,6 @@ loop-holds c =
         ),
       ),
     )
-
-slice-write-places-2 : tie.Need-slice-write-places-2 Inv-loop μ-loop
-slice-write-places-2 c = simp length-set (search needs)
 
 loop-again : tie.Need-loop-again Inv-loop μ-loop
 loop-again c =
@@ -79,27 +72,8 @@ returns c =
 
 pub fill-points-spec : {M : Type 1} → statement M
 fill-points-spec =
-    tie.close
-    (tie.spec
-    Inv-loop
-    μ-loop
-    loop-holds
-    (λ c. search needs)
-    (λ c. search needs)
-    (λ c κs. search needs)
-    (λ c κs. search needs)
-    (λ c. search needs)
-    (λ c. search needs)
-    (λ c. search needs)
-    (λ c. search needs)
-    (λ c. search needs)
-    (λ c. search needs)
-    (λ c. search needs)
-    (λ c. search needs)
-    slice-write-places-2
-    (λ c. search needs)
-    (λ c. search needs)
-    loop-again
-    (λ c. search needs)
-    (λ c. search needs)
-    returns)
+    tie.close (tie.spec Inv-loop μ-loop loop-holds (λ c. search needs) (λ c. search needs) (λ c κs. search needs)
+    (λ c κs. search needs) (λ c. search needs) (λ c. search needs) (λ c. search needs) (λ c. search needs)
+    (λ c. search needs) (λ c. search needs) (λ c. search needs) (λ c. search needs)
+    (λ c. simp length-set (search needs)) (λ c. search needs) (λ c. search needs) loop-again (λ c. search needs)
+    (λ c. search needs) returns)

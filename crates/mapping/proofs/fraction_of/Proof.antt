@@ -5,10 +5,7 @@ use borrow.Author.Needs.{needs}
 use Rattle.mapping.proofs.fraction_of.Statement.{statement}
 use Rattle.mapping.proofs.fraction_of.Tie as tie
 
-returns : tie.Need-returns
-returns c = zero-whole ∙ rw (c .enum-told .given .1)
-
 pub fraction-of-spec : {M : Type 1} → statement M
 fraction-of-spec =
-    tie.close (tie.spec (λ c. search needs) (λ c. search needs) (λ c. search needs) returns (λ c. search needs)
-    (λ c. search needs))
+    tie.close (tie.spec (λ c. search needs) (λ c. search needs) (λ c. search needs)
+    (λ c. zero-whole ∙ rw (c .enum-told .given .1)) (λ c. search needs) (λ c. search needs))

@@ -1,10 +1,9 @@
 -- `mapping::map_point` meets its contract. Assumes nothing.
 use mathlib.Core.Path.{sym, ap, _∙_}
-use borrow.Author.Tests.{ne-eqb}
+use borrow.Author.{Tests.ne-eqb, Needs.needs}
 use denote.Ref.{now}
 use Rattle.network.proofs.Refusals.{contour-not-refused}
 use Rattle.mapping.specs.declared.Mapped.the-variants.{Place}
-use borrow.Author.Needs.{needs}
 use Rattle.mapping.proofs.map_point.Statement.{statement}
 use Rattle.mapping.proofs.map_point.Tie as tie
 

@@ -49,18 +49,7 @@ returns-3 c =
     short-which (now (a .levels)) (a .frame) (a .v) (now (a .edges)) (now (a .which)) (now (a .places)) (right checked)
     (c .if2 .left)
 
-returns-4 : tie.Need-returns-4
-returns-4 c = fault-two (sym (c .before .contour-refusal .ensures)) (c .if1 .left)
-
 pub map-points-spec : {M : Type 1} → statement M
 map-points-spec =
-    tie.close
-    (tie.spec
-    (λ c κs. search needs)
-    fill-points-requires
-    (λ c. search needs)
-    (λ c. search needs)
-    returns
-    returns-2
-    returns-3
-    returns-4)
+    tie.close (tie.spec (λ c κs. search needs) fill-points-requires (λ c. search needs) (λ c. search needs) returns
+    returns-2 returns-3 (λ c. fault-two (sym (c .before .contour-refusal .ensures)) (c .if1 .left)))

@@ -1,11 +1,10 @@
 -- `mapping::put_crossing` meets its contract. Assumes nothing.
-use mathlib.Core.Path.{_≡_, sym, ap, _∙_}
+use mathlib.Core.Path.{_≡_, sym, _∙_}
 use denote.Ref.{now}
 use Rattle.room.proofs.Fronts.{front-one}
 use Rattle.room.proofs.Answers.{write-both, short-first, short-second, fault-two}
 use Rattle.network.specs.Refusals.{contourRefusal}
 use Rattle.network.proofs.Refusals.{contour-not-refused}
-use Rattle.mapping.specs.Fractions.{crossingOf, whichOf, fractionShown}
 use Rattle.mapping.proofs.Rooms.{then-short}
 use borrow.Author.Needs.{needs}
 use Rattle.mapping.proofs.put_crossing.Statement.{statement}
@@ -43,22 +42,8 @@ returns-3 c =
     let a = checked .before .before .before .before .before .args in
     short-first (c .if2 .left) (then-short (now (a .levels)) (a .frame) (a .v) (right checked))
 
-returns-4 : tie.Need-returns-4
-returns-4 c = fault-two (sym (c .before .contour-refusal .ensures)) (c .if1 .left)
-
 pub put-crossing-spec : {M : Type 1} → statement M
 put-crossing-spec =
-    tie.close
-    (tie.spec
-    (λ c κs. search needs)
-    crossing-of-requires
-    (λ c κs. search needs)
-    (λ c. search needs)
-    (λ c κs. search needs)
-    (λ c. search needs)
-    (λ c. search needs)
-    (λ c. search needs)
-    returns
-    returns-2
-    returns-3
-    returns-4)
+    tie.close (tie.spec (λ c κs. search needs) crossing-of-requires (λ c κs. search needs) (λ c. search needs)
+    (λ c κs. search needs) (λ c. search needs) (λ c. search needs) (λ c. search needs) returns returns-2 returns-3
+    (λ c. fault-two (sym (c .before .contour-refusal .ensures)) (c .if1 .left)))

@@ -4,15 +4,8 @@ use borrow.Author.Needs.{needs}
 use Rattle.mapping.proofs.shown_of.Statement.{statement}
 use Rattle.mapping.proofs.shown_of.Tie as tie
 
-returns : tie.Need-returns
-returns c = rw (c .enum-told .given .1, zero-whole)
-
-returns-2 : tie.Need-returns-2
-returns-2 c = rw (c .before .l .given .1)
-
-returns-3 : tie.Need-returns-3
-returns-3 c = rw (c .before .l2 .given .1)
-
 pub shown-of-spec : {M : Type 1} → statement M
 shown-of-spec =
-    tie.close (tie.spec (λ c. search needs) (λ c. search needs) (λ c. search needs) returns returns-2 returns-3)
+    tie.close (tie.spec (λ c. search needs) (λ c. search needs) (λ c. search needs)
+    (λ c. rw (c .enum-told .given .1, zero-whole)) (λ c. rw (c .before .l .given .1))
+    (λ c. rw (c .before .l2 .given .1)))

@@ -1,5 +1,5 @@
 -- `network::contour_refusal` meets its contract. Assumes nothing.
-use mathlib.Core.Path.{_≡_, sym, ap, _∙_}
+use mathlib.Core.Path.{sym, _∙_}
 use denote.Ref.{now}
 use Rattle.network.proofs.Refusals.{checked-on, checked-off}
 use borrow.Author.Needs.{needs}

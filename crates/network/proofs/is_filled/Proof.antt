@@ -1,7 +1,6 @@
 -- `network::is_filled` meets its contract. Assumes nothing.
 use Prim.Native.Nat.{_≤_}
-use native.Mathlib.Nat.{mul-le-mul}
-use native.Mathlib.Omega.{arith}
+use native.Mathlib.{Nat.mul-le-mul, Omega.arith}
 use borrow.Author.Needs.{needs}
 use Rattle.network.proofs.is_filled.Statement.{statement}
 use Rattle.network.proofs.is_filled.Tie as tie

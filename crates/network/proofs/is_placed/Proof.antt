@@ -1,7 +1,6 @@
 -- `network::is_placed` meets its contract. Assumes nothing.
 use mathlib.Core.Path.{sym, _∙_}
-use borrow.Author.Tests.{le-leb, lt-leb}
-use borrow.Author.Needs.{needs}
+use borrow.Author.{Tests.le-leb, Tests.lt-leb, Needs.needs}
 use Rattle.network.proofs.is_placed.Statement.{statement}
 use Rattle.network.proofs.is_placed.Tie as tie
 
@@ -19,8 +18,7 @@ returns-2 c = rw (
   lt-leb _ _ (c .if2 .left),
 )
 
-returns-3 : tie.Need-returns-3
-returns-3 c = rw (sym (c .before .lies-between .ensures) ∙ c .if1 .left)
-
 pub is-placed-spec : {M : Type 1} → statement M
-is-placed-spec = tie.close (tie.spec (λ c κs. search needs) returns returns-2 returns-3)
+is-placed-spec =
+    tie.close (tie.spec (λ c κs. search needs) returns returns-2
+    (λ c. rw (sym (c .before .lies-between .ensures) ∙ c .if1 .left)))

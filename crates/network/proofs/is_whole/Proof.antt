@@ -19,10 +19,7 @@ returns-2 c = rw (
   sym (c .before .is-placed .ensures) ∙ c .if2 .left,
 )
 
-returns-3 : tie.Need-returns-3
-returns-3 c = rw (sym (c .before .is-sided .ensures) ∙ c .if1 .left)
-
 pub is-whole-spec : {M : Type 1} → statement M
 is-whole-spec =
-    tie.close
-    (tie.spec (λ c κs. search needs) (λ c κs. search needs) (λ c κs. search needs) returns returns-2 returns-3)
+    tie.close (tie.spec (λ c κs. search needs) (λ c κs. search needs) (λ c κs. search needs) returns returns-2
+    (λ c. rw (sym (c .before .is-sided .ensures) ∙ c .if1 .left)))

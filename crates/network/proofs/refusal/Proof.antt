@@ -18,9 +18,7 @@ returns-2 c = rw (
   sym (c .before .all-within .ensures) ∙ c .if2 .left,
 )
 
-returns-3 : tie.Need-returns-3
-returns-3 c = rw (sym (c .before .is-whole .ensures) ∙ c .if1 .left)
-
 pub refusal-spec : {M : Type 1} → statement M
 refusal-spec =
-    tie.close (tie.spec (λ c κs. search needs) (λ c κs. search needs) returns returns-2 returns-3)
+    tie.close (tie.spec (λ c κs. search needs) (λ c κs. search needs) returns returns-2
+    (λ c. rw (sym (c .before .is-whole .ensures) ∙ c .if1 .left)))

@@ -1,12 +1,10 @@
 -- `refusal::all_within` meets its contract. The loop's invariant: the whole list passes exactly if what is still to
--- be read does.
--- Assumes nothing.
+-- be read does. Assumes nothing.
 use mathlib.Core.Path.{_≡_, sym, _∙_}
 use Prim.Native.Nat.{_-_, _≤_}
 use native.Mathlib.Omega.{arith}
 use lib.ListN.{length, drop}
-use borrow.Author.Tests.{le-leb, lt-leb}
-use borrow.Author.Needs.{needs}
+use borrow.Author.{Tests.le-leb, Tests.lt-leb, Needs.needs}
 use Rattle.refusal.specs.Range.{allWithin}
 use Rattle.refusal.proofs.Ranges.{within-more, within-end}
 use Rattle.refusal.proofs.all_within.Statement.{statement}
@@ -41,15 +39,5 @@ returns-2 c =
 
 pub all-within-spec : {M : Type 1} → statement M
 all-within-spec =
-    tie.close
-    (tie.spec
-    Inv-loop
-    μ-loop
-    (λ c. search needs)
-    (λ c. search needs)
-    (λ c. search needs)
-    returns
-    (λ c. search needs)
-    (λ c. search needs)
-    loop-again
-    returns-2)
+    tie.close (tie.spec Inv-loop μ-loop (λ c. search needs) (λ c. search needs) (λ c. search needs) returns
+    (λ c. search needs) (λ c. search needs) loop-again returns-2)

@@ -11,8 +11,4 @@ returns c =
     (put .ensures, omega (arith, put .ensures .place, each-short (c .before .before .args .number)))
 
 pub put-sentence-spec : {M : Type 1} → statement M
-put-sentence-spec =
-    tie.close
-    (tie.spec
-    (λ c κs. search needs)
-    returns)
+put-sentence-spec = tie.close (tie.spec (λ c κs. search needs) returns)

@@ -1,10 +1,8 @@
 -- `sentence::write_sentence` meets its contract: no room for the text, none for its size, or both are written. Assumes
 -- nothing.
-use mathlib.Core.Path.{_≡_, refl, sym, ap, _∙_}
-use mathlib.Core.List.{[], _∷_}
+use mathlib.Core.{Path._≡_, Path.refl, Path.sym, Path.ap, Path._∙_, List.[], List._∷_}
 use native.Mathlib.Omega.{arith}
-use lib.ListN.{length, take}
-use lib.Seq.{length-take-le}
+use lib.{ListN.length, ListN.take, Seq.length-take-le}
 use Rattle.room.specs.Room.{front, put}
 use Rattle.sentence.specs.Sentence.{sentenceOf}
 use Rattle.room.proofs.Laws.{wrote-front, wrote-fits}
@@ -26,23 +24,6 @@ front-long : (c : tie.After-put-sentence)
 front-long c = length-take-le (c .put-sentence .result) (c .put-sentence .last .0)
     (wrote-fits (c .put-sentence .ensures .0))
 
-returns : tie.Need-returns
-returns c = short-first (omega (arith, size-is (c .before), c .if1 .taken)) refl
-
-returns-2 : tie.Need-returns-2
-returns-2 c = short-second (c .if2 .taken) refl
-
-array-share-prefix-room : tie.Need-array-share-prefix-room
-array-share-prefix-room c = wrote-fits (c .before .before .before .put-sentence .ensures .0)
-
-slice-aggregate-put-text : tie.Need-slice-aggregate-put-text
-slice-aggregate-put-text c = sym (front-long (c .before .before .before .before))
-
-put-text-requires : tie.Need-put-text-requires
-put-text-requires c κs =
-    let fits = c .before .before .before in
-    omega (arith, front-long (fits .before), fits .if1 .left)
-
 returns-3 : tie.Need-returns-3
 returns-3 c =
     let text = c .before .before in
@@ -60,16 +41,9 @@ returns-3 c =
 
 pub write-sentence-spec : {M : Type 1} → statement M
 write-sentence-spec =
-    tie.close
-    (tie.spec
-    (λ c κs. search needs)
-    returns
-    returns-2
-    array-share-prefix-room
-    slice-aggregate-put-text
-    put-text-requires
-    (λ c. search needs)
-    (λ c. search needs)
-    (λ c. search needs)
-    (λ c. search needs)
-    returns-3)
+    tie.close (tie.spec (λ c κs. search needs)
+    (λ c. short-first (omega (arith, size-is (c .before), c .if1 .taken)) refl)
+    (λ c. short-second (c .if2 .taken) refl) (λ c. wrote-fits (c .before .before .before .put-sentence .ensures .0))
+    (λ c. sym (front-long (c .before .before .before .before)))
+    (λ c κs. let fits = c .before .before .before in omega (arith, front-long (fits .before), fits .if1 .left))
+    (λ c. search needs) (λ c. search needs) (λ c. search needs) (λ c. search needs) returns-3)

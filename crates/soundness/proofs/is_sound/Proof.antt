@@ -7,10 +7,6 @@ use Rattle.book_rules.proofs.Shapes.{fitting}
 use Rattle.soundness.proofs.is_sound.Statement.{statement}
 use Rattle.soundness.proofs.is_sound.Tie as tie
 
-returns : tie.Need-returns
-unfolding sound shaped
-returns c = simp (failed (c .before .shape-fits .ensures) (c .if1 .taken))
-
 returns-2 : tie.Need-returns-2
 unfolding sound shaped
 returns-2 c =
@@ -38,11 +34,6 @@ returns-3 c =
 
 pub is-sound-spec : {M : Type 1} → statement M
 is-sound-spec =
-    tie.close
-    (tie.spec
-    (λ c κs. search needs)
-    returns
-    (λ c κs. search needs)
-    returns-2
-    rows-sound-requires
-    returns-3)
+    tie.close (tie.spec (λ c κs. search needs)
+    (λ c. unfold sound shaped in simp (failed (c .before .shape-fits .ensures) (c .if1 .taken)))
+    (λ c κs. search needs) returns-2 rows-sound-requires returns-3)

@@ -5,17 +5,8 @@ use Rattle.book_rules.specs.Columns.{follows}
 use Rattle.soundness.proofs.may_follow.Statement.{statement}
 use Rattle.soundness.proofs.may_follow.Tie as tie
 
-returns : tie.Need-returns
-unfolding follows
-returns c = simp (eq-eqb _ _ (c .if1 .taken))
-
-returns-2 : tie.Need-returns-2
-unfolding follows
-returns-2 c = simp (ne-eqb _ _ (c .before .if1 .left), le-ltb _ _ (le-of-eq (c .if2 .taken)))
-
-returns-3 : tie.Need-returns-3
-unfolding follows
-returns-3 c = simp (ne-eqb _ _ (c .before .if1 .left), lt-ltb _ _ (pos-of-ne-zero (c .if2 .left)))
-
 pub may-follow-spec : {M : Type 1} → statement M
-may-follow-spec = tie.close (tie.spec returns returns-2 returns-3)
+may-follow-spec =
+    tie.close (tie.spec (λ c. unfold follows in simp (eq-eqb _ _ (c .if1 .taken)))
+    (λ c. unfold follows in simp (ne-eqb _ _ (c .before .if1 .left), le-ltb _ _ (le-of-eq (c .if2 .taken))))
+    (λ c. unfold follows in simp (ne-eqb _ _ (c .before .if1 .left), lt-ltb _ _ (pos-of-ne-zero (c .if2 .left)))))

@@ -1,6 +1,5 @@
 -- `soundness::row_sound` meets its contract. Assumes nothing.
-use mathlib.Core.Bool.{true, false}
-use mathlib.Core.Path.{_≡_, refl, sym, _∙_}
+use mathlib.Core.{Bool.true, Bool.false, Path._≡_, Path.refl, Path.sym, Path._∙_}
 use borrow.Author.Needs.{needs}
 use Rattle.book_rules.specs.Columns.{headSound, rowSound}
 use Rattle.soundness.proofs.row_sound.Statement.{statement}
@@ -24,5 +23,4 @@ returns-2 c = let s = c .before .before .before in
 
 pub row-sound-spec : {M : Type 1} → statement M
 row-sound-spec =
-    tie.close
-    (tie.spec (λ c κs. search needs) (λ c κs. search needs) (λ c κs. search needs) returns returns-2)
+    tie.close (tie.spec (λ c κs. search needs) (λ c κs. search needs) (λ c κs. search needs) returns returns-2)

@@ -1,11 +1,9 @@
 -- `soundness::rows_sound` meets its contract. Assumes nothing.
-use mathlib.Core.Path.{_≡_, sym, _∙_}
-use mathlib.Core.Bool.{Bool, _&&_}
+use mathlib.Core.{Path._≡_, Path.sym, Path._∙_, Bool.Bool, Bool._&&_}
 use Prim.Native.Nat.{_+_, _-_, _*_, _≤_}
 use native.Mathlib.Omega.{arith}
 use lib.ListN.{length, drop}
-use borrow.Author.Tests.{not-true, not-false}
-use borrow.Author.Needs.{needs}
+use borrow.Author.{Tests.not-true, Tests.not-false, Needs.needs}
 use Rattle.book_rules.specs.Columns.{rowsSound}
 use Rattle.book_rules.proofs.Scans.{room, room-next, rows-more, rows-end}
 use Rattle.soundness.proofs.rows_sound.Statement.{statement}
@@ -37,17 +35,11 @@ space c =
     (c .loop-test .taken)
     (s .pre .1 .1)
 
-add-end : tie.Need-add-end Inv-loop μ-loop
-add-end c = omega (arith, space c)
-
 mul-row-sound-4 : tie.Need-mul-row-sound-4 Inv-loop μ-loop
 mul-row-sound-4 c =
     let start : tie.Start Inv-loop μ-loop = search in
     let turn : tie.In-loop Inv-loop μ-loop = search in
     omega (arith, space turn, start .good)
-
-part-row-sound-end : tie.Need-part-row-sound-end Inv-loop μ-loop
-part-row-sound-end c = space (c .before .before .before)
 
 -- what the rows after row i say
 abbrev rest : tie.After-row-sound Inv-loop μ-loop → Bool
@@ -76,9 +68,6 @@ next c e =
     (z .pre .1 .0)
     (sym e ∙ c .row-sound .ensures)
 
-returns : tie.Need-returns Inv-loop μ-loop
-returns c = sym (next (c .before) (not-true _ (c .if1 .taken)))
-
 loop-again : tie.Need-loop-again Inv-loop μ-loop
 loop-again c =
     let start : tie.Start Inv-loop μ-loop = search in
@@ -98,25 +87,8 @@ returns-2 c =
 
 pub rows-sound-spec : {M : Type 1} → statement M
 rows-sound-spec =
-    tie.close
-    (tie.spec
-    Inv-loop
-    μ-loop
-    (λ c. search needs)
-    add-end
-    (λ c. search needs)
-    (λ c. search needs)
-    (λ c. search needs)
-    (λ c. search needs)
-    (λ c. search needs)
-    (λ c. search needs)
-    mul-row-sound-4
-    (λ c. search needs)
-    (λ c. search needs)
-    part-row-sound-end
-    (λ c κs. search needs)
-    returns
-    (λ c. search needs)
-    (λ c. search needs)
-    loop-again
-    returns-2)
+    tie.close (tie.spec Inv-loop μ-loop (λ c. search needs) (λ c. omega (arith, space c)) (λ c. search needs)
+    (λ c. search needs) (λ c. search needs) (λ c. search needs) (λ c. search needs) (λ c. search needs)
+    mul-row-sound-4 (λ c. search needs) (λ c. search needs) (λ c. space (c .before .before .before))
+    (λ c κs. search needs) (λ c. sym (next (c .before) (not-true _ (c .if1 .taken)))) (λ c. search needs)
+    (λ c. search needs) loop-again returns-2)

@@ -5,14 +5,6 @@ use Rattle.book_rules.proofs.Scans.{product-fits}
 use Rattle.soundness.proofs.shape_fits.Statement.{statement}
 use Rattle.soundness.proofs.shape_fits.Tie as tie
 
-returns : tie.Need-returns
-unfolding shapeFits
-returns c = simp (lt-leb _ _ (c .if1 .taken))
-
-returns-2 : tie.Need-returns-2
-unfolding shapeFits
-returns-2 c = simp (le-leb _ _ (c .before .if1 .left), lt-leb _ _ (c .if2 .taken))
-
 returns-3 : tie.Need-returns-3
 unfolding shapeFits
 returns-3 c =
@@ -73,5 +65,6 @@ returns-7 c =
 
 pub shape-fits-spec : {M : Type 1} → statement M
 shape-fits-spec =
-    tie.close
-    (tie.spec returns returns-2 returns-3 returns-4 returns-5 returns-6 mul-result returns-7)
+    tie.close (tie.spec (λ c. unfold shapeFits in simp (lt-leb _ _ (c .if1 .taken)))
+    (λ c. unfold shapeFits in simp (le-leb _ _ (c .before .if1 .left), lt-leb _ _ (c .if2 .taken))) returns-3
+    returns-4 returns-5 returns-6 mul-result returns-7)

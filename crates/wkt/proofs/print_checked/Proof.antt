@@ -3,8 +3,7 @@ use Prim.Native.Nat.{ℕ, _≤_}
 use native.Mathlib.Omega.{arith}
 use denote.Ref.{now}
 use lib.ListN.{length, replicate, length-replicate}
-use Rattle.network.specs.Limits.{maxSide, maxEdges}
-use Rattle.network.specs.Edges.{edges}
+use Rattle.network.specs.{Limits.maxSide, Limits.maxEdges, Edges.edges}
 use Rattle.network.proofs.Numbers.{edges-le}
 use Rattle.wkt.proofs.Contours.{printable, edges-front, counts-front, closed-front, text-front}
 use borrow.Author.Needs.{needs}
@@ -52,18 +51,6 @@ returns c =
 
 pub print-checked-spec : {M : Type 1} → statement M
 print-checked-spec =
-    tie.close
-    (tie.spec
-    (λ c. search needs)
-    (λ c. search needs)
-    (λ c. search needs)
-    (λ c. search needs)
-    (λ c. search needs)
-    list-contours-requires
-    (λ c. search needs)
-    (λ c. search needs)
-    (λ c. search needs)
-    print-fronts-requires
-    (λ c. search needs)
-    (λ c. search needs)
-    returns)
+    tie.close (tie.spec (λ c. search needs) (λ c. search needs) (λ c. search needs) (λ c. search needs)
+    (λ c. search needs) list-contours-requires (λ c. search needs) (λ c. search needs) (λ c. search needs)
+    print-fronts-requires (λ c. search needs) (λ c. search needs) returns)

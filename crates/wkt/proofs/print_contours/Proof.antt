@@ -23,16 +23,7 @@ returns c =
     let printed = c .before .before .before .before in
     rw (right (printed .before .before .before)) (printed .print-checked .ensures)
 
-returns-2 : tie.Need-returns-2
-returns-2 c = fault-two (sym (c .before .contour-refusal .ensures)) (c .if1 .left)
-
 pub print-contours-spec : {M : Type 1} → statement M
 print-contours-spec =
-    tie.close
-    (tie.spec
-    (λ c κs. search needs)
-    print-checked-requires
-    (λ c. search needs)
-    (λ c. search needs)
-    returns
-    returns-2)
+    tie.close (tie.spec (λ c κs. search needs) print-checked-requires (λ c. search needs) (λ c. search needs)
+    returns (λ c. fault-two (sym (c .before .contour-refusal .ensures)) (c .if1 .left)))

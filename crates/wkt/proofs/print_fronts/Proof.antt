@@ -5,10 +5,6 @@ use borrow.Author.Needs.{needs}
 use Rattle.wkt.proofs.print_fronts.Statement.{statement}
 use Rattle.wkt.proofs.print_fronts.Tie as tie
 
-slice-aggregate-print-listed : tie.Need-slice-aggregate-print-listed
-slice-aggregate-print-listed c =
-    sym (length-take-le _ _ (c .before .before .before .before .before .before .before .pre .0 .0))
-
 slice-aggregate-print-listed-2 : tie.Need-slice-aggregate-print-listed-2
 slice-aggregate-print-listed-2 c =
     sym (length-take-le _ _ (c .before .before .before .before .before .before .before .before .pre .0 .1 .0))
@@ -20,12 +16,7 @@ slice-aggregate-print-listed-3 c =
 
 pub print-fronts-spec : {M : Type 1} → statement M
 print-fronts-spec =
-    tie.close
-    (tie.spec
-    slice-aggregate-print-listed
-    slice-aggregate-print-listed-2
-    slice-aggregate-print-listed-3
-    (λ c κs. search needs)
-    (λ c. search needs)
-    (λ c. search needs)
-    (λ c. search needs))
+    tie.close (tie.spec
+    (λ c. sym (length-take-le _ _ (c .before .before .before .before .before .before .before .pre .0 .0)))
+    slice-aggregate-print-listed-2 slice-aggregate-print-listed-3 (λ c κs. search needs) (λ c. search needs)
+    (λ c. search needs) (λ c. search needs))

@@ -1,16 +1,12 @@
 -- `wkt::print_listed` meets its contract. Assumes nothing.
-use mathlib.Core.Path.{_≡_, refl, ap, _∙_}
-use mathlib.Core.List.{List}
+use mathlib.Core.{Path.refl, Path.ap, Path._∙_, List.List}
 use Prim.Native.Nat.{ℕ, _≤_}
 use native.Mathlib.Omega.{arith}
 use lib.ListN.{length, set}
 use denote.Ref.{now}
-use Rattle.room.proofs.Fronts.{front-one}
-use Rattle.room.proofs.Answers.{write-both, short-first, short-second}
-use Rattle.wkt.specs.Text.{textOf}
-use Rattle.wkt.specs.InnerParts.{linesFrom}
-use Rattle.wkt.proofs.Steps.{reached-first}
-use Rattle.wkt.proofs.Printing.{text-short, printed-whole}
+use Rattle.room.proofs.{Fronts.front-one, Answers.write-both, Answers.short-first, Answers.short-second}
+use Rattle.wkt.specs.{Text.textOf, InnerParts.linesFrom}
+use Rattle.wkt.proofs.{Steps.reached-first, Printing.text-short, Printing.printed-whole}
 use borrow.Author.Needs.{needs}
 use Rattle.wkt.proofs.print_listed.Statement.{statement}
 use Rattle.wkt.proofs.print_listed.Tie as tie
@@ -65,23 +61,8 @@ returns c =
     (ap (λ (k : ℕ). set (now (a .size)) 0 k) (roomy .before .text-size .ensures)
     ∙ front-one (now (a .size)) (length (whole s)) one)
 
-returns-2 : tie.Need-returns-2
-returns-2 c = short-second (c .if2 .left) refl
-
-returns-3 : tie.Need-returns-3
-returns-3 c = short-first (omega (arith, c .before .text-size .ensures, c .if1 .left)) refl
-
 pub print-listed-spec : {M : Type 1} → statement M
 print-listed-spec =
-    tie.close
-    (tie.spec
-    (λ c κs. search needs)
-    (λ c κs. search needs)
-    print-part-requires
-    cast-size
-    (λ c. search needs)
-    (λ c. search needs)
-    (λ c. search needs)
-    returns
-    returns-2
-    returns-3)
+    tie.close (tie.spec (λ c κs. search needs) (λ c κs. search needs) print-part-requires cast-size
+    (λ c. search needs) (λ c. search needs) (λ c. search needs) returns (λ c. short-second (c .if2 .left) refl)
+    (λ c. short-first (omega (arith, c .before .text-size .ensures, c .if1 .left)) refl))

@@ -5,8 +5,7 @@ use native.Mathlib.Omega.{arith}
 use denote.Ref.{now}
 use borrow.Author.Needs.{needs}
 use Rattle.book_rules.specs.Calls.{enterRefusal, soundRefusal, changed}
-use Rattle.book_rules.proofs.Search.{place-below, stands-index}
-use Rattle.book_rules.proofs.Shapes.{sound-rises, sound-identities}
+use Rattle.book_rules.proofs.{Search.place-below, Search.stands-index, Shapes.sound-rises, Shapes.sound-identities}
 use Rattle.book_rules.proofs.Accepted.{Entered, entered, fields-in, keeps, meets}
 use Rattle.book.proofs.core.enter.Statement.{statement}
 use Rattle.book.proofs.core.enter.Tie as tie
@@ -26,16 +25,6 @@ facts : (c : tie.Else1)
     (start c .args .time) (start c .args .mass)
 facts c = entered _ _ _ _ _ _ (ok c)
 
-place-of-requires : tie.Need-place-of-requires
-place-of-requires c κs =
-    let start : tie.Start = search in
-    sound-rises _ _ (start .pre)
-
-standing-rows-requires : tie.Need-standing-rows-requires
-standing-rows-requires c κs =
-    let start : tie.Start = search in
-    (sound-rises _ _ (start .pre), sound-identities _ _ (start .pre))
-
 enter-refusal-requires : tie.Need-enter-refusal-requires
 enter-refusal-requires c κs =
     let start : tie.Start = search in
@@ -46,12 +35,7 @@ enter-refusal-requires c κs =
 
 returns : tie.Need-returns
 unfolding soundRefusal
-returns c =
-    let start : tie.Start = search in
-    keeps (start .pre) (c .before .enter-refusal .ensures) (c .if1 .taken)
-
-group-of-requires : tie.Need-group-of-requires
-group-of-requires c κs = fields-in _ _ _ _ (facts c .fields)
+returns c = let start : tie.Start = search in keeps (start .pre) (c .before .enter-refusal .ensures) (c .if1 .taken)
 
 row-in-requires : tie.Need-row-in-requires
 row-in-requires c κs =
@@ -77,17 +61,7 @@ returns-2 c =
 
 pub enter-spec : {M : Type 1} → statement M
 enter-spec =
-    tie.close
-    (tie.spec
-    place-of-requires
-    standing-rows-requires
-    enter-refusal-requires
-    (λ c. search needs)
-    returns
-    group-of-requires
-    row-in-requires
-    (λ c. search needs)
-    (λ c. search needs)
-    (λ c. search needs)
-    (λ c. search needs)
-    returns-2)
+    tie.close (tie.spec (λ c κs. let start : tie.Start = search in sound-rises _ _ (start .pre))
+    (λ c κs. let start : tie.Start = search in (sound-rises _ _ (start .pre), sound-identities _ _ (start .pre)))
+    enter-refusal-requires (λ c. search needs) returns (λ c κs. fields-in _ _ _ _ (facts c .fields)) row-in-requires
+    (λ c. search needs) (λ c. search needs) (λ c. search needs) (λ c. search needs) returns-2)

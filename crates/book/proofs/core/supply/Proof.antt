@@ -1,7 +1,6 @@
 -- `book::core::supply` meets its contract: it is refused as `supply_refusal` says, or the row is marked and the levels
 -- are copied over its own. Assumes nothing.
 use mathlib.Core.Path.{_≡_, refl, sym, _∙_}
-use native.Mathlib.Omega.{arith}
 use denote.Ref.{now}
 use borrow.Author.Needs.{needs}
 use Rattle.book_rules.specs.Columns.{Book, bookNow}
@@ -31,11 +30,6 @@ row c =
     let start : tie.Start = search in
     row-of (start .pre) (supplied _ _ _ _ (ok c) .0) (c .before .before .place-of .ensures)
 
-place-of-requires : tie.Need-place-of-requires
-place-of-requires c κs =
-    let start : tie.Start = search in
-    sound-rises _ _ (start .pre)
-
 supply-refusal-requires : tie.Need-supply-refusal-requires
 supply-refusal-requires c κs =
     let start : tie.Start = search in
@@ -43,17 +37,7 @@ supply-refusal-requires c κs =
 
 returns : tie.Need-returns
 unfolding soundRefusal
-returns c =
-    let start : tie.Start = search in
-    keeps (start .pre) (c .before .supply-refusal .ensures) (c .if1 .taken)
-
-fill-at-requires : tie.Need-fill-at-requires
-fill-at-requires c κs = row (c .before) .marks<
-
-mul-copy-at : tie.Need-mul-copy-at
-mul-copy-at c =
-    let left1 : tie.Else1 = search in
-    row left1 .fits
+returns c = let start : tie.Start = search in keeps (start .pre) (c .before .supply-refusal .ensures) (c .if1 .taken)
 
 copy-at-requires : tie.Need-copy-at-requires
 copy-at-requires c κs =
@@ -71,14 +55,7 @@ returns-2 c =
 
 pub supply-spec : {M : Type 1} → statement M
 supply-spec =
-    tie.close
-    (tie.spec
-    place-of-requires
-    supply-refusal-requires
-    returns
-    fill-at-requires
-    mul-copy-at
-    copy-at-requires
-    (λ c. search needs)
-    (λ c. search needs)
-    returns-2)
+    tie.close (tie.spec (λ c κs. let start : tie.Start = search in sound-rises _ _ (start .pre))
+    supply-refusal-requires returns (λ c κs. row (c .before) .marks<)
+    (λ c. let left1 : tie.Else1 = search in row left1 .fits) copy-at-requires (λ c. search needs)
+    (λ c. search needs) returns-2)

@@ -1,14 +1,12 @@
 -- `book::core::take_back` meets its contract: it is refused as `take_back_refusal` says, or mark and levels become
 -- zero. Assumes nothing.
 use mathlib.Core.Path.{_≡_, refl, sym, _∙_}
-use native.Mathlib.Omega.{arith}
 use denote.Ref.{now}
 use borrow.Author.Needs.{needs}
 use Rattle.book_rules.specs.Columns.{Book, bookNow}
 use Rattle.book_rules.specs.Calls.{takeBackRefusal, soundRefusal, changed, rowMarked}
 use Rattle.book_rules.proofs.Shapes.{sound-fits, sound-rises}
-use Rattle.book_rules.proofs.Accepted.{taken-back, keeps, meets}
-use Rattle.book_rules.proofs.Rooms.{RowOf, row-of}
+use Rattle.book_rules.proofs.{Accepted.taken-back, Accepted.keeps, Accepted.meets, Rooms.RowOf, Rooms.row-of}
 use Rattle.book.proofs.core.take_back.Statement.{statement}
 use Rattle.book.proofs.core.take_back.Tie as tie
 
@@ -34,9 +32,6 @@ row c =
     let at-place-of : tie.After-place-of = search in
     row-of (start .pre) (taken-back _ _ _ (ok c)) (at-place-of .place-of .ensures)
 
-place-of-requires : tie.Need-place-of-requires
-place-of-requires c κs = sound-rises _ _ (c .before .before .before .before .pre)
-
 take-back-refusal-requires : tie.Need-take-back-refusal-requires
 take-back-refusal-requires c κs =
     let start : tie.Start = search in (
@@ -46,22 +41,7 @@ take-back-refusal-requires c κs =
 
 returns : tie.Need-returns
 unfolding soundRefusal
-returns c =
-    let start : tie.Start = search in
-    keeps (start .pre) (c .before .take-back-refusal .ensures) (c .if1 .taken)
-
-fill-at-requires : tie.Need-fill-at-requires
-fill-at-requires c κs = row (c .before) .marks<
-
-mul-fill-at : tie.Need-mul-fill-at
-mul-fill-at c =
-    let left1 : tie.Else1 = search in
-    row left1 .fits
-
-fill-at-requires-2 : tie.Need-fill-at-requires-2
-fill-at-requires-2 c κs =
-    let left1 : tie.Else1 = search in
-    row left1 .levels<
+returns c = let start : tie.Start = search in keeps (start .pre) (c .before .take-back-refusal .ensures) (c .if1 .taken)
 
 returns-2 : tie.Need-returns-2
 unfolding soundRefusal changed rowMarked
@@ -74,15 +54,8 @@ returns-2 c =
 
 pub take-back-spec : {M : Type 1} → statement M
 take-back-spec =
-    tie.close
-    (tie.spec
-    place-of-requires
-    take-back-refusal-requires
-    (λ c. search needs)
-    returns
-    fill-at-requires
-    mul-fill-at
-    fill-at-requires-2
-    (λ c. search needs)
-    (λ c. search needs)
+    tie.close (tie.spec (λ c κs. sound-rises _ _ (c .before .before .before .before .pre)) take-back-refusal-requires
+    (λ c. search needs) returns (λ c κs. row (c .before) .marks<)
+    (λ c. let left1 : tie.Else1 = search in row left1 .fits)
+    (λ c κs. let left1 : tie.Else1 = search in row left1 .levels<) (λ c. search needs) (λ c. search needs)
     returns-2)

@@ -4,11 +4,9 @@ use mathlib.Core.Path.{_≡_, refl, sym, _∙_}
 use native.Mathlib.Omega.{arith}
 use denote.Ref.{now}
 use borrow.Author.Needs.{needs}
-use Rattle.book_rules.specs.Columns.{Book, bookNow}
-use Rattle.book_rules.specs.Calls.{withdrawRefusal, soundRefusal, changed}
+use Rattle.book_rules.specs.{Columns.Book, Columns.bookNow, Calls.withdrawRefusal, Calls.soundRefusal, Calls.changed}
 use Rattle.book_rules.proofs.Shapes.{sound-rises, sound-identities}
-use Rattle.book_rules.proofs.Accepted.{withdrawn, keeps, meets}
-use Rattle.book_rules.proofs.Rooms.{RowOf, row-of}
+use Rattle.book_rules.proofs.{Accepted.withdrawn, Accepted.keeps, Accepted.meets, Rooms.RowOf, Rooms.row-of}
 use Rattle.book.proofs.core.withdraw.Statement.{statement}
 use Rattle.book.proofs.core.withdraw.Tie as tie
 
@@ -33,11 +31,6 @@ row c =
     let at-place-of : tie.After-place-of = search in
     row-of (start .pre) (withdrawn _ _ (ok c)) (at-place-of .place-of .ensures)
 
-place-of-requires : tie.Need-place-of-requires
-place-of-requires c κs =
-    let start : tie.Start = search in
-    sound-rises _ _ (start .pre)
-
 withdraw-refusal-requires : tie.Need-withdraw-refusal-requires
 withdraw-refusal-requires c κs =
     let start : tie.Start = search in
@@ -45,14 +38,7 @@ withdraw-refusal-requires c κs =
 
 returns : tie.Need-returns
 unfolding soundRefusal
-returns c =
-    let start : tie.Start = search in
-    keeps (start .pre) (c .before .withdraw-refusal .ensures) (c .if1 .taken)
-
-standing-rows-requires : tie.Need-standing-rows-requires
-standing-rows-requires c κs =
-    let start : tie.Start = search in
-    (sound-rises _ _ (start .pre), sound-identities _ _ (start .pre))
+returns c = let start : tie.Start = search in keeps (start .pre) (c .before .withdraw-refusal .ensures) (c .if1 .taken)
 
 row-out-requires : tie.Need-row-out-requires
 row-out-requires c κs =
@@ -73,16 +59,7 @@ returns-2 c =
 
 pub withdraw-spec : {M : Type 1} → statement M
 withdraw-spec =
-    tie.close
-    (tie.spec
-    place-of-requires
-    withdraw-refusal-requires
-    (λ c. search needs)
-    returns
-    standing-rows-requires
-    row-out-requires
-    (λ c. search needs)
-    (λ c. search needs)
-    (λ c. search needs)
-    (λ c. search needs)
-    returns-2)
+    tie.close (tie.spec (λ c κs. let start : tie.Start = search in sound-rises _ _ (start .pre))
+    withdraw-refusal-requires (λ c. search needs) returns
+    (λ c κs. let start : tie.Start = search in (sound-rises _ _ (start .pre), sound-identities _ _ (start .pre)))
+    row-out-requires (λ c. search needs) (λ c. search needs) (λ c. search needs) (λ c. search needs) returns-2)

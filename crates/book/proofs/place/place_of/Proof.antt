@@ -1,5 +1,5 @@
 -- `book::place::place_of` meets its contract: the place is never outside low to high. Assumes nothing.
-use mathlib.Core.Path.{_≡_, sym, _∙_}
+use mathlib.Core.Path.{sym, _∙_}
 use Prim.Native.Nat.{_-_, _≤_}
 use native.Mathlib.Omega.{arith}
 use lib.ListN.{length}
@@ -14,12 +14,6 @@ Inv-loop ids x low₀ high₀ low high = (low ≤ placeOf x ids) × ((placeOf x 
 
 abbrev μ-loop : tie.MeasureT-loop
 μ-loop ids x low₀ high₀ low high = high - low
-
-loop-holds : tie.Need-loop-holds Inv-loop μ-loop
-loop-holds c = (omega arith, (place-within (c .before .args .x) (c .before .args .ids .now), omega arith))
-
-mul-goes-before : tie.Need-mul-goes-before Inv-loop μ-loop
-mul-goes-before c = let g = c .before .before .before .good in omega arith
 
 loop-again : tie.Need-loop-again Inv-loop μ-loop
 loop-again c =
@@ -43,24 +37,10 @@ loop-again-2 c =
       omega arith,
     )
 
-returns : tie.Need-returns Inv-loop μ-loop
-returns c = omega arith
-
 pub place-of-spec : {M : Type 1} → statement M
 place-of-spec =
-    tie.close
-    (tie.spec
-    Inv-loop
-    μ-loop
-    loop-holds
-    (λ c. search needs)
-    (λ c. search needs)
-    mul-goes-before
-    (λ c. search needs)
-    (λ c κs. search needs)
-    (λ c. search needs)
-    loop-again
-    (λ c. search needs)
-    (λ c. search needs)
-    loop-again-2
-    returns)
+    tie.close (tie.spec Inv-loop μ-loop
+    (λ c. (omega arith, (place-within (c .before .args .x) (c .before .args .ids .now), omega arith)))
+    (λ c. search needs) (λ c. search needs) (λ c. let g = c .before .before .before .good in omega arith)
+    (λ c. search needs) (λ c κs. search needs) (λ c. search needs) loop-again (λ c. search needs)
+    (λ c. search needs) loop-again-2 (λ c. omega arith))

@@ -11,9 +11,4 @@ returns c =
     c .place-of .ensures ∙ place-last maxIdentity (c .before .before .args .ids .now) (c .before .before .pre .1)
 
 pub standing-rows-spec : {M : Type 1} → statement M
-standing-rows-spec =
-    tie.close
-    (tie.spec
-    (λ c. search needs)
-    (λ c κs. search needs)
-    returns)
+standing-rows-spec = tie.close (tie.spec (λ c. search needs) (λ c κs. search needs) returns)

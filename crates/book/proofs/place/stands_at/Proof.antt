@@ -17,10 +17,4 @@ returns-2 c =
     (c .before .pre .0 .place) (c .if1 .left))
 
 pub stands-at-spec : {M : Type 1} → statement M
-stands-at-spec =
-    tie.close
-    (tie.spec
-    (λ c. search needs)
-    (λ c. search needs)
-    returns
-    returns-2)
+stands-at-spec = tie.close (tie.spec (λ c. search needs) (λ c. search needs) returns returns-2)

@@ -1,9 +1,7 @@
 -- `book::refusals::enter_refusal` meets its contract: rules 1 and 2 refuse an entry as they refuse its movement.
 -- Assumes nothing.
-use mathlib.Core.Path.{_≡_, refl, sym, _∙_}
-use native.Mathlib.Omega.{arith}
-use borrow.Author.Tests.{lt-ltb, le-ltb}
-use borrow.Author.Needs.{needs}
+use mathlib.Core.Path.{_≡_, sym, _∙_}
+use borrow.Author.{Tests.lt-ltb, Tests.le-ltb, Needs.needs}
 use Rattle.refusal.proofs.Laws.{passed, failed}
 use Rattle.movement.specs.Rules.{movementRefusal}
 use Rattle.book_rules.specs.Columns.{stands}
@@ -70,13 +68,5 @@ returns-5 c =
 
 pub enter-refusal-spec : {M : Type 1} → statement M
 enter-refusal-spec =
-    tie.close
-    (tie.spec
-    (λ c κs. search needs)
-    returns
-    (λ c κs. search needs)
-    returns-2
-    stands-at-requires
-    returns-3
-    returns-4
-    returns-5)
+    tie.close (tie.spec (λ c κs. search needs) returns (λ c κs. search needs) returns-2 stands-at-requires
+    returns-3 returns-4 returns-5)

@@ -6,10 +6,6 @@ use Rattle.book_rules.proofs.Accepted.{identity-in}
 use Rattle.book.proofs.refusals.supply_refusal.Statement.{statement}
 use Rattle.book.proofs.refusals.supply_refusal.Tie as tie
 
-returns : tie.Need-returns
-unfolding supplyRefusal
-returns c = simp (failed (c .before .identity-fits .ensures) (c .if1 .taken))
-
 returns-2 : tie.Need-returns-2
 unfolding supplyRefusal
 returns-2 c =
@@ -46,12 +42,6 @@ returns-4 c =
 
 pub supply-refusal-spec : {M : Type 1} → statement M
 supply-refusal-spec =
-    tie.close
-    (tie.spec
-    (λ c κs. search needs)
-    returns
-    (λ c κs. search needs)
-    returns-2
-    stands-at-requires
-    returns-3
-    returns-4)
+    tie.close (tie.spec (λ c κs. search needs)
+    (λ c. unfold supplyRefusal in simp (failed (c .before .identity-fits .ensures) (c .if1 .taken)))
+    (λ c κs. search needs) returns-2 stands-at-requires returns-3 returns-4)

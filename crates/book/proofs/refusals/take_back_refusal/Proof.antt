@@ -1,13 +1,11 @@
 -- `book::refusals::take_back_refusal` meets its contract: it is refused as a withdrawal is, and then for the mark.
 -- Assumes nothing.
-use mathlib.Core.Path.{_≡_, refl, sym, ap, _∙_}
+use mathlib.Core.Path.{_≡_, refl, sym, _∙_}
 use Prim.Native.Nat.{_<_}
 use native.Mathlib.Omega.{arith}
-use lib.ListN.{length, getD}
-use borrow.Author.Tests.{eq-eqb, ne-eqb}
-use borrow.Author.Needs.{needs}
-use Rattle.book_rules.specs.Columns.{indexOf}
-use Rattle.book_rules.specs.Calls.{withdrawRefusal}
+use lib.ListN.{length}
+use borrow.Author.{Tests.eq-eqb, Tests.ne-eqb, Needs.needs}
+use Rattle.book_rules.specs.{Columns.indexOf, Calls.withdrawRefusal}
 use Rattle.book_rules.proofs.Search.{place-index, stands-index}
 use Rattle.book_rules.proofs.Accepted.{withdrawn, identity-in, take-back-mark, take-back-refused}
 use Rattle.book.proofs.refusals.take_back_refusal.Statement.{statement}
@@ -37,12 +35,6 @@ returns c =
     let said = c .before .withdraw-refusal .ensures in
     said ∙ take-back-refused _ _ _ (λ e. c .if1 .taken (said ∙ e))
 
-mul-if2 : tie.Need-mul-if2
-mul-if2 c = let r = row c in let g = c .before .before .before .before .good in omega arith
-
-shared-slice-read-if2 : tie.Need-shared-slice-read-if2
-shared-slice-read-if2 c = omega (arith, row (c .before))
-
 returns-2 : tie.Need-returns-2
 returns-2 c =
     sym (take-back-mark _ _ _ (ok (c .before .before))
@@ -55,11 +47,6 @@ returns-3 c =
 
 pub take-back-refusal-spec : {M : Type 1} → statement M
 take-back-refusal-spec =
-    tie.close
-    (tie.spec
-    (λ c κs. search needs)
-    returns
-    mul-if2
-    shared-slice-read-if2
-    returns-2
-    returns-3)
+    tie.close (tie.spec (λ c κs. search needs) returns
+    (λ c. let r = row c in let g = c .before .before .before .before .good in omega arith)
+    (λ c. omega (arith, row (c .before))) returns-2 returns-3)

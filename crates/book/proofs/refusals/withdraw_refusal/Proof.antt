@@ -6,10 +6,6 @@ use Rattle.book_rules.proofs.Accepted.{identity-in}
 use Rattle.book.proofs.refusals.withdraw_refusal.Statement.{statement}
 use Rattle.book.proofs.refusals.withdraw_refusal.Tie as tie
 
-returns : tie.Need-returns
-unfolding withdrawRefusal
-returns c = simp (failed (c .before .identity-fits .ensures) (c .if1 .taken))
-
 stands-at-requires : tie.Need-stands-at-requires
 stands-at-requires c κs =
     (c .before .before .before .pre, identity-in _ (passed (c .before .identity-fits .ensures) (c .if1 .left)) .0)
@@ -32,10 +28,6 @@ returns-3 c =
 
 pub withdraw-refusal-spec : {M : Type 1} → statement M
 withdraw-refusal-spec =
-    tie.close
-    (tie.spec
-    (λ c κs. search needs)
-    returns
-    stands-at-requires
-    returns-2
-    returns-3)
+    tie.close (tie.spec (λ c κs. search needs)
+    (λ c. unfold withdrawRefusal in simp (failed (c .before .identity-fits .ensures) (c .if1 .taken)))
+    stands-at-requires returns-2 returns-3)

@@ -1,10 +1,8 @@
 -- `book::rows::row_out` meets its contract. Assumes nothing.
 use mathlib.Core.Path.{refl}
 use borrow.Author.Needs.{needs}
-use Rattle.book_rules.specs.Calls.{rowOut}
+use Rattle.book_rules.specs.{Calls.rowOut, Columns.bookNow}
 use Rattle.book_rules.proofs.Rooms.{RoomOut, room-out}
-use Rattle.book_rules.specs.Columns.{bookNow}
-use denote.Ref.{now}
 use Rattle.book.proofs.rows.row_out.Statement.{statement}
 use Rattle.book.proofs.rows.row_out.Tie as tie
 
@@ -12,36 +10,6 @@ room : (s : tie.Start)
     → RoomOut (s .args .points) (bookNow (s .args .ids) (s .args .groups) (s .args .marks) (s .args .levels))
     (s .args .at) (s .args .rows)
 room s = room-out _ _ _ _ (s .pre .0) (s .pre .1)
-
-close-at-requires : tie.Need-close-at-requires
-close-at-requires c κs =
-    let start : tie.Start = search in
-    room start .ids
-
-close-at-requires-2 : tie.Need-close-at-requires-2
-close-at-requires-2 c κs =
-    let start : tie.Start = search in
-    room start .groups
-
-close-at-requires-3 : tie.Need-close-at-requires-3
-close-at-requires-3 c κs =
-    let start : tie.Start = search in
-    room start .marks
-
-mul-close-at : tie.Need-mul-close-at
-mul-close-at c =
-    let start : tie.Start = search in
-    room start .at-fits
-
-mul-close-at-2 : tie.Need-mul-close-at-2
-mul-close-at-2 c =
-    let start : tie.Start = search in
-    room start .count-fits
-
-close-at-requires-4 : tie.Need-close-at-requires-4
-close-at-requires-4 c κs =
-    let start : tie.Start = search in
-    room start .levels
 
 returns : tie.Need-returns
 unfolding rowOut
@@ -58,18 +26,11 @@ returns c =
 
 pub row-out-spec : {M : Type 1} → statement M
 row-out-spec =
-    tie.close
-    (tie.spec
-    (λ c. search needs)
-    (λ c. search needs)
-    close-at-requires
-    close-at-requires-2
-    close-at-requires-3
-    mul-close-at
-    mul-close-at-2
-    close-at-requires-4
-    (λ c. search needs)
-    (λ c. search needs)
-    (λ c. search needs)
-    (λ c. search needs)
-    returns)
+    tie.close (tie.spec (λ c. search needs) (λ c. search needs)
+    (λ c κs. let start : tie.Start = search in room start .ids)
+    (λ c κs. let start : tie.Start = search in room start .groups)
+    (λ c κs. let start : tie.Start = search in room start .marks)
+    (λ c. let start : tie.Start = search in room start .at-fits)
+    (λ c. let start : tie.Start = search in room start .count-fits)
+    (λ c κs. let start : tie.Start = search in room start .levels) (λ c. search needs) (λ c. search needs)
+    (λ c. search needs) (λ c. search needs) returns)

@@ -1,5 +1,4 @@
--- `channel::core::write` meets its contract: where the write said that all was taken, it went.
--- Assumes nothing.
+-- `channel::core::write` meets its contract: where the write said that all was taken, it went. Assumes nothing.
 use mathlib.Core.Path.{refl, ap, _∙_}
 use Prim.Native.Nat.{ℕ, _+_}
 use lib.ListN.{length, length-append}

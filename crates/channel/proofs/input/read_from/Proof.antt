@@ -1,22 +1,14 @@
--- `channel::input::read_from` meets its contract: the one place that says what a read gave.
--- Assumes nothing.
-use mathlib.Core.Path.{_≡_, refl, sym, ap, _∙_}
-use Prim.Native.Nat.{ℕ, _+_, _≤_}
+-- `channel::input::read_from` meets its contract: the one place that says what a read gave. Assumes nothing.
+use mathlib.Core.Path.{_≡_, refl, ap, _∙_}
+use Prim.Native.Nat.{_≤_}
 use native.Mathlib.Omega.{arith}
-use lib.IntN.{pos}
-use lib.Seq.{length-take-le}
-use lib.ListN.{length, take, length-append}
-use mir.Syntax.{w64}
-use mir.Val.{toZ, ofZ}
-use mir.ValLaws.{toZ-ofZ}
+use lib.{IntN.pos, Seq.length-take-le, ListN.length, ListN.take, ListN.length-append}
+use mir.{Syntax.w64, ValLaws.toZ-ofZ}
 use Rattle.channel.specs.System.{system-gave, system-ended, system-failed, system-uncounted}
 use Rattle.channel.proofs.Behind.{answered-count}
 use borrow.Author.Needs.{needs}
 use Rattle.channel.proofs.input.read_from.Statement.{statement}
 use Rattle.channel.proofs.input.read_from.Tie as tie
-
-returns : tie.Need-returns
-returns c = record { gave = (refl, λ some. absurd (omega (arith, some))) }
 
 returns-2 : tie.Need-returns-2
 returns-2 c =
@@ -81,17 +73,6 @@ returns-5 c =
 
 pub read-from-spec : {M : Type 1} → statement M
 read-from-spec =
-    tie.close
-    (tie.spec
-    returns
-    (λ c. search needs)
-    returns-2
-    (λ c κs. search needs)
-    (λ c. search needs)
-    returns-3
-    (λ c κs. search needs)
-    (λ c. search needs)
-    returns-4
-    (λ c. search needs)
-    (λ c. search needs)
-    returns-5)
+    tie.close (tie.spec (λ c. record { gave = (refl, λ some. absurd (omega (arith, some))) }) (λ c. search needs)
+    returns-2 (λ c κs. search needs) (λ c. search needs) returns-3 (λ c κs. search needs) (λ c. search needs)
+    returns-4 (λ c. search needs) (λ c. search needs) returns-5)

@@ -1,14 +1,12 @@
 -- `channel::whole::fill` meets its contract. The loop's invariant: what came stands at the front of the buffer.
 -- Assumes nothing.
-use mathlib.Core.Path.{_≡_, refl, sym, subst, _∙_}
-use mathlib.Core.List.{List, _++_}
+use mathlib.Core.{Path._≡_, Path.refl, Path._∙_, List.List}
 use Prim.Native.Nat.{ℕ, _+_, _-_, _≤_}
 use native.Mathlib.Omega.{arith}
-use lib.ListN.{length, take, drop, length-drop, length-take}
+use lib.ListN.{length, take}
 use borrow.Author.Needs.{needs}
-use borrow.Rule.Slice.PartMut.{putMid, take-put}
-use Rattle.channel.specs.System.{none-came}
-use Rattle.channel.specs.Input.{Came, Reads}
+use borrow.Rule.Slice.PartMut.{putMid}
+use Rattle.channel.specs.{System.none-came, Input.Came}
 use Rattle.channel.proofs.Behind.{read-more, read-end, read-broken, filled-up}
 use Rattle.channel.proofs.whole.fill.Statement.{statement}
 use Rattle.channel.proofs.whole.fill.Tie as tie
@@ -20,9 +18,6 @@ Inv-loop origin fd text₀ taken₀ n₀ text taken n =
 abbrev μ-loop : tie.MeasureT-loop
 μ-loop origin fd text₀ taken₀ n₀ text taken n = length text - n
 
-loop-holds : tie.Need-loop-holds Inv-loop μ-loop
-loop-holds c = (omega arith, refl, record { first = none-came _; long = refl })
-
 -- places on the way, and the buffer once the read is done
 abbrev turn : tie.After-read-from Inv-loop μ-loop → tie.At-loop Inv-loop μ-loop
 turn w = w .before .before .before .before
@@ -31,9 +26,7 @@ abbrev read : tie.After-k Inv-loop μ-loop → tie.After-read-from Inv-loop μ-l
 read c = c .before .before .before .before
 
 abbrev buffer : tie.After-read-from Inv-loop μ-loop → List ℕ
-buffer w =
-    let l = turn w .loop in
-    putMid (l .n) (length (l .text) - l .n) (l .text) (w .read-from .last .1 .1 .1 .0)
+buffer w = let l = turn w .loop in putMid (l .n) (length (l .text) - l .n) (l .text) (w .read-from .last .1 .1 .1 .0)
 
 long : (c : tie.After-k Inv-loop μ-loop) → length (buffer (read c)) ≡ length (turn (read c) .loop .text)
 long c = let back : tie.After-text Inv-loop μ-loop = search in back .text .given .1
@@ -55,9 +48,6 @@ add-n c =
     let w = read (c .before) in
     let good = turn w .before .before .good in
     record { fits = omega (arith, m .1, long (c .before), turn w .loop .inv .1) }
-
-loop-less : tie.Need-loop-less Inv-loop μ-loop
-loop-less c = let m = more (c .before) in omega (arith, m .0, m .1, long (c .before))
 
 loop-again : tie.Need-loop-again Inv-loop μ-loop
 loop-again c =
@@ -87,24 +77,7 @@ returns-3 c =
 
 pub fill-spec : {M : Type 1} → statement M
 fill-spec =
-    tie.close
-    (tie.spec
-    Inv-loop
-    μ-loop
-    loop-holds
-    (λ c. search needs)
-    (λ c. search needs)
-    (λ c. search needs)
-    (λ c κs. search needs)
-    (λ c. search needs)
-    add-n
-    loop-less
-    loop-again
-    (λ c. search needs)
-    (λ c. search needs)
-    returns
-    (λ c. search needs)
-    (λ c. search needs)
-    returns-2
-    (λ c. search needs)
-    returns-3)
+    tie.close (tie.spec Inv-loop μ-loop (λ c. (omega arith, refl, record { first = none-came _; long = refl }))
+    (λ c. search needs) (λ c. search needs) (λ c. search needs) (λ c κs. search needs) (λ c. search needs) add-n
+    (λ c. let m = more (c .before) in omega (arith, m .0, m .1, long (c .before))) loop-again (λ c. search needs)
+    (λ c. search needs) returns (λ c. search needs) (λ c. search needs) returns-2 (λ c. search needs) returns-3)

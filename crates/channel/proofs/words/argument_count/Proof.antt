@@ -4,17 +4,6 @@ use borrow.Author.Needs.{needs}
 use Rattle.channel.proofs.words.argument_count.Statement.{statement}
 use Rattle.channel.proofs.words.argument_count.Tie as tie
 
-arg-count-requires : tie.Need-arg-count-requires
-arg-count-requires c κs = search needs
-
-returns : tie.Need-returns
-returns c = system-counted _
-
-sub-result : tie.Need-sub-result
-sub-result c = search needs
-
-returns-2 : tie.Need-returns-2
-returns-2 c = system-counted _
-
 pub argument-count-spec : {M : Type 1} → statement M
-argument-count-spec = tie.close (tie.spec arg-count-requires returns sub-result returns-2)
+argument-count-spec =
+    tie.close (tie.spec (λ c κs. search needs) (λ c. system-counted _) (λ c. search needs) (λ c. system-counted _))

@@ -13,23 +13,11 @@ returns : tie.Need-returns
 returns c =
     let s : tie.Start = search in
     let m : length (midOf (s .args .at) (s .args .at + s .args .w - s .args .at) (s .args .column .now))
-    ≡ s .args .w = omega (
-      arith,
-      mid-len (s .args .at) (s .args .at + s .args .w) (s .args .column .now)
-          (s .pre),
-    ) in
+    ≡ s .args .w = omega (arith, mid-len (s .args .at) (s .args .at + s .args .w) (s .args .column .now) (s .pre)) in
     put-part (s .args .at) (s .args .w) (s .args .column .now) (c .before .before .fill .ensures
     ∙ ap (λ n. replicate n (s .args .v)) m) (length-replicate (s .args .w) (s .args .v))
 
 pub fill-at-spec : {M : Type 1} → statement M
 fill-at-spec =
-    tie.close
-    (tie.spec
-    (λ c. search needs)
-    (λ c. search needs)
-    (λ c. search needs)
-    (λ c. search needs)
-    (λ c. search needs)
-    (λ c κs. search needs)
-    (λ c. search needs)
-    returns)
+    tie.close (tie.spec (λ c. search needs) (λ c. search needs) (λ c. search needs) (λ c. search needs)
+    (λ c. search needs) (λ c κs. search needs) (λ c. search needs) returns)

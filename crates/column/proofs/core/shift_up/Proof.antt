@@ -1,9 +1,7 @@
 -- `column::core::shift_up` meets its contract. Assumes nothing.
-use mathlib.Core.Path.{_≡_, refl, ap, _∙_}
-use mathlib.Core.List.{_++_}
+use mathlib.Core.{Path._≡_, Path.refl, Path.ap, Path._∙_, List._++_}
 use Prim.Native.Nat.{_+_, _≤_}
-use native.Mathlib.Nat.{zero-add}
-use native.Mathlib.Omega.{arith}
+use native.Mathlib.{Nat.zero-add, Omega.arith}
 use lib.ListN.{length, take, length-set}
 use borrow.Author.Needs.{needs}
 use Rattle.column.proofs.Lists.{back, raised, back-more, back-start}
@@ -16,10 +14,6 @@ Inv-loop tail₀ count w left₀ tail left =
 
 abbrev μ-loop : tie.MeasureT-loop
 μ-loop tail₀ count w left₀ tail left = left
-
-loop-holds : tie.Need-loop-holds Inv-loop μ-loop
-loop-holds c =
-    (omega arith, (back-start (c .args .tail .now) (c .args .count) (c .args .w) (c .pre), refl))
 
 loop-again : tie.Need-loop-again Inv-loop μ-loop
 loop-again c =
@@ -43,18 +37,7 @@ returns c =
 
 pub shift-up-spec : {M : Type 1} → statement M
 shift-up-spec =
-    tie.close
-    (tie.spec
-    Inv-loop
-    μ-loop
-    loop-holds
-    (λ c. search needs)
-    (λ c. search needs)
-    (λ c. search needs)
-    (λ c. search needs)
-    (λ c. search needs)
-    (λ c. search needs)
-    (λ c. search needs)
-    loop-again
-    (λ c. search needs)
-    returns)
+    tie.close (tie.spec Inv-loop μ-loop
+    (λ c. (omega arith, (back-start (c .args .tail .now) (c .args .count) (c .args .w) (c .pre), refl)))
+    (λ c. search needs) (λ c. search needs) (λ c. search needs) (λ c. search needs) (λ c. search needs)
+    (λ c. search needs) (λ c. search needs) loop-again (λ c. search needs) returns)

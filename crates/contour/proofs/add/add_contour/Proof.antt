@@ -48,19 +48,6 @@ returns c =
 
 pub add-contour-spec : {M : Type 1} → statement M
 add-contour-spec =
-    tie.close
-    (tie.spec
-    (λ c κs. search needs)
-    (λ c. search needs)
-    cast-counts
-    (λ c. search needs)
-    slice-write-counts
-    (λ c κs. search needs)
-    (λ c. search needs)
-    slice-write-closed
-    (λ c. search needs)
-    (λ c. search needs)
-    (λ c. search needs)
-    (λ c. search needs)
-    (λ c. search needs)
-    returns)
+    tie.close (tie.spec (λ c κs. search needs) (λ c. search needs) cast-counts (λ c. search needs)
+    slice-write-counts (λ c κs. search needs) (λ c. search needs) slice-write-closed (λ c. search needs)
+    (λ c. search needs) (λ c. search needs) (λ c. search needs) (λ c. search needs) returns)

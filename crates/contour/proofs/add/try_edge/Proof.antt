@@ -1,12 +1,10 @@
 -- `contour::add::try_edge` meets its contract. Assumes nothing.
 use borrow.Author.Needs.{needs}
-use mathlib.Core.Path.{_≡_, sym, ap, _∙_}
-use mathlib.Core.Bool.{_||_}
+use mathlib.Core.{Path.sym, Path.ap, Path._∙_, Bool._||_}
 use denote.Ref.{now}
 use Rattle.network.proofs.Refusals.{both}
 use Rattle.contour_rules.specs.Picture.{Picture, picture}
-use Rattle.contour_rules.specs.Crossings.{aheadOf, edgeOf, entersAt}
-use Rattle.contour_rules.specs.Contours.{waits}
+use Rattle.contour_rules.specs.{Crossings.aheadOf, Crossings.edgeOf, Crossings.entersAt, Contours.waits}
 use Rattle.contour.specs.InnerDesk.{Desk, desk}
 use Rattle.contour.proofs.Listings.{try-starts, try-passes}
 use Rattle.contour.proofs.add.try_edge.Statement.{statement}
@@ -55,15 +53,5 @@ returns-2 c =
 
 pub try-edge-spec : {M : Type 1} → statement M
 try-edge-spec =
-    tie.close
-    (tie.spec
-    (λ c κs. search needs)
-    (λ c κs. search needs)
-    add-contour-requires
-    (λ c. search needs)
-    (λ c. search needs)
-    (λ c. search needs)
-    (λ c. search needs)
-    returns
-    (λ c. search needs)
-    returns-2)
+    tie.close (tie.spec (λ c κs. search needs) (λ c κs. search needs) add-contour-requires (λ c. search needs)
+    (λ c. search needs) (λ c. search needs) (λ c. search needs) returns (λ c. search needs) returns-2)

@@ -28,12 +28,5 @@ returns c =
 
 pub list-open-spec : {M : Type 1} → statement M
 list-open-spec =
-    tie.close
-    (tie.spec
-    (λ c κs. search needs)
-    sweep-sides-requires
-    (λ c. search needs)
-    (λ c. search needs)
-    (λ c. search needs)
-    (λ c. search needs)
-    returns)
+    tie.close (tie.spec (λ c κs. search needs) sweep-sides-requires (λ c. search needs) (λ c. search needs)
+    (λ c. search needs) (λ c. search needs) returns)

@@ -1,11 +1,10 @@
 -- `contour::border::sweep_ends` meets its contract. Assumes nothing.
 use borrow.Author.Needs.{needs}
-use mathlib.Core.Path.{_≡_, sym, ap, _∙_}
-use Prim.Native.Nat.{_+_, _-_, _*_, _≤_, _<_}
+use Prim.Native.Nat.{_-_}
 use native.Mathlib.Omega.{arith}
 use denote.Ref.{now}
 use Rattle.network.specs.declared.Edge.the-variants.{Vertical}
-use Rattle.network.proofs.Numbers.{edges-le, number-lt}
+use Rattle.network.proofs.Numbers.{number-lt}
 use Rattle.contour_rules.specs.Picture.{Picture, picture}
 use Rattle.contour.proofs.Borders.{along-fits, up-fits, ends-swept}
 use Rattle.contour.proofs.border.sweep_ends.Statement.{statement}
@@ -90,18 +89,5 @@ returns c =
 
 pub sweep-ends-spec : {M : Type 1} → statement M
 sweep-ends-spec =
-    tie.close
-    (tie.spec
-    (λ c. search needs)
-    mul-west
-    mul-west-2
-    add-west
-    try-edge-requires
-    sub-try-edge
-    add-try-edge
-    try-edge-requires-2
-    (λ c. search needs)
-    (λ c. search needs)
-    (λ c. search needs)
-    (λ c. search needs)
-    returns)
+    tie.close (tie.spec (λ c. search needs) mul-west mul-west-2 add-west try-edge-requires sub-try-edge add-try-edge
+    try-edge-requires-2 (λ c. search needs) (λ c. search needs) (λ c. search needs) (λ c. search needs) returns)

@@ -59,16 +59,6 @@ returns c =
 
 pub sweep-rows-spec : {M : Type 1} → statement M
 sweep-rows-spec =
-    tie.close
-    (tie.spec
-    (λ c. search needs)
-    sweep-range-requires
-    (λ c. search needs)
-    mul-sweep-range
-    mul-sweep-range-2
-    sweep-range-requires-2
-    (λ c. search needs)
-    (λ c. search needs)
-    (λ c. search needs)
-    (λ c. search needs)
-    returns)
+    tie.close (tie.spec (λ c. search needs) sweep-range-requires (λ c. search needs) mul-sweep-range
+    mul-sweep-range-2 sweep-range-requires-2 (λ c. search needs) (λ c. search needs) (λ c. search needs)
+    (λ c. search needs) returns)

@@ -1,13 +1,12 @@
 -- `contour::border::sweep_sides` meets its contract. Assumes nothing.
-use mathlib.Core.Path.{_≡_, sym}
-use Prim.Native.Nat.{_+_, _-_, _≤_, _<_}
+use mathlib.Core.{Path._≡_, Path.sym, Bool.false}
+use Prim.Native.Nat.{_-_, _<_}
 use native.Mathlib.Omega.{arith}
 use Rattle.contour_rules.specs.Picture.{picture}
 use Rattle.contour.specs.InnerDesk.{desk, Sweeps}
 use Rattle.contour.proofs.Listings.{Same, same-self, same-after, sweep-begins, sweep-joins}
 use Rattle.network.specs.Edges.{numberOf}
 use Rattle.network.specs.declared.Edge.the-variants.{Vertical}
-use mathlib.Core.Bool.{false}
 use Rattle.contour.proofs.border.sweep_sides.Statement.{statement}
 use Rattle.contour.proofs.border.sweep_sides.Tie as tie
 
@@ -28,9 +27,6 @@ loop-holds c = (
   sweep-begins _ _ _ _ (c .before .before .before .before .before .pre .1),
   (same-self _, omega (arith, c .before .before .before .before .before .pre .0 .sides .tall)),
 )
-
-add-loop : tie.Need-add-loop Inv-loop μ-loop
-add-loop c = omega (arith, c .loop .inv .1 .1)
 
 sweep-ends-requires : tie.Need-sweep-ends-requires Inv-loop μ-loop
 sweep-ends-requires c κs =
@@ -71,18 +67,6 @@ loop-again c =
       ),
     )
 
-same-length : tie.Need-same-length Inv-loop μ-loop
-same-length c = c .before .loop .inv .1 .0 .list-long
-
-same-length-2 : tie.Need-same-length-2 Inv-loop μ-loop
-same-length-2 c = c .before .loop .inv .1 .0 .edges-long
-
-same-length-3 : tie.Need-same-length-3 Inv-loop μ-loop
-same-length-3 c = c .before .loop .inv .1 .0 .counts-long
-
-same-length-4 : tie.Need-same-length-4 Inv-loop μ-loop
-same-length-4 c = c .before .loop .inv .1 .0 .closed-long
-
 returns : tie.Need-returns Inv-loop μ-loop
 returns c =
     let l = c .before .loop in
@@ -92,18 +76,7 @@ returns c =
 
 pub sweep-sides-spec : {M : Type 1} → statement M
 sweep-sides-spec =
-    tie.close
-    (tie.spec
-    Inv-loop
-    μ-loop
-    loop-holds
-    add-loop
-    sweep-ends-requires
-    add-row
-    loop-less
-    loop-again
-    same-length
-    same-length-2
-    same-length-3
-    same-length-4
-    returns)
+    tie.close (tie.spec Inv-loop μ-loop loop-holds (λ c. omega (arith, c .loop .inv .1 .1)) sweep-ends-requires
+    add-row loop-less loop-again (λ c. c .before .loop .inv .1 .0 .list-long)
+    (λ c. c .before .loop .inv .1 .0 .edges-long) (λ c. c .before .loop .inv .1 .0 .counts-long)
+    (λ c. c .before .loop .inv .1 .0 .closed-long) returns)

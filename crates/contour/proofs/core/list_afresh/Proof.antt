@@ -38,12 +38,5 @@ returns c =
 
 pub list-afresh-spec : {M : Type 1} → statement M
 list-afresh-spec =
-    tie.close
-    (tie.spec
-    (λ c κs. search needs)
-    list-all-requires
-    (λ c. search needs)
-    (λ c. search needs)
-    (λ c. search needs)
-    (λ c. search needs)
-    returns)
+    tie.close (tie.spec (λ c κs. search needs) list-all-requires (λ c. search needs) (λ c. search needs)
+    (λ c. search needs) (λ c. search needs) returns)

@@ -1,8 +1,6 @@
 -- `contour::core::list_all` meets its contract. Assumes nothing.
 use borrow.Author.Needs.{needs}
-use mathlib.Core.Path.{sym}
-use native.Mathlib.Omega.{arith}
-use native.Mathlib.Nat.{le-of-eq}
+use native.Mathlib.{Omega.arith, Nat.le-of-eq}
 use denote.Ref.{now}
 use Rattle.contour_rules.specs.Picture.{Picture, picture}
 use Rattle.contour.proofs.Borders.{all-swept}
@@ -35,13 +33,5 @@ returns c =
 
 pub list-all-spec : {M : Type 1} → statement M
 list-all-spec =
-    tie.close
-    (tie.spec
-    (λ c κs. search needs)
-    (λ c κs. search needs)
-    sweep-range-requires
-    (λ c. search needs)
-    (λ c. search needs)
-    (λ c. search needs)
-    (λ c. search needs)
-    returns)
+    tie.close (tie.spec (λ c κs. search needs) (λ c κs. search needs) sweep-range-requires (λ c. search needs)
+    (λ c. search needs) (λ c. search needs) (λ c. search needs) returns)

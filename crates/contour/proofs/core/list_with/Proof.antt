@@ -3,8 +3,7 @@ use borrow.Author.Needs.{needs}
 use mathlib.Core.Path.{sym, _∙_}
 use Prim.Native.Nat.{_≤_}
 use native.Mathlib.Omega.{arith}
-use lib.ListN.{length}
-use lib.Seq.{length-take-le}
+use lib.{ListN.length, Seq.length-take-le}
 use Rattle.network.proofs.Numbers.{edges-le}
 use Rattle.contour.proofs.core.list_with.Statement.{statement}
 use Rattle.contour.proofs.core.list_with.Tie as tie
@@ -21,12 +20,6 @@ fits c =
       s .pre .1 .0,
     )
 
-slice-relend-prefix-list-afresh : tie.Need-slice-relend-prefix-list-afresh
-slice-relend-prefix-list-afresh c = fits c
-
-slice-aggregate-list-afresh : tie.Need-slice-aggregate-list-afresh
-slice-aggregate-list-afresh c = sym (length-take-le _ _ (fits (c .before)))
-
 list-afresh-requires : tie.Need-list-afresh-requires
 list-afresh-requires c κs =
     let e = c .before .before .before .before in
@@ -35,14 +28,6 @@ list-afresh-requires c κs =
 
 pub list-with-spec : {M : Type 1} → statement M
 list-with-spec =
-    tie.close
-    (tie.spec
-    (λ c κs. search needs)
-    slice-relend-prefix-list-afresh
-    slice-aggregate-list-afresh
-    list-afresh-requires
-    (λ c. search needs)
-    (λ c. search needs)
-    (λ c. search needs)
-    (λ c. search needs)
+    tie.close (tie.spec (λ c κs. search needs) (λ c. fits c) (λ c. sym (length-take-le _ _ (fits (c .before))))
+    list-afresh-requires (λ c. search needs) (λ c. search needs) (λ c. search needs) (λ c. search needs)
     (λ c. search needs))

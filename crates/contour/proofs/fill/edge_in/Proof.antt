@@ -2,15 +2,5 @@
 use Rattle.contour.proofs.fill.edge_in.Statement.{statement}
 use Rattle.contour.proofs.fill.edge_in.Tie as tie
 
-returns : tie.Need-returns
-returns c = rw (c .if1 .taken)
-
-returns-2 : tie.Need-returns-2
-returns-2 c = rw (c .if1 .left)
-
 pub edge-in-spec : {M : Type 1} → statement M
-edge-in-spec =
-    tie.close
-    (tie.spec
-    returns
-    returns-2)
+edge-in-spec = tie.close (tie.spec (λ c. rw (c .if1 .taken)) (λ c. rw (c .if1 .left)))

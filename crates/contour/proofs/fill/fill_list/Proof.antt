@@ -4,8 +4,7 @@ use mathlib.Core.Path.{_∙_}
 use native.Mathlib.Omega.{arith}
 use denote.Ref.{now}
 use Rattle.contour_rules.specs.Picture.{picture}
-use Rattle.contour.proofs.Borders.{along-fits}
-use Rattle.contour.proofs.Rows.{first-along, first-up, fills-all}
+use Rattle.contour.proofs.{Borders.along-fits, Rows.first-along, Rows.first-up, Rows.fills-all}
 use Rattle.contour.proofs.fill.fill_list.Statement.{statement}
 use Rattle.contour.proofs.fill.fill_list.Tie as tie
 
@@ -14,9 +13,6 @@ fill-rows-requires c κs = let s = c .before .before .before in (
   s .pre .0,
   (first-along (s .args .nx) (s .args .ny), s .pre .1),
 )
-
-sub-fill-rows : tie.Need-sub-fill-rows
-sub-fill-rows c = omega (arith, c .before .before .before .before .before .before .pre .0 .sides .wide)
 
 mul-fill-rows : tie.Need-mul-fill-rows
 mul-fill-rows c =
@@ -42,11 +38,6 @@ returns c =
 
 pub fill-list-spec : {M : Type 1} → statement M
 fill-list-spec =
-    tie.close
-    (tie.spec
-    fill-rows-requires
-    sub-fill-rows
-    mul-fill-rows
-    fill-rows-requires-2
-    (λ c. search needs)
-    returns)
+    tie.close (tie.spec fill-rows-requires
+    (λ c. omega (arith, c .before .before .before .before .before .before .pre .0 .sides .wide)) mul-fill-rows
+    fill-rows-requires-2 (λ c. search needs) returns)

@@ -7,9 +7,7 @@ use denote.Ref.{now}
 use lib.ListN.{length, length-set}
 use Rattle.network.specs.Edges.{WithinEdge, edges}
 use Rattle.network.proofs.Numbers.{edges-le}
-use Rattle.contour_rules.specs.Picture.{Picture, picture}
-use Rattle.contour_rules.specs.Crossings.{crossed, crossedAt}
-use Rattle.contour_rules.specs.Contours.{bit}
+use Rattle.contour_rules.specs.{Picture.Picture, Picture.picture, Crossings.crossed, Crossings.crossedAt, Contours.bit}
 use Rattle.contour.specs.InnerFill.{edgeIn, Fills}
 use Rattle.contour.proofs.Rows.{row-within, row-crossed, fills-none, fills-more}
 use Rattle.contour.proofs.fill.fill_row.Statement.{statement}
@@ -36,12 +34,6 @@ found c =
     row-crossed (pictured s) (s .pre .0 .sides .wide) (s .args .up) (s .args .row) (c .before .loop .col) _
     (s .pre .1 .0) (omega (arith, c .loop-test .taken, c .before .before .row-width .ensures))
     (ap (λ n. n + c .before .loop .col) (s .pre .1 .1 .0))
-
-row-width-requires : tie.Need-row-width-requires Inv-loop μ-loop
-row-width-requires c κs = c .before .before .pre .0 .sides .wide
-
-loop-holds : tie.Need-loop-holds Inv-loop μ-loop
-loop-holds c = (omega arith, (refl, fills-none _ _ _))
 
 crossed-edge-requires : tie.Need-crossed-edge-requires Inv-loop μ-loop
 crossed-edge-requires c κs =
@@ -79,9 +71,6 @@ add-col c = omega (
   c .before .before .before .before .before .row-width .ok,
 )
 
-loop-less : tie.Need-loop-less Inv-loop μ-loop
-loop-less c = omega (arith, c .before .before .before .loop-test .taken)
-
 loop-again : tie.Need-loop-again Inv-loop μ-loop
 loop-again c =
     let s = c .before .before .before .before .before .before .before .before in
@@ -99,9 +88,6 @@ loop-again c =
       ),
     )
 
-same-length : tie.Need-same-length Inv-loop μ-loop
-same-length c = c .before .loop .inv .1 .0
-
 returns : tie.Need-returns Inv-loop μ-loop
 returns c =
     let l = c .before .loop in
@@ -110,19 +96,8 @@ returns c =
 
 pub fill-row-spec : {M : Type 1} → statement M
 fill-row-spec =
-    tie.close
-    (tie.spec
-    Inv-loop
-    μ-loop
-    row-width-requires
-    loop-holds
-    (λ c κs. search needs)
-    crossed-edge-requires
-    (λ c κs. search needs)
-    add-list
-    slice-write-list
-    add-col
-    loop-less
-    loop-again
-    same-length
+    tie.close (tie.spec Inv-loop μ-loop (λ c κs. c .before .before .pre .0 .sides .wide)
+    (λ c. (omega arith, (refl, fills-none _ _ _))) (λ c κs. search needs) crossed-edge-requires
+    (λ c κs. search needs) add-list slice-write-list add-col
+    (λ c. omega (arith, c .before .before .before .loop-test .taken)) loop-again (λ c. c .before .loop .inv .1 .0)
     returns)

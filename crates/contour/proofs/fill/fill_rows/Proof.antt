@@ -1,6 +1,6 @@
 -- `contour::fill::fill_rows` meets its contract. Assumes nothing.
-use mathlib.Core.Path.{_≡_, refl, sym, ap, _∙_, subst}
-use Prim.Native.Nat.{_+_, _-_, _≤_, _<_}
+use mathlib.Core.Path.{_≡_, refl, sym, ap, _∙_}
+use Prim.Native.Nat.{_+_, _-_, _≤_}
 use native.Mathlib.Omega.{arith}
 use lib.ListN.{length}
 use Rattle.network.specs.Edges.{numberOf}
@@ -18,15 +18,6 @@ Inv-loop levels nx ny v up first list₀ width rows row₀ n₀ list row n = (ro
 
 abbrev μ-loop : tie.MeasureT-loop
 μ-loop levels nx ny v up first list₀ width rows row₀ n₀ list row n = rows - row
-
-row-width-requires : tie.Need-row-width-requires Inv-loop μ-loop
-row-width-requires c κs = c .before .before .pre .0 .sides .wide
-
-row-count-requires : tie.Need-row-count-requires Inv-loop μ-loop
-row-count-requires c κs = c .before .before .before .pre .0 .sides .tall
-
-loop-holds : tie.Need-loop-holds Inv-loop μ-loop
-loop-holds c = (omega arith, (c .before .before .before .before .pre .1 .0, (refl, λ d h. h)))
 
 fill-row-requires : tie.Need-fill-row-requires Inv-loop μ-loop
 fill-row-requires c κs =
@@ -60,9 +51,6 @@ add-row c = omega (
   c .before .before .before .before .before .before .row-count .ok,
 )
 
-loop-less : tie.Need-loop-less Inv-loop μ-loop
-loop-less c = omega (arith, c .before .before .before .before .loop-test .taken)
-
 loop-again : tie.Need-loop-again Inv-loop μ-loop
 loop-again c =
     let at-loop-test = c .before .before .before .before in
@@ -87,9 +75,6 @@ loop-again c =
       ),
     )
 
-same-length : tie.Need-same-length Inv-loop μ-loop
-same-length c = c .before .loop .inv .1 .1 .0
-
 returns : tie.Need-returns Inv-loop μ-loop
 returns c =
     let s = c .before .before .before .before .before .before in
@@ -101,17 +86,8 @@ returns c =
 
 pub fill-rows-spec : {M : Type 1} → statement M
 fill-rows-spec =
-    tie.close
-    (tie.spec
-    Inv-loop
-    μ-loop
-    row-width-requires
-    row-count-requires
-    loop-holds
-    fill-row-requires
-    add-n
-    add-row
-    loop-less
-    loop-again
-    same-length
-    returns)
+    tie.close (tie.spec Inv-loop μ-loop (λ c κs. c .before .before .pre .0 .sides .wide)
+    (λ c κs. c .before .before .before .pre .0 .sides .tall)
+    (λ c. (omega arith, (c .before .before .before .before .pre .1 .0, (refl, λ d h. h)))) fill-row-requires add-n
+    add-row (λ c. omega (arith, c .before .before .before .before .loop-test .taken)) loop-again
+    (λ c. c .before .loop .inv .1 .1 .0) returns)

@@ -3,16 +3,5 @@ use borrow.Author.Needs.{needs}
 use Rattle.contour.proofs.fill.row_count.Statement.{statement}
 use Rattle.contour.proofs.fill.row_count.Tie as tie
 
-returns : tie.Need-returns
-returns c = rw (c .if1 .taken)
-
-returns-2 : tie.Need-returns-2
-returns-2 c = rw (c .if1 .left)
-
 pub row-count-spec : {M : Type 1} → statement M
-row-count-spec =
-    tie.close
-    (tie.spec
-    (λ c. search needs)
-    returns
-    returns-2)
+row-count-spec = tie.close (tie.spec (λ c. search needs) (λ c. rw (c .if1 .taken)) (λ c. rw (c .if1 .left)))

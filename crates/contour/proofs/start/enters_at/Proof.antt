@@ -4,8 +4,7 @@ use mathlib.Core.Path.{_≡_, sym, subst, _∙_}
 use denote.Ref.{now}
 use Rattle.network.specs.Edges.{WithinEdge}
 use Rattle.network.proofs.Numbers.{edge-within}
-use Rattle.contour_rules.specs.Picture.{picture}
-use Rattle.contour_rules.specs.Crossings.{crossedAt}
+use Rattle.contour_rules.specs.{Picture.picture, Crossings.crossedAt}
 use Rattle.contour.proofs.start.enters_at.Statement.{statement}
 use Rattle.contour.proofs.start.enters_at.Tie as tie
 
@@ -21,15 +20,6 @@ is-crossed : (c : tie.After-crossed-edge) → let a = c .before .before .before 
     c .crossed-edge .result ≡ crossedAt (picture (now (a .levels)) (a .nx) (a .ny) (a .v)) (a .n)
 is-crossed c = c .crossed-edge .ensures ∙ rw (c .before .edge-at .ensures)
 
-crossed-edge-requires : tie.Need-crossed-edge-requires
-crossed-edge-requires c κs = (c .before .before .pre .0, within c)
-
-first-in-requires : tie.Need-first-in-requires
-first-in-requires c κs = (c .before .before .before .before .pre .0, within (c .before .before))
-
-across-requires : tie.Need-across-requires
-across-requires c κs = (c .before .before .before .before .before .pre .0 .sides, within (c .before .before .before))
-
 returns : tie.Need-returns
 returns c =
     let k = c .before .before .before in
@@ -41,17 +31,9 @@ returns c =
       k .before .before .edge-at .ensures,
     )
 
-returns-2 : tie.Need-returns-2
-returns-2 c = rw (sym (is-crossed (c .before)) ∙ c .if1 .left)
-
 pub enters-at-spec : {M : Type 1} → statement M
 enters-at-spec =
-    tie.close
-    (tie.spec
-    (λ c κs. search needs)
-    crossed-edge-requires
-    first-in-requires
-    across-requires
-    (λ c κs. search needs)
-    returns
-    returns-2)
+    tie.close (tie.spec (λ c κs. search needs) (λ c κs. (c .before .before .pre .0, within c))
+    (λ c κs. (c .before .before .before .before .pre .0, within (c .before .before)))
+    (λ c κs. (c .before .before .before .before .before .pre .0 .sides, within (c .before .before .before)))
+    (λ c κs. search needs) returns (λ c. rw (sym (is-crossed (c .before)) ∙ c .if1 .left)))

@@ -18,19 +18,8 @@ inside-requires-2 c κs =
     let w = subst (WithinEdge (s .args .nx) (s .args .ny)) (c .before .e2 .given .1) (s .pre .1) in
     (s .pre .0, (omega (arith, w .0), w .1))
 
-returns : tie.Need-returns
-returns c = rw (c .before .before .e .given .1) (c .inside .ensures)
-
-returns-2 : tie.Need-returns-2
-returns-2 c = rw (c .before .before .e2 .given .1) (c .inside2 .ensures)
-
 pub first-in-spec : {M : Type 1} → statement M
 first-in-spec =
-    tie.close
-    (tie.spec
-    (λ c. search needs)
-    inside-requires
-    (λ c. search needs)
-    inside-requires-2
-    returns
-    returns-2)
+    tie.close (tie.spec (λ c. search needs) inside-requires (λ c. search needs) inside-requires-2
+    (λ c. rw (c .before .before .e .given .1) (c .inside .ensures))
+    (λ c. rw (c .before .before .e2 .given .1) (c .inside2 .ensures)))

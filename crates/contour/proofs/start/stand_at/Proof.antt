@@ -1,6 +1,6 @@
 -- `contour::start::stand_at` meets its contract. Assumes nothing.
 use borrow.Author.Needs.{needs}
-use mathlib.Core.Path.{refl, sym, subst, _∙_}
+use mathlib.Core.Path.{refl, sym, subst}
 use Rattle.network.specs.Edges.{WithinEdge}
 use Rattle.network.proofs.Numbers.{edge-within}
 use Rattle.contour.proofs.start.stand_at.Statement.{statement}
@@ -14,20 +14,8 @@ within c =
     subst (WithinEdge (s .args .nx) (s .args .ny)) (sym (c .edge-at .ensures))
     (edge-within (s .args .nx) (s .args .ny) (s .pre .0 .sides .wide) (s .args .n) (s .pre .1))
 
-first-in-requires : tie.Need-first-in-requires
-first-in-requires c κs = (c .before .before .pre .0, within c)
-
-across-requires : tie.Need-across-requires
-across-requires c κs = (c .before .before .before .pre .0 .sides, within (c .before))
-
-returns : tie.Need-returns
-returns c = (refl, simp (c .across .ensures, c .before .first-in .ensures, c .before .before .edge-at .ensures))
-
 pub stand-at-spec : {M : Type 1} → statement M
 stand-at-spec =
-    tie.close
-    (tie.spec
-    (λ c κs. search needs)
-    first-in-requires
-    across-requires
-    returns)
+    tie.close (tie.spec (λ c κs. search needs) (λ c κs. (c .before .before .pre .0, within c))
+    (λ c κs. (c .before .before .before .pre .0 .sides, within (c .before)))
+    (λ c. (refl, simp (c .across .ensures, c .before .first-in .ensures, c .before .before .edge-at .ensures))))

@@ -1,10 +1,8 @@
 -- `contour::start::starts_here` meets its contract. Assumes nothing.
 use borrow.Author.Needs.{needs}
-use mathlib.Core.Path.{_≡_, refl, sym, _∙_}
-use mathlib.Core.Bool.{Bool, true, false, _&&_, _||_, and-true, and-false}
+use mathlib.Core.{Path.sym, Path._∙_, Bool.Bool, Bool._||_, Bool.and-true, Bool.and-false}
 use denote.Ref.{now}
-use Rattle.contour_rules.specs.Picture.{picture}
-use Rattle.contour_rules.specs.Crossings.{entersAt}
+use Rattle.contour_rules.specs.{Picture.picture, Crossings.entersAt}
 use Rattle.contour.proofs.start.starts_here.Statement.{statement}
 use Rattle.contour.proofs.start.starts_here.Tie as tie
 
@@ -21,10 +19,4 @@ returns-2 c = rw (sym (c .before .still-waits .ensures) ∙ c .if1 .left)
     (sym (and-false (starts (c .before .before .before .before))))
 
 pub starts-here-spec : {M : Type 1} → statement M
-starts-here-spec =
-    tie.close
-    (tie.spec
-    (λ c κs. search needs)
-    (λ c κs. search needs)
-    returns
-    returns-2)
+starts-here-spec = tie.close (tie.spec (λ c κs. search needs) (λ c κs. search needs) returns returns-2)

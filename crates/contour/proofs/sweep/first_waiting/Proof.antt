@@ -1,11 +1,8 @@
 -- `contour::sweep::first_waiting` meets its contract. Assumes nothing.
-use borrow.Author.Needs.{needs}
-use mathlib.Core.Path.{_≡_, ap, _∙_, subst, sym}
-use mathlib.Core.Bool.{false}
-use mathlib.Core.Logic.{⊎-elim}
+use borrow.Author.{Needs.needs, Tests.ne-eqb}
+use mathlib.Core.{Path._≡_, Path.subst, Path.sym, Bool.false, Logic.⊎-elim}
 use Prim.Native.Nat.{ℕ, _-_, _≤_, _<_}
 use native.Mathlib.Omega.{arith}
-use borrow.Author.Tests.{ne-eqb}
 use Rattle.contour_rules.specs.Contours.{waits}
 use Rattle.contour_rules.proofs.Waiting.{is-or-not}
 use Rattle.contour.proofs.sweep.first_waiting.Statement.{statement}
@@ -17,9 +14,6 @@ Inv-loop list from last n₀ n =
 
 abbrev μ-loop : tie.MeasureT-loop
 μ-loop list from last n₀ n = last - n
-
-loop-holds : tie.Need-loop-holds Inv-loop μ-loop
-loop-holds c = (omega arith, (omega arith, λ m p q. absurd (omega arith)))
 
 returns : tie.Need-returns Inv-loop μ-loop
 returns c = let l = c .before .before .before .loop in
@@ -39,19 +33,8 @@ loop-again c =
       ),
     )
 
-returns-2 : tie.Need-returns-2 Inv-loop μ-loop
-returns-2 c = let l = c .before .loop in record { low = l .inv .0; high = l .inv .1 .0; none = l .inv .1 .1 }
-
 pub first-waiting-spec : {M : Type 1} → statement M
 first-waiting-spec =
-    tie.close
-    (tie.spec
-    Inv-loop
-    μ-loop
-    loop-holds
-    (λ c. search needs)
-    returns
-    (λ c. search needs)
-    (λ c. search needs)
-    loop-again
-    returns-2)
+    tie.close (tie.spec Inv-loop μ-loop (λ c. (omega arith, (omega arith, λ m p q. absurd (omega arith))))
+    (λ c. search needs) returns (λ c. search needs) (λ c. search needs) loop-again
+    (λ c. let l = c .before .loop in record { low = l .inv .0; high = l .inv .1 .0; none = l .inv .1 .1 }))

@@ -27,9 +27,6 @@ loop-holds c = (
   (same-self _, (omega arith, c .before .before .before .before .before .pre .1 .0)),
 )
 
-sub-first-waiting : tie.Need-sub-first-waiting Inv-loop μ-loop
-sub-first-waiting c = omega arith
-
 first-waiting-requires : tie.Need-first-waiting-requires Inv-loop μ-loop
 first-waiting-requires c κs =
     let s = c .before .before .before .before .before .before .before .before in (
@@ -45,12 +42,7 @@ try-edge-requires c κs =
     let s = at-loop .before .before .before .before .before .before in (
       s .pre .0,
       (
-        omega (
-          arith,
-          at-first-waiting .first-waiting .ensures .high,
-          at-loop-test .loop-test .taken,
-          s .pre .1 .1 .0,
-        ),
+        omega (arith, at-first-waiting .first-waiting .ensures .high, at-loop-test .loop-test .taken, s .pre .1 .1 .0),
         at-loop .loop .inv .0 .room,
       ),
     )
@@ -99,18 +91,6 @@ loop-again c =
       ),
     )
 
-same-length : tie.Need-same-length Inv-loop μ-loop
-same-length c = c .before .loop .inv .1 .0 .list-long
-
-same-length-2 : tie.Need-same-length-2 Inv-loop μ-loop
-same-length-2 c = c .before .loop .inv .1 .0 .edges-long
-
-same-length-3 : tie.Need-same-length-3 Inv-loop μ-loop
-same-length-3 c = c .before .loop .inv .1 .0 .counts-long
-
-same-length-4 : tie.Need-same-length-4 Inv-loop μ-loop
-same-length-4 c = c .before .loop .inv .1 .0 .closed-long
-
 returns : tie.Need-returns Inv-loop μ-loop
 returns c =
     let l = c .before .loop in
@@ -120,19 +100,6 @@ returns c =
 
 pub sweep-range-spec : {M : Type 1} → statement M
 sweep-range-spec =
-    tie.close
-    (tie.spec
-    Inv-loop
-    μ-loop
-    loop-holds
-    sub-first-waiting
-    first-waiting-requires
-    try-edge-requires
-    add-n
-    loop-less
-    loop-again
-    same-length
-    same-length-2
-    same-length-3
-    same-length-4
-    returns)
+    tie.close (tie.spec Inv-loop μ-loop loop-holds (λ c. omega arith) first-waiting-requires try-edge-requires add-n
+    loop-less loop-again (λ c. c .before .loop .inv .1 .0 .list-long) (λ c. c .before .loop .inv .1 .0 .edges-long)
+    (λ c. c .before .loop .inv .1 .0 .counts-long) (λ c. c .before .loop .inv .1 .0 .closed-long) returns)

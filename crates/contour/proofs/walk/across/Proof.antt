@@ -12,35 +12,17 @@ north-of-requires c κs =
     let w = subst (WithinEdge (s .args .nx) (s .args .ny)) (c .before .before .e .given .1) (s .pre .1) in
     omega (arith, w .0, s .pre .0 .low)
 
-returns : tie.Need-returns
-returns c = rw (c .before .before .before .e .given .1, c .before .if1 .taken) (c .north-of .ensures)
-
-returns-2 : tie.Need-returns-2
-returns-2 c = rw (c .before .before .before .e2 .given .1, c .before .if2 .taken) (c .west-of .ensures)
-
 east-of-requires : tie.Need-east-of-requires
 east-of-requires c κs =
     let s = c .before .before .before .before in
     let w = subst (WithinEdge (s .args .nx) (s .args .ny)) (c .before .before .e2 .given .1) (s .pre .1) in
     omega (arith, w .1, s .pre .0 .narrow)
 
-returns-3 : tie.Need-returns-3
-returns-3 c = rw (c .before .before .before .e .given .1, c .before .if1 .left) (c .south-of .ensures)
-
-returns-4 : tie.Need-returns-4
-returns-4 c = rw (c .before .before .before .e2 .given .1, c .before .if2 .left) (c .east-of .ensures)
-
 pub across-spec : {M : Type 1} → statement M
 across-spec =
-    tie.close
-    (tie.spec
-    (λ c. search needs)
-    north-of-requires
-    returns
-    (λ c κs. search needs)
-    (λ c. search needs)
-    (λ c κs. search needs)
-    returns-2
-    east-of-requires
-    returns-3
-    returns-4)
+    tie.close (tie.spec (λ c. search needs) north-of-requires
+    (λ c. rw (c .before .before .before .e .given .1, c .before .if1 .taken) (c .north-of .ensures))
+    (λ c κs. search needs) (λ c. search needs) (λ c κs. search needs)
+    (λ c. rw (c .before .before .before .e2 .given .1, c .before .if2 .taken) (c .west-of .ensures)) east-of-requires
+    (λ c. rw (c .before .before .before .e .given .1, c .before .if1 .left) (c .south-of .ensures))
+    (λ c. rw (c .before .before .before .e2 .given .1, c .before .if2 .left) (c .east-of .ensures)))

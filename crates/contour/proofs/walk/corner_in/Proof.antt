@@ -3,35 +3,12 @@ use borrow.Author.Needs.{needs}
 use Rattle.contour.proofs.walk.corner_in.Statement.{statement}
 use Rattle.contour.proofs.walk.corner_in.Tie as tie
 
-returns : tie.Need-returns
-returns c = rw (c .before .enum-told .given .1) (c .inside .ensures)
-
-returns-2 : tie.Need-returns-2
-returns-2 c = rw (c .before .enum-told2 .given .1) (c .inside2 .ensures)
-
-returns-3 : tie.Need-returns-3
-returns-3 c = rw (c .before .enum-told3 .given .1) (c .inside3 .ensures)
-
-returns-4 : tie.Need-returns-4
-returns-4 c = rw (c .before .enum-told4 .given .1) (c .inside4 .ensures)
-
 pub corner-in-spec : {M : Type 1} → statement M
 corner-in-spec =
-    tie.close
-    (tie.spec
-    (λ c. search needs)
-    (λ c κs. search needs)
-    (λ c. search needs)
-    (λ c. search needs)
-    (λ c κs. search needs)
-    (λ c. search needs)
-    (λ c. search needs)
-    (λ c. search needs)
-    (λ c κs. search needs)
-    (λ c. search needs)
-    (λ c. search needs)
-    (λ c κs. search needs)
-    returns
-    returns-2
-    returns-3
-    returns-4)
+    tie.close (tie.spec (λ c. search needs) (λ c κs. search needs) (λ c. search needs) (λ c. search needs)
+    (λ c κs. search needs) (λ c. search needs) (λ c. search needs) (λ c. search needs) (λ c κs. search needs)
+    (λ c. search needs) (λ c. search needs) (λ c κs. search needs)
+    (λ c. rw (c .before .enum-told .given .1) (c .inside .ensures))
+    (λ c. rw (c .before .enum-told2 .given .1) (c .inside2 .ensures))
+    (λ c. rw (c .before .enum-told3 .given .1) (c .inside3 .ensures))
+    (λ c. rw (c .before .enum-told4 .given .1) (c .inside4 .ensures)))

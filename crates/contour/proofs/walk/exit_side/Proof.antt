@@ -1,11 +1,9 @@
 -- `contour::walk::exit_side` meets its contract. Assumes nothing.
 use borrow.Author.Needs.{needs}
-use mathlib.Core.Path.{sym, _∙_}
-use mathlib.Core.Bool.{Bool}
+use mathlib.Core.{Path.sym, Path._∙_, Bool.Bool}
 use denote.Ref.{now}
 use Rattle.contour_rules.specs.declared.Side.{Side}
-use Rattle.contour_rules.specs.Picture.{picture, cutOf}
-use Rattle.contour_rules.specs.Squares.{corner}
+use Rattle.contour_rules.specs.{Picture.picture, Picture.cutOf, Squares.corner}
 use Rattle.contour.proofs.Exits.{both-in, saddle-cut, saddle-kept, left-in, none-in}
 use Rattle.contour.proofs.walk.exit_side.Statement.{statement}
 use Rattle.contour.proofs.walk.exit_side.Tie as tie
@@ -72,16 +70,6 @@ returns-5 c =
 
 pub exit-side-spec : {M : Type 1} → statement M
 exit-side-spec =
-    tie.close
-    (tie.spec
-    (λ c κs. search needs)
-    (λ c κs. search needs)
-    (λ c κs. search needs)
-    (λ c κs. search needs)
-    (λ c κs. search needs)
-    returns
-    (λ c κs. search needs)
-    returns-2
-    returns-3
-    returns-4
+    tie.close (tie.spec (λ c κs. search needs) (λ c κs. search needs) (λ c κs. search needs)
+    (λ c κs. search needs) (λ c κs. search needs) returns (λ c κs. search needs) returns-2 returns-3 returns-4
     returns-5)

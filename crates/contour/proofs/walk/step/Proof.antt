@@ -1,11 +1,10 @@
 -- `contour::walk::step` meets its contract. Assumes nothing.
 use borrow.Author.Needs.{needs}
-use mathlib.Core.Path.{_≡_, sym, ap, subst, _∙_}
+use mathlib.Core.Path.{sym, ap, subst, _∙_}
 use native.Mathlib.Omega.{arith}
 use denote.Ref.{now}
 use Rattle.network.specs.Edges.{WithinEdge, numberOf}
-use Rattle.contour_rules.specs.Picture.{Picture, picture}
-use Rattle.contour_rules.specs.Squares.{WithinSquare, sideEdge}
+use Rattle.contour_rules.specs.{Picture.Picture, Picture.picture, Squares.WithinSquare, Squares.sideEdge}
 use Rattle.contour_rules.specs.Crossings.{beyond}
 use Rattle.contour_rules.proofs.Heading.{side-within}
 use Rattle.contour.specs.InnerWalk.{WithinAhead, stepEdge, stepAhead}
@@ -20,9 +19,6 @@ within : (c : tie.After-known-told) → let s = c .before .before .before .befor
     WithinSquare (s .args .nx) (s .args .ny) (c .before .ahead .given .0 .0) (c .before .ahead .given .0 .1 .0)
 within c = let s = c .before .before .before .before in
     subst (WithinAhead (s .args .nx) (s .args .ny)) (c .before .ahead .given .1) (s .pre .1)
-
-exit-side-requires : tie.Need-exit-side-requires
-exit-side-requires c κs = (c .before .before .before .before .pre .0, within c)
 
 side-edge-requires : tie.Need-side-edge-requires
 side-edge-requires c κs =
@@ -64,14 +60,6 @@ returns-2 c =
 
 pub step-spec : {M : Type 1} → statement M
 step-spec =
-    tie.close
-    (tie.spec
-    (λ c. search needs)
-    exit-side-requires
-    side-edge-requires
-    number-of-requires
-    beyond-side-requires
-    (λ c. search needs)
-    (λ c κs. search needs)
-    returns
+    tie.close (tie.spec (λ c. search needs) (λ c κs. (c .before .before .before .before .pre .0, within c))
+    side-edge-requires number-of-requires beyond-side-requires (λ c. search needs) (λ c κs. search needs) returns
     returns-2)

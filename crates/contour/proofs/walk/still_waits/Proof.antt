@@ -6,13 +6,7 @@ use Rattle.contour_rules.proofs.Waiting.{waits-past}
 use Rattle.contour.proofs.walk.still_waits.Statement.{statement}
 use Rattle.contour.proofs.walk.still_waits.Tie as tie
 
-returns-2 : tie.Need-returns-2
-returns-2 c = sym (waits-past (now (c .before .args .list)) (c .before .args .n) (c .if1 .left))
-
 pub still-waits-spec : {M : Type 1} → statement M
 still-waits-spec =
-    tie.close
-    (tie.spec
-    (λ c. search needs)
-    (λ c. search needs)
-    returns-2)
+    tie.close (tie.spec (λ c. search needs) (λ c. search needs)
+    (λ c. sym (waits-past (now (c .before .args .list)) (c .before .args .n) (c .if1 .left))))

@@ -1,16 +1,14 @@
 -- `contour::walk::trace` meets its contract: the invariant is `Going`, and the measure the number of edges that
 -- wait. Assumes nothing.
 use borrow.Author.Needs.{needs}
-use mathlib.Core.Path.{_≡_, sym, _∙_}
-use mathlib.Core.Bool.{true}
+use mathlib.Core.{Path._≡_, Path.sym, Path._∙_, Bool.true}
 use Prim.Native.Nat.{_<_}
 use native.Mathlib.Omega.{arith}
 use denote.Ref.{now}
 use lib.ListN.{length}
 use Rattle.network.specs.Edges.{edges}
 use Rattle.network.proofs.Numbers.{edges-le}
-use Rattle.contour_rules.specs.Picture.{picture}
-use Rattle.contour_rules.specs.Contours.{waits, waiting}
+use Rattle.contour_rules.specs.{Picture.picture, Contours.waits, Contours.waiting}
 use Rattle.contour_rules.proofs.Waiting.{waits-lt, waiting-set}
 use Rattle.contour.proofs.Tracing.{Going, ahead-within, begins, fits, goes-on, ended}
 use Rattle.contour.proofs.walk.trace.Statement.{statement}
@@ -45,9 +43,6 @@ room-here : (c : tie.Then1 Inv-loop μ-loop)
     → c .before .before .before .loop .at < length (c .before .before .before .loop .edges)
 room-here c = fits _ _ _ _ _ _ _ _ _ _ (c .before .before .before .loop .inv) (waits-here c)
 
-loop-holds : tie.Need-loop-holds Inv-loop μ-loop
-loop-holds c = begins _ _ _ _ _ _ (c .before .before .before .pre .1)
-
 slice-write-list : tie.Need-slice-write-list Inv-loop μ-loop
 slice-write-list c = waits-lt (c .before .before .before .loop .list) (c .before .before .before .loop .here .edge)
     (waits-here c)
@@ -61,12 +56,6 @@ mul-edges : tie.Need-mul-edges Inv-loop μ-loop
 mul-edges c =
     let s = c .before .before .before .before .before .before .before in
     omega (arith, room-here c, c .before .before .before .loop .inv .as-long, s .good .1 .1 .1 .1 .1 .1 .0)
-
-slice-write-edges : tie.Need-slice-write-edges Inv-loop μ-loop
-slice-write-edges c = room-here c
-
-add-at : tie.Need-add-at Inv-loop μ-loop
-add-at c = omega (arith, room-here c, c .before .before .before .loop .inv .as-long)
 
 step-requires : tie.Need-step-requires Inv-loop μ-loop
 step-requires c κs =
@@ -90,12 +79,6 @@ loop-again c =
     goes-on _ _ _ _ _ _ _ _ _ _ (c .before .before .before .before .loop .inv) (s .pre .0 .sides .wide)
     (below (c .before)) (waits-here (c .before)) _ _ (c .step .ensures .0) (c .step .ensures .1)
 
-same-length : tie.Need-same-length Inv-loop μ-loop
-same-length c = c .before .before .before .loop .inv .as-many
-
-same-length-2 : tie.Need-same-length-2 Inv-loop μ-loop
-same-length-2 c = c .before .before .before .loop .inv .as-long
-
 returns : tie.Need-returns Inv-loop μ-loop
 returns c =
     let s = c .before .before .before .before .before .before .before in
@@ -104,20 +87,8 @@ returns c =
 
 pub trace-spec : {M : Type 1} → statement M
 trace-spec =
-    tie.close
-    (tie.spec
-    Inv-loop
-    μ-loop
-    loop-holds
-    (λ c κs. search needs)
-    slice-write-list
-    cast-edges
-    mul-edges
-    slice-write-edges
-    add-at
-    step-requires
-    loop-less
-    loop-again
-    same-length
-    same-length-2
-    returns)
+    tie.close (tie.spec Inv-loop μ-loop (λ c. begins _ _ _ _ _ _ (c .before .before .before .pre .1))
+    (λ c κs. search needs) slice-write-list cast-edges mul-edges (λ c. room-here c)
+    (λ c. omega (arith, room-here c, c .before .before .before .loop .inv .as-long)) step-requires loop-less
+    loop-again (λ c. c .before .before .before .loop .inv .as-many)
+    (λ c. c .before .before .before .loop .inv .as-long) returns)

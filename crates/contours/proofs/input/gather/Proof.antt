@@ -15,24 +15,6 @@ Inv-loop asked₀ count fit₀ i₀ asked fit i =
 abbrev μ-loop : tie.MeasureT-loop
 μ-loop asked₀ count fit₀ i₀ asked fit i = count - i
 
-argument-count-requires : tie.Need-argument-count-requires Inv-loop μ-loop
-argument-count-requires c κs = search needs
-
-loop-holds : tie.Need-loop-holds Inv-loop μ-loop
-loop-holds c = let s : tie.Start Inv-loop μ-loop = search in (gathering-none (s .args .asked .now), refl, omega arith)
-
-word-at-requires : tie.Need-word-at-requires Inv-loop μ-loop
-word-at-requires c κs = search needs
-
-both-requires : tie.Need-both-requires Inv-loop μ-loop
-both-requires c κs = search needs
-
-add-i : tie.Need-add-i Inv-loop μ-loop
-add-i c = search needs
-
-loop-less : tie.Need-loop-less Inv-loop μ-loop
-loop-less c = omega arith
-
 loop-again : tie.Need-loop-again Inv-loop μ-loop
 loop-again c =
     let word : tie.After-word-at Inv-loop μ-loop = search in
@@ -42,9 +24,6 @@ loop-again c =
     let l = loop .loop in
     (gathering-next (l .inv .0) w (joined .both .ensures), w .taken .long ∙ l .inv .1, omega arith)
 
-same-length : tie.Need-same-length Inv-loop μ-loop
-same-length c = let loop : tie.At-loop Inv-loop μ-loop = search in loop .loop .inv .1
-
 returns : tie.Need-returns Inv-loop μ-loop
 returns c =
     let loop : tie.At-loop Inv-loop μ-loop = search in
@@ -53,16 +32,7 @@ returns c =
 
 pub gather-spec : {M : Type 1} → statement M
 gather-spec =
-    tie.close
-    (tie.spec
-    Inv-loop
-    μ-loop
-    argument-count-requires
-    loop-holds
-    word-at-requires
-    both-requires
-    add-i
-    loop-less
-    loop-again
-    same-length
-    returns)
+    tie.close (tie.spec Inv-loop μ-loop (λ c κs. search needs)
+    (λ c. let s : tie.Start Inv-loop μ-loop = search in (gathering-none (s .args .asked .now), refl, omega arith))
+    (λ c κs. search needs) (λ c κs. search needs) (λ c. search needs) (λ c. omega arith) loop-again
+    (λ c. let loop : tie.At-loop Inv-loop μ-loop = search in loop .loop .inv .1) returns)

@@ -15,36 +15,12 @@ use Rattle.contours.proofs.print.contours.Tie as tie
 long : (nx ny : ℕ) → nx ≤ 256 → ny ≤ 256 → edges nx ny ≤ length {A = ℕ} (replicate 130560 0)
 long nx ny h k = rw (length-replicate {A = ℕ} 130560 0) (edges-le nx ny h k)
 
-cast-nx : tie.Need-cast-nx
-cast-nx c = search needs
-
-cast-ny : tie.Need-cast-ny
-cast-ny c = search needs
-
-slice-aggregate-list-contours : tie.Need-slice-aggregate-list-contours
-slice-aggregate-list-contours c = search needs
-
-slice-aggregate-list-contours-2 : tie.Need-slice-aggregate-list-contours-2
-slice-aggregate-list-contours-2 c = search needs
-
-slice-aggregate-list-contours-3 : tie.Need-slice-aggregate-list-contours-3
-slice-aggregate-list-contours-3 c = search needs
-
 list-contours-requires : tie.Need-list-contours-requires
 list-contours-requires c κs =
     let s = c .before .before .before .before .before .before .before in
     let k = s .pre .0 .checked .sized in
     let l = long (s .args .frame .columns) (s .args .frame .rows) (k .sides .narrow) (k .sides .low) in
     (k, (l, (l, l)))
-
-slice-aggregate-fronts : tie.Need-slice-aggregate-fronts
-slice-aggregate-fronts c = search needs
-
-slice-aggregate-fronts-2 : tie.Need-slice-aggregate-fronts-2
-slice-aggregate-fronts-2 c = search needs
-
-slice-aggregate-fronts-3 : tie.Need-slice-aggregate-fronts-3
-slice-aggregate-fronts-3 c = search needs
 
 fronts-requires : tie.Need-fronts-requires
 fronts-requires c κs =
@@ -77,16 +53,6 @@ returns c =
 
 pub contours-spec : {M : Type 1} → statement M
 contours-spec =
-    tie.close
-    (tie.spec
-    cast-nx
-    cast-ny
-    slice-aggregate-list-contours
-    slice-aggregate-list-contours-2
-    slice-aggregate-list-contours-3
-    list-contours-requires
-    slice-aggregate-fronts
-    slice-aggregate-fronts-2
-    slice-aggregate-fronts-3
-    fronts-requires
-    returns)
+    tie.close (tie.spec (λ c. search needs) (λ c. search needs) (λ c. search needs) (λ c. search needs)
+    (λ c. search needs) list-contours-requires (λ c. search needs) (λ c. search needs) (λ c. search needs)
+    fronts-requires returns)

@@ -9,8 +9,5 @@ refused-requires c κs =
     let s : tie.Start = search in
     (answered-failed (s .pre .0) (s .pre .1 .0) (s .pre .1 .1 .0), s .pre .1 .1 .1)
 
-returns : tie.Need-returns
-returns c = search needs
-
 pub failure-spec : {M : Type 1} → statement M
-failure-spec = tie.close (tie.spec refused-requires returns)
+failure-spec = tie.close (tie.spec refused-requires (λ c. search needs))

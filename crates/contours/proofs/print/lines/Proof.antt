@@ -3,10 +3,8 @@ use Prim.Native.Nat.{_+_, _-_, _≤_}
 use native.Mathlib.Omega.{arith}
 use denote.Ref.{now}
 use lib.ListN.{length, getD, drop}
-use borrow.Author.Needs.{needs}
-use borrow.Author.Tests.{not-true, not-false}
-use Rattle.contours_steps.specs.Sheet.{heading, levelLine, levelLines, sheetOf}
-use Rattle.contours_steps.specs.Due.{Due, Sends}
+use borrow.Author.{Needs.needs, Tests.not-true, Tests.not-false}
+use Rattle.contours_steps.specs.{Sheet.heading, Sheet.levelLine, Sheet.levelLines, Sheet.sheetOf, Due.Due, Due.Sends}
 use Rattle.contours_steps.proofs.Dues.{due-front, due-rest, sends-lost, Rest, rest-next, rest-none}
 use Rattle.contours_steps.proofs.Order.{heading-due, lines-due, lines-rest, lines-more, lines-none}
 use Rattle.contours.proofs.print.lines.Statement.{statement}
@@ -19,9 +17,6 @@ Inv-loop levels frame asked sent₀ begun i₀ sent i =
 
 abbrev μ-loop : tie.MeasureT-loop
 μ-loop levels frame asked sent₀ begun i₀ sent i = length asked - i
-
-slice-aggregate-written : tie.Need-slice-aggregate-written Inv-loop μ-loop
-slice-aggregate-written c = search needs
 
 written-requires : tie.Need-written-requires Inv-loop μ-loop
 written-requires c κs =
@@ -64,12 +59,6 @@ returns-2 c =
     let lost : tie.Then2 Inv-loop μ-loop = search in
     sends-lost _ (one .one-level .ensures .lost (not-true _ (lost .if2 .taken)))
 
-add-i : tie.Need-add-i Inv-loop μ-loop
-add-i c = search needs
-
-loop-less : tie.Need-loop-less Inv-loop μ-loop
-loop-less c = omega arith
-
 loop-again : tie.Need-loop-again Inv-loop μ-loop
 loop-again c =
     let loop : tie.At-loop Inv-loop μ-loop = search in
@@ -98,17 +87,5 @@ returns-3 c =
 
 pub lines-spec : {M : Type 1} → statement M
 lines-spec =
-    tie.close
-    (tie.spec
-    Inv-loop
-    μ-loop
-    slice-aggregate-written
-    written-requires
-    returns
-    loop-holds
-    one-level-requires
-    returns-2
-    add-i
-    loop-less
-    loop-again
-    returns-3)
+    tie.close (tie.spec Inv-loop μ-loop (λ c. search needs) written-requires returns loop-holds one-level-requires
+    returns-2 (λ c. search needs) (λ c. omega arith) loop-again returns-3)

@@ -7,8 +7,7 @@ use lib.ListN.{getD}
 use Rattle.wkt.specs.Calls.{networkText}
 use Rattle.contours_steps.specs.Sheet.{lineEnd, lineStart}
 use Rattle.contours_steps.proofs.Dues.{due-front, due-rest, sends-lost, sends-then}
-use borrow.Author.Needs.{needs}
-use borrow.Author.Tests.{not-true, not-false}
+use borrow.Author.{Needs.needs, Tests.not-true, Tests.not-false}
 use Rattle.contours.proofs.print.one_level.Statement.{statement}
 use Rattle.contours.proofs.print.one_level.Tie as tie
 
@@ -18,12 +17,6 @@ v s = getD (now (s .args .asked)) (s .args .i) 0
 
 abbrev text : tie.Start → List ℕ
 text s = networkText (now (s .args .levels)) (s .args .frame) (v s)
-
-mul-v : tie.Need-mul-v
-mul-v c = search needs
-
-shared-slice-read-v : tie.Need-shared-slice-read-v
-shared-slice-read-v c = search needs
 
 start-requires : tie.Need-start-requires
 start-requires c κs =
@@ -48,9 +41,6 @@ returns-2 : tie.Need-returns-2
 returns-2 c =
     let drawn : tie.After-contours = search in
     sends-lost _ (drawn .contours .ensures .lost (not-true _ (c .if2 .taken)))
-
-slice-aggregate-written : tie.Need-slice-aggregate-written
-slice-aggregate-written c = search needs
 
 written-requires : tie.Need-written-requires
 written-requires c κs =
@@ -80,14 +70,5 @@ returns-3 c =
 
 pub one-level-spec : {M : Type 1} → statement M
 one-level-spec =
-    tie.close
-    (tie.spec
-    mul-v
-    shared-slice-read-v
-    start-requires
-    returns
-    contours-requires
-    returns-2
-    slice-aggregate-written
-    written-requires
-    returns-3)
+    tie.close (tie.spec (λ c. search needs) (λ c. search needs) start-requires returns contours-requires returns-2
+    (λ c. search needs) written-requires returns-3)

@@ -10,17 +10,11 @@ refused-requires c κs =
     let many : tie.Then1 = search in
     (answered-many (s .pre .0) (s .pre .1 .0) (s .pre .1 .1 .0) (many .if1 .taken), s .pre .1 .1 .1)
 
-returns : tie.Need-returns
-returns c = search needs
-
 refused-requires-2 : tie.Need-refused-requires-2
 refused-requires-2 c κs =
     let s : tie.Start = search in
     let line : tie.Else1 = search in
     (answered-line (s .pre .0) (s .pre .1 .0) (s .pre .1 .1 .0) (line .if1 .left), s .pre .1 .1 .1)
 
-returns-2 : tie.Need-returns-2
-returns-2 c = search needs
-
 pub overlong-spec : {M : Type 1} → statement M
-overlong-spec = tie.close (tie.spec refused-requires returns refused-requires-2 returns-2)
+overlong-spec = tie.close (tie.spec refused-requires (λ c. search needs) refused-requires-2 (λ c. search needs))

@@ -1,20 +1,14 @@
 -- `contours::print::parts` meets its contract: what is left of the text is due where the last part ended.
 -- Assumes nothing.
-use mathlib.Core.Path.{_≡_, sym, ap}
-use mathlib.Core.Logic.{⊎-elim}
+use mathlib.Core.{Path._≡_, Path.sym, Path.ap, Logic.⊎-elim}
 use Prim.Native.Nat.{_+_, _-_, min}
 use native.Mathlib.Omega.{arith}
 use denote.Ref.{now}
-use lib.ListN.{length, take, length-append}
-use lib.Seq.{length-take-le}
-use borrow.Author.Needs.{needs}
-use borrow.Author.Tests.{not-true, not-false}
-use Rattle.wkt.specs.Text.{textOf}
-use Rattle.wkt.specs.InnerParts.{Reached, leftOf, linesFrom}
-use Rattle.wkt.proofs.Lengths.{piece-short}
-use Rattle.wkt.proofs.Steps.{left-first, left-end, reached-first}
-use Rattle.contours_steps.specs.Sheet.{sheetOf}
-use Rattle.contours_steps.specs.Due.{Due}
+use lib.{ListN.length, ListN.take, ListN.length-append, Seq.length-take-le}
+use borrow.Author.{Needs.needs, Tests.not-true, Tests.not-false}
+use Rattle.wkt.specs.{Text.textOf, InnerParts.Reached, InnerParts.leftOf, InnerParts.linesFrom}
+use Rattle.wkt.proofs.{Lengths.piece-short, Steps.left-first, Steps.left-end, Steps.reached-first}
+use Rattle.contours_steps.specs.{Sheet.sheetOf, Due.Due}
 use Rattle.contours_steps.proofs.Dues.{due-front, due-rest, sends-lost, Rest, rest-all, rest-next, rest-none}
 use Rattle.contours.proofs.print.parts.Statement.{statement}
 use Rattle.contours.proofs.print.parts.Tie as tie
@@ -29,12 +23,6 @@ Inv-loop levels frame asked v edges counts closed sent₀ room₀ at₀ sent roo
 abbrev μ-loop : tie.MeasureT-loop
 μ-loop levels frame asked v edges counts closed sent₀ room₀ at₀ sent room at =
     length (leftOf levels frame v edges counts closed at) + min 1 (length counts + 1 - at .line)
-
-buffer-requires : tie.Need-buffer-requires Inv-loop μ-loop
-buffer-requires c κs = search needs
-
-first-requires : tie.Need-first-requires Inv-loop μ-loop
-first-requires c κs = search needs
 
 loop-holds : tie.Need-loop-holds Inv-loop μ-loop
 loop-holds c =
@@ -54,16 +42,10 @@ loop-holds c =
           (linesFrom (now (a .edges)) (now (a .counts)) (now (a .closed))))),
     )
 
-slice-aggregate-print-part : tie.Need-slice-aggregate-print-part Inv-loop μ-loop
-slice-aggregate-print-part c = search needs
-
 print-part-requires : tie.Need-print-part-requires Inv-loop μ-loop
 print-part-requires c κs =
     let loop = c .before .before .before in
     (loop .before .before .before .before .before .before .before .before .pre .1 .0, loop .loop .inv .0)
-
-array-share-prefix-room : tie.Need-array-share-prefix-room Inv-loop μ-loop
-array-share-prefix-room c = let e = c .before .before .print-part .ensures in omega (arith, e .fits, e .long)
 
 slice-aggregate-written : tie.Need-slice-aggregate-written Inv-loop μ-loop
 slice-aggregate-written c =
@@ -149,19 +131,7 @@ returns-2 c =
 
 pub parts-spec : {M : Type 1} → statement M
 parts-spec =
-    tie.close
-    (tie.spec
-    Inv-loop
-    μ-loop
-    buffer-requires
-    first-requires
-    loop-holds
-    slice-aggregate-print-part
-    print-part-requires
-    array-share-prefix-room
-    slice-aggregate-written
-    written-requires
-    returns
-    loop-less
-    loop-again
-    returns-2)
+    tie.close (tie.spec Inv-loop μ-loop (λ c κs. search needs) (λ c κs. search needs) loop-holds
+    (λ c. search needs) print-part-requires
+    (λ c. let e = c .before .before .print-part .ensures in omega (arith, e .fits, e .long)) slice-aggregate-written
+    written-requires returns loop-less loop-again returns-2)

@@ -4,11 +4,8 @@ use borrow.Author.Needs.{needs}
 use Rattle.contours.proofs.print.refusal.Statement.{statement}
 use Rattle.contours.proofs.print.refusal.Tie as tie
 
-refused-requires : tie.Need-refused-requires
-refused-requires c κs = let s : tie.Start = search in (answered-refusal (s .pre .0) (s .pre .1 .0), s .pre .1 .1)
-
-returns : tie.Need-returns
-returns c = search needs
-
 pub refusal-spec : {M : Type 1} → statement M
-refusal-spec = tie.close (tie.spec refused-requires returns)
+refusal-spec =
+    tie.close (tie.spec
+    (λ c κs. let s : tie.Start = search in (answered-refusal (s .pre .0) (s .pre .1 .0), s .pre .1 .1))
+    (λ c. search needs))

@@ -1,21 +1,11 @@
 -- `contours::print::refused` meets what its write asks for: the line stands at the front of the buffer. Assumes
 -- nothing.
 use mathlib.Core.Path.{sym}
-use native.Mathlib.Omega.{arith}
 use lib.Seq.{length-take-le}
 use Rattle.room.proofs.Laws.{wrote-front, wrote-fits}
 use borrow.Author.Needs.{needs}
 use Rattle.contours.proofs.print.refused.Statement.{statement}
 use Rattle.contours.proofs.print.refused.Tie as tie
-
-slice-aggregate-put-refused : tie.Need-slice-aggregate-put-refused
-slice-aggregate-put-refused c = search needs
-
-put-refused-requires : tie.Need-put-refused-requires
-put-refused-requires c κs = search needs
-
-array-share-prefix-room : tie.Need-array-share-prefix-room
-array-share-prefix-room c = let put : tie.After-put-refused = search in wrote-fits (put .put-refused .ensures)
 
 slice-aggregate-write : tie.Need-slice-aggregate-write
 slice-aggregate-write c =
@@ -28,16 +18,8 @@ write-requires c κs =
     let put : tie.After-put-refused = search in
     (rw (wrote-front (put .put-refused .ensures)) (s .pre .0), s .pre .1)
 
-returns : tie.Need-returns
-returns c = search needs
-
 pub refused-spec : {M : Type 1} → statement M
 refused-spec =
-    tie.close
-    (tie.spec
-    slice-aggregate-put-refused
-    put-refused-requires
-    array-share-prefix-room
-    slice-aggregate-write
-    write-requires
-    returns)
+    tie.close (tie.spec (λ c. search needs) (λ c κs. search needs)
+    (λ c. let put : tie.After-put-refused = search in wrote-fits (put .put-refused .ensures)) slice-aggregate-write
+    write-requires (λ c. search needs))

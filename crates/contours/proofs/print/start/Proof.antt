@@ -7,25 +7,10 @@ use borrow.Author.Needs.{needs}
 use Rattle.contours.proofs.print.start.Statement.{statement}
 use Rattle.contours.proofs.print.start.Tie as tie
 
-slice-aggregate-put-start : tie.Need-slice-aggregate-put-start
-slice-aggregate-put-start c = search needs
-
-mul-put-start : tie.Need-mul-put-start
-mul-put-start c = search needs
-
-shared-slice-read-put-start : tie.Need-shared-slice-read-put-start
-shared-slice-read-put-start c = search needs
-
 put-start-requires : tie.Need-put-start-requires
 put-start-requires c κs =
     let s = c .before .before .before .before in
     (omega (arith, s .pre .0 .most (s .args .i) (s .pre .1 .0)), omega arith)
-
-array-share-prefix-room : tie.Need-array-share-prefix-room
-array-share-prefix-room c = wrote-fits (c .before .before .put-start .ensures)
-
-slice-aggregate-written : tie.Need-slice-aggregate-written
-slice-aggregate-written c = sym (length-take-le _ _ (wrote-fits (c .before .before .before .put-start .ensures)))
 
 written-requires : tie.Need-written-requires
 written-requires c κs =
@@ -41,13 +26,7 @@ returns c =
 
 pub start-spec : {M : Type 1} → statement M
 start-spec =
-    tie.close
-    (tie.spec
-    slice-aggregate-put-start
-    mul-put-start
-    shared-slice-read-put-start
-    put-start-requires
-    array-share-prefix-room
-    slice-aggregate-written
-    written-requires
+    tie.close (tie.spec (λ c. search needs) (λ c. search needs) (λ c. search needs) put-start-requires
+    (λ c. wrote-fits (c .before .before .put-start .ensures))
+    (λ c. sym (length-take-le _ _ (wrote-fits (c .before .before .before .put-start .ensures)))) written-requires
     returns)

@@ -1,18 +1,11 @@
 -- `contours::print::written` meets its contract: a machine's word counts the whole sheet. Assumes nothing.
 use native.Mathlib.Omega.{arith}
-use Rattle.contours_steps.proofs.Dues.{due-within, sends-one}
-use Rattle.contours_steps.proofs.Short.{sheet-short}
-use borrow.Author.Needs.{needs}
+use Rattle.contours_steps.proofs.{Dues.due-within, Dues.sends-one, Short.sheet-short}
 use Rattle.contours.proofs.print.written.Statement.{statement}
 use Rattle.contours.proofs.print.written.Tie as tie
 
-write-requires : tie.Need-write-requires
-write-requires c κs =
-    let s : tie.Start = search in
-    omega (arith, due-within (s .pre .1), sheet-short (s .pre .0))
-
-returns : tie.Need-returns
-returns c = let w : tie.After-write = search in sends-one (w .write .ensures)
-
 pub written-spec : {M : Type 1} → statement M
-written-spec = tie.close (tie.spec write-requires returns)
+written-spec =
+    tie.close (tie.spec
+    (λ c κs. let s : tie.Start = search in omega (arith, due-within (s .pre .1), sheet-short (s .pre .0)))
+    (λ c. let w : tie.After-write = search in sends-one (w .write .ensures)))

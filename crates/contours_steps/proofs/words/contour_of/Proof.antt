@@ -5,12 +5,6 @@ use borrow.Author.Needs.{needs}
 use Rattle.contours_steps.proofs.words.contour_of.Statement.{statement}
 use Rattle.contours_steps.proofs.words.contour_of.Tie as tie
 
-level-requires : tie.Need-level-requires
-level-requires c κs = search needs
-
-enum-known-v : tie.Need-enum-known-v
-enum-known-v c = search needs
-
 returns : tie.Need-returns
 returns c =
     let got = c .before .before in
@@ -43,5 +37,4 @@ returns-4 c =
 
 pub contour-of-spec : {M : Type 1} → statement M
 contour-of-spec =
-    tie.close
-    (tie.spec level-requires enum-known-v returns returns-2 enum-told returns-3 returns-4)
+    tie.close (tie.spec (λ c κs. search needs) (λ c. search needs) returns returns-2 enum-told returns-3 returns-4)

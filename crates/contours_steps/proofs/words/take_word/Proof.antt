@@ -6,24 +6,12 @@ use borrow.Author.Needs.{needs}
 use Rattle.contours_steps.proofs.words.take_word.Statement.{statement}
 use Rattle.contours_steps.proofs.words.take_word.Tie as tie
 
-contour-of-requires : tie.Need-contour-of-requires
-contour-of-requires c κs = search needs
-
 returns : tie.Need-returns
 returns c =
     let read = c .before in
     let a = read .before .before .before .args in
     word-none (a .asked .now) (a .place) (a .word .now) (read .contour-of .result) (read .contour-of .ensures)
     (c .if1 .taken)
-
-mul-asked : tie.Need-mul-asked
-mul-asked c = search needs
-
-slice-write-asked : tie.Need-slice-write-asked
-slice-write-asked c = search needs
-
-same-length : tie.Need-same-length
-same-length c = search needs
 
 returns-2 : tie.Need-returns-2
 returns-2 c =
@@ -42,12 +30,5 @@ returns-3 c =
 
 pub take-word-spec : {M : Type 1} → statement M
 take-word-spec =
-    tie.close
-    (tie.spec
-    contour-of-requires
-    returns
-    mul-asked
-    slice-write-asked
-    same-length
-    returns-2
-    returns-3)
+    tie.close (tie.spec (λ c κs. search needs) returns (λ c. search needs) (λ c. search needs) (λ c. search needs)
+    returns-2 returns-3)

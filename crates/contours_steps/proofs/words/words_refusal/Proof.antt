@@ -5,12 +5,6 @@ use Rattle.contours_steps.proofs.Gathering.{refusal-none, refusal-unfit
 use Rattle.contours_steps.proofs.words.words_refusal.Statement.{statement}
 use Rattle.contours_steps.proofs.words.words_refusal.Tie as tie
 
-returns : tie.Need-returns
-returns c = refusal-none (c .before .before .args .given) (omega arith)
-
-returns-2 : tie.Need-returns-2
-returns-2 c = refusal-unfit (c .before .before .before .args .given) (omega arith) (not-true _ (c .if2 .taken))
-
 returns-3 : tie.Need-returns-3
 returns-3 c =
     let fit = c .before .before in
@@ -22,4 +16,7 @@ returns-4 c =
     refusal-fine (fit .before .before .before .args .given) (omega arith) (not-false _ (fit .if2 .left)) (omega arith)
 
 pub words-refusal-spec : {M : Type 1} → statement M
-words-refusal-spec = tie.close (tie.spec returns returns-2 returns-3 returns-4)
+words-refusal-spec =
+    tie.close (tie.spec (λ c. refusal-none (c .before .before .args .given) (omega arith))
+    (λ c. refusal-unfit (c .before .before .before .args .given) (omega arith) (not-true _ (c .if2 .taken))) returns-3
+    returns-4)

@@ -34,11 +34,5 @@ returns c =
 
 pub group-amounts-spec : {M : Type 1} → statement M
 group-amounts-spec =
-    tie.close
-    (tie.spec
-    (λ c κs. search needs)
-    (λ c κs. search needs)
-    add-t5
-    (λ c κs. search needs)
-    (λ c κs. search needs)
-    returns)
+    tie.close (tie.spec (λ c κs. search needs) (λ c κs. search needs) add-t5 (λ c κs. search needs)
+    (λ c κs. search needs) returns)

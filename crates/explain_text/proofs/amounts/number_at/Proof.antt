@@ -4,16 +4,7 @@ use borrow.Author.Needs.{needs}
 use Rattle.explain_text.proofs.amounts.number_at.Statement.{statement}
 use Rattle.explain_text.proofs.amounts.number_at.Tie as tie
 
-returns : tie.Need-returns
-unfolding numberAt
-returns c = search needs
-
 pub number-at-spec : {M : Type 1} → statement M
 number-at-spec =
-    tie.close
-    (tie.spec
-    (λ c. search needs)
-    (λ c. search needs)
-    (λ c. search needs)
-    (λ c. search needs)
-    returns)
+    tie.close (tie.spec (λ c. search needs) (λ c. search needs) (λ c. search needs) (λ c. search needs)
+    (λ c. unfold numberAt in search needs))

@@ -15,9 +15,6 @@ Inv-loop numbers k sum₀ g₀ sum g = (g ≤ groupCount) × (sum ≡ sumAt numb
 abbrev μ-loop : tie.MeasureT-loop
 μ-loop numbers k sum₀ g₀ sum g = groupCount - g
 
-loop-holds : tie.Need-loop-holds Inv-loop μ-loop
-loop-holds c = (omega arith, sym (sum-none _ _))
-
 add-sum : tie.Need-add-sum Inv-loop μ-loop
 add-sum c =
     let s : tie.Start Inv-loop μ-loop = search in
@@ -56,14 +53,5 @@ returns c =
 
 pub sum-at-spec : {M : Type 1} → statement M
 sum-at-spec =
-    tie.close
-    (tie.spec
-    Inv-loop
-    μ-loop
-    loop-holds
-    (λ c κs. search needs)
-    add-sum
-    (λ c. search needs)
-    (λ c. search needs)
-    loop-again
-    returns)
+    tie.close (tie.spec Inv-loop μ-loop (λ c. (omega arith, sym (sum-none _ _))) (λ c κs. search needs) add-sum
+    (λ c. search needs) (λ c. search needs) loop-again returns)

@@ -4,16 +4,7 @@ use borrow.Author.Needs.{needs}
 use Rattle.explain_text.proofs.amounts.whole_at.Statement.{statement}
 use Rattle.explain_text.proofs.amounts.whole_at.Tie as tie
 
-returns : tie.Need-returns
-unfolding wholeAt
-returns c = search needs
-
 pub whole-at-spec : {M : Type 1} → statement M
 whole-at-spec =
-    tie.close
-    (tie.spec
-    (λ c. search needs)
-    (λ c. search needs)
-    (λ c. search needs)
-    (λ c. search needs)
-    returns)
+    tie.close (tie.spec (λ c. search needs) (λ c. search needs) (λ c. search needs) (λ c. search needs)
+    (λ c. unfold wholeAt in search needs))

@@ -36,10 +36,4 @@ returns c =
 
 pub put-answered-spec : {M : Type 1} → statement M
 put-answered-spec =
-    tie.close
-    (tie.spec
-    (λ c. search needs)
-    (λ c κs. search needs)
-    put-point-requires
-    (λ c. search needs)
-    returns)
+    tie.close (tie.spec (λ c. search needs) (λ c κs. search needs) put-point-requires (λ c. search needs) returns)

@@ -44,13 +44,5 @@ returns-2 c =
 
 pub put-explained-spec : {M : Type 1} → statement M
 put-explained-spec =
-    tie.close
-    (tie.spec
-    (λ c. search needs)
-    (λ c κs. search needs)
-    (λ c κs. search needs)
-    (λ c. search needs)
-    returns
-    put-points-requires
-    (λ c. search needs)
-    returns-2)
+    tie.close (tie.spec (λ c. search needs) (λ c κs. search needs) (λ c κs. search needs) (λ c. search needs)
+    returns put-points-requires (λ c. search needs) returns-2)

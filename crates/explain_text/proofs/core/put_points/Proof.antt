@@ -5,13 +5,10 @@ use Prim.Native.Nat.{_+_, _-_, _*_, _≤_, _<_}
 use native.Mathlib.Omega.{arith}
 use lib.ListN.{length}
 use Rattle.book_rules.specs.Columns.{Book, bookOf}
-use Rattle.report_text.specs.Text.{ended, bookRefusal}
-use Rattle.report_text.specs.InnerRoom.{WroteWithin}
+use Rattle.report_text.specs.{Text.ended, Text.bookRefusal, InnerRoom.WroteWithin}
 use Rattle.report_text.proofs.Writes.{within-none, within-more, within-then, within-is}
-use Rattle.explain_text.specs.Text.{linesTo}
-use Rattle.explain_text.specs.InnerRoom.{longestPoint}
-use Rattle.explain_text.proofs.Told.{point-answered}
-use Rattle.explain_text.proofs.Points.{points-none, points-more, points-all}
+use Rattle.explain_text.specs.{Text.linesTo, InnerRoom.longestPoint}
+use Rattle.explain_text.proofs.{Told.point-answered, Points.points-none, Points.points-more, Points.points-all}
 use borrow.Author.Needs.{needs}
 use Rattle.explain_text.proofs.core.put_points.Statement.{statement}
 use Rattle.explain_text.proofs.core.put_points.Tie as tie
@@ -27,9 +24,6 @@ abbrev μ-loop : tie.MeasureT-loop
 
 abbrev book : tie.Start Inv-loop μ-loop → Book
 book s = bookOf (s .args .ids .now) (s .args .groups .now) (s .args .marks .now) (s .args .levels .now)
-
-loop-holds : tie.Need-loop-holds Inv-loop μ-loop
-loop-holds c = (within-is within-none (points-none _ _), omega arith, refl)
 
 put-answered-requires : tie.Need-put-answered-requires Inv-loop μ-loop
 unfolding bookRefusal
@@ -68,14 +62,7 @@ loop-again c =
       within-more {m = longestPoint * l .loop .point + longestPoint} (omega arith)
           (within-is
           (within-then
-          (omega (
-            arith,
-            few,
-            room .0 .few,
-            room .1,
-            head .put-header .ensures .within,
-            head .put-header .kept .0,
-          ))
+          (omega (arith, few, room .0 .few, room .1, head .put-header .ensures .within, head .put-header .kept .0))
           (l .loop .inv .0) (put .put-answered .ensures))
           (points-more (s .args .limits .points) (book s) (l .loop .point))),
       omega arith,
@@ -102,16 +89,6 @@ returns c =
 
 pub put-points-spec : {M : Type 1} → statement M
 put-points-spec =
-    tie.close
-    (tie.spec
-    Inv-loop
-    μ-loop
-    (λ c. search needs)
-    (λ c κs. search needs)
-    loop-holds
-    put-answered-requires
-    (λ c. search needs)
-    (λ c. search needs)
-    loop-again
-    (λ c. search needs)
-    returns)
+    tie.close (tie.spec Inv-loop μ-loop (λ c. search needs) (λ c κs. search needs)
+    (λ c. (within-is within-none (points-none _ _), omega arith, refl)) put-answered-requires (λ c. search needs)
+    (λ c. search needs) loop-again (λ c. search needs) returns)

@@ -6,25 +6,9 @@ use borrow.Author.Tests.{lt-ltb, le-ltb}
 use Rattle.explain_text.proofs.lines.has_movement.Statement.{statement}
 use Rattle.explain_text.proofs.lines.has_movement.Tie as tie
 
-returns : tie.Need-returns
-returns c =
-    let s : tie.Start = search in
-    sym (lt-ltb 0 (s .args .a .computed + s .args .a .missing) (omega arith))
-
-returns-2 : tie.Need-returns-2
-returns-2 c =
-    let s : tie.Start = search in
-    sym (lt-ltb 0 (s .args .a .computed + s .args .a .missing) (omega arith))
-
-returns-3 : tie.Need-returns-3
-returns-3 c =
-    let s : tie.Start = search in
-    sym (le-ltb 0 (s .args .a .computed + s .args .a .missing) (omega arith))
-
 pub has-movement-spec : {M : Type 1} → statement M
 has-movement-spec =
-    tie.close
-    (tie.spec
-    returns
-    returns-2
-    returns-3)
+    tie.close (tie.spec
+    (λ c. let s : tie.Start = search in sym (lt-ltb 0 (s .args .a .computed + s .args .a .missing) (omega arith)))
+    (λ c. let s : tie.Start = search in sym (lt-ltb 0 (s .args .a .computed + s .args .a .missing) (omega arith)))
+    (λ c. let s : tie.Start = search in sym (le-ltb 0 (s .args .a .computed + s .args .a .missing) (omega arith))))

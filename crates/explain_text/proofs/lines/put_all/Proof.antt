@@ -56,12 +56,5 @@ returns c =
 
 pub put-all-spec : {M : Type 1} → statement M
 put-all-spec =
-    tie.close
-    (tie.spec
-    (λ c. search needs)
-    put-number-requires
-    (λ c. search needs)
-    put-text-requires
-    put-amounts-requires
-    (λ c. search needs)
-    returns)
+    tie.close (tie.spec (λ c. search needs) put-number-requires (λ c. search needs) put-text-requires
+    put-amounts-requires (λ c. search needs) returns)

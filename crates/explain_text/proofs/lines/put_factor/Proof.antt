@@ -1,10 +1,9 @@
 -- `explain_text::lines::put_factor` meets its contract: a comma alone, or with two numbers and a slash between them.
 -- Assumes nothing.
 use native.Mathlib.Omega.{arith}
-use borrow.Author.Tests.{eq-eqb, ne-eqb}
+use borrow.Author.{Tests.eq-eqb, Tests.ne-eqb, Needs.needs}
 use Rattle.explain_text.specs.Text.{factorText}
 use Rattle.report_text.proofs.Writes.{number-most, within, within-then}
-use borrow.Author.Needs.{needs}
 use Rattle.explain_text.proofs.lines.put_factor.Statement.{statement}
 use Rattle.explain_text.proofs.lines.put_factor.Tie as tie
 
@@ -47,13 +46,5 @@ returns-2 c =
 
 pub put-factor-spec : {M : Type 1} → statement M
 put-factor-spec =
-    tie.close
-    (tie.spec
-    (λ c κs. search needs)
-    (λ c. search needs)
-    returns
-    (λ c κs. search needs)
-    (λ c κs. search needs)
-    put-number-requires
-    (λ c. search needs)
-    returns-2)
+    tie.close (tie.spec (λ c κs. search needs) (λ c. search needs) returns (λ c κs. search needs)
+    (λ c κs. search needs) put-number-requires (λ c. search needs) returns-2)

@@ -57,11 +57,5 @@ returns c =
 
 pub put-group-spec : {M : Type 1} → statement M
 put-group-spec =
-    tie.close
-    (tie.spec
-    (λ c. search needs)
-    put-number-requires
-    put-names-requires
-    put-amounts-requires
-    (λ c. search needs)
-    returns)
+    tie.close (tie.spec (λ c. search needs) put-number-requires put-names-requires put-amounts-requires
+    (λ c. search needs) returns)

@@ -5,12 +5,9 @@ use Prim.Native.Nat.{_+_, _-_, _*_, _≤_, _<_}
 use native.Mathlib.Omega.{arith}
 use lib.ListN.{length}
 use Rattle.movement.specs.Limits.{groupCount}
-use Rattle.report_text.specs.Text.{ended}
-use Rattle.report_text.specs.InnerRoom.{WroteWithin}
+use Rattle.report_text.specs.{Text.ended, InnerRoom.WroteWithin}
 use Rattle.report_text.proofs.Writes.{within-none, within-more, within-then, within-is}
-use Rattle.explain_text.specs.Text.{groupLine, groupLines}
-use Rattle.explain_text.specs.InnerRoom.{longestLine}
-use Rattle.explain_text.specs.InnerNumbers.{groupIn}
+use Rattle.explain_text.specs.{Text.groupLine, Text.groupLines, InnerRoom.longestLine, InnerNumbers.groupIn}
 use Rattle.explain_text.proofs.Grouped.{groups-none, groups-more}
 use borrow.Author.Needs.{needs}
 use Rattle.explain_text.proofs.lines.put_groups.Statement.{statement}
@@ -23,9 +20,6 @@ Inv-loop out₀ at point numbers next₀ g₀ out next g =
 
 abbrev μ-loop : tie.MeasureT-loop
 μ-loop out₀ at point numbers next₀ g₀ out next g = groupCount - g
-
-loop-holds : tie.Need-loop-holds Inv-loop μ-loop
-loop-holds c = (within-is within-none (groups-none _ _), omega arith, refl)
 
 put-standing-requires : tie.Need-put-standing-requires Inv-loop μ-loop
 put-standing-requires c κs =
@@ -63,15 +57,6 @@ returns c =
 
 pub put-groups-spec : {M : Type 1} → statement M
 put-groups-spec =
-    tie.close
-    (tie.spec
-    Inv-loop
-    μ-loop
-    loop-holds
-    (λ c κs. search needs)
-    put-standing-requires
-    (λ c. search needs)
-    (λ c. search needs)
-    loop-again
-    (λ c. search needs)
-    returns)
+    tie.close (tie.spec Inv-loop μ-loop (λ c. (within-is within-none (groups-none _ _), omega arith, refl))
+    (λ c κs. search needs) put-standing-requires (λ c. search needs) (λ c. search needs) loop-again
+    (λ c. search needs) returns)

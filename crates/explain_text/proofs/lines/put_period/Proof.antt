@@ -1,10 +1,9 @@
 -- `explain_text::lines::put_period` meets its contract: a comma, and past it the word. Assumes nothing.
 use Prim.Native.Nat.{_%_}
 use native.Mathlib.Omega.{arith}
-use borrow.Author.Tests.{eq-eqb, ne-eqb}
+use borrow.Author.{Tests.eq-eqb, Tests.ne-eqb, Needs.needs}
 use Rattle.movement.specs.Group.{groupPeriod}
 use Rattle.report_text.proofs.Writes.{within, within-then}
-use borrow.Author.Needs.{needs}
 use Rattle.explain_text.proofs.lines.put_period.Statement.{statement}
 use Rattle.explain_text.proofs.lines.put_period.Tie as tie
 
@@ -45,18 +44,6 @@ returns-3 c =
 
 pub put-period-spec : {M : Type 1} → statement M
 put-period-spec =
-    tie.close
-    (tie.spec
-    (λ c κs. search needs)
-    (λ c. search needs)
-    (λ c κs. search needs)
-    (λ c. search needs)
-    returns
-    (λ c. search needs)
-    (λ c κs. search needs)
-    (λ c. search needs)
-    returns-2
-    (λ c. search needs)
-    (λ c κs. search needs)
-    (λ c. search needs)
-    returns-3)
+    tie.close (tie.spec (λ c κs. search needs) (λ c. search needs) (λ c κs. search needs) (λ c. search needs)
+    returns (λ c. search needs) (λ c κs. search needs) (λ c. search needs) returns-2 (λ c. search needs)
+    (λ c κs. search needs) (λ c. search needs) returns-3)

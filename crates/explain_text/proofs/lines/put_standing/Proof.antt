@@ -28,10 +28,4 @@ returns-2 c =
 
 pub put-standing-spec : {M : Type 1} → statement M
 put-standing-spec =
-    tie.close
-    (tie.spec
-    (λ c κs. search needs)
-    (λ c κs. search needs)
-    (λ c. search needs)
-    returns
-    returns-2)
+    tie.close (tie.spec (λ c κs. search needs) (λ c κs. search needs) (λ c. search needs) returns returns-2)

@@ -1,11 +1,8 @@
 -- `files::core::limits_text` meets its contract: all of limits.csv, as much as there is room for, or none.
 -- Assumes nothing.
 use mathlib.Core.Path.{_≡_, refl, sym, _∙_}
-use mathlib.Core.List.{List}
-use Prim.Native.Nat.{_≤_}
 use native.Mathlib.Omega.{arith}
-use lib.ListN.{length, take}
-use lib.Seq.{length-take-le}
+use lib.{ListN.length, Seq.length-take-le}
 use Rattle.report_rules.specs.Report.Opened.{unread}
 use Rattle.files.proofs.Opening.{opened}
 use borrow.Author.Needs.{needs}
@@ -28,11 +25,5 @@ returns-2 c =
 
 pub limits-text-spec : {M : Type 1} → statement M
 limits-text-spec =
-    tie.close
-    (tie.spec
-    (λ c. search needs)
-    (λ c κs. search needs)
-    (λ c. search needs)
-    returns
-    (λ c. search needs)
+    tie.close (tie.spec (λ c. search needs) (λ c κs. search needs) (λ c. search needs) returns (λ c. search needs)
     returns-2)

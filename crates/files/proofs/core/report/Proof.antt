@@ -3,8 +3,7 @@
 use mathlib.Core.Path.{sym}
 use Prim.Native.Nat.{_*_, _≤_}
 use native.Mathlib.Omega.{arith}
-use lib.ListN.{length}
-use lib.Seq.{length-take-le}
+use lib.{ListN.length, Seq.length-take-le}
 use Rattle.movement.specs.Limits.{maxPoints}
 use Rattle.book_rules.specs.Columns.{Book, bookOf}
 use Rattle.report_rules.specs.Report.{bookRows}
@@ -23,12 +22,6 @@ book s = bookOf (s .args .ids .now) (s .args .groups .now) (s .args .marks .now)
 room : (s : tie.Start) → bookRows * s .args .limits .points ≤ length (s .args .levels .now)
 room s = omega (arith, s .pre .1 .0 .few, cleared-levels maxPoints bookRows (book s) (s .pre .0))
 
-slice-relend-prefix-report-in : tie.Need-slice-relend-prefix-report-in
-slice-relend-prefix-report-in c = room (start (c .before .before .before))
-
-slice-aggregate-report-in : tie.Need-slice-aggregate-report-in
-slice-aggregate-report-in c = sym (length-take-le _ _ (room (start (c .before .before .before .before))))
-
 report-in-requires : tie.Need-report-in-requires
 report-in-requires c κs =
     let lent = c .before in
@@ -38,16 +31,7 @@ report-in-requires c κs =
 
 pub report-spec : {M : Type 1} → statement M
 report-spec =
-    tie.close
-    (tie.spec
-    (λ c. search needs)
-    (λ c. search needs)
-    slice-relend-prefix-report-in
-    slice-aggregate-report-in
-    report-in-requires
-    (λ c. search needs)
-    (λ c. search needs)
-    (λ c. search needs)
-    (λ c. search needs)
-    (λ c. search needs)
+    tie.close (tie.spec (λ c. search needs) (λ c. search needs) (λ c. room (start (c .before .before .before)))
+    (λ c. sym (length-take-le _ _ (room (start (c .before .before .before .before))))) report-in-requires
+    (λ c. search needs) (λ c. search needs) (λ c. search needs) (λ c. search needs) (λ c. search needs)
     (λ c. search needs))

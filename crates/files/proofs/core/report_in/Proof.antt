@@ -1,8 +1,6 @@
 -- `files::core::report_in` meets its contract: the register is read into the book, and the answer is that of its reading.
 -- Assumes nothing.
 use native.Mathlib.Omega.{arith}
-use mathlib.Core.Path.{_∙_, ap}
-use Rattle.book_rules.specs.Columns.{Book, bookOf}
 use Rattle.report_rules.proofs.Answers.{empty-sound}
 use Rattle.files.proofs.Texts.{sized-refused, answered-whole, answered-other}
 use Rattle.files.specs.Kinds.{tellingOf}
@@ -54,25 +52,7 @@ returns-2 c =
 
 pub report-in-spec : {M : Type 1} → statement M
 report-in-spec =
-    tie.close
-    (tie.spec
-    (λ c. search needs)
-    (λ c κs. search needs)
-    (λ c. search needs)
-    read-register-requires
-    (λ c. search needs)
-    (λ c κs. search needs)
-    (λ c. search needs)
-    (λ c. search needs)
-    (λ c. search needs)
-    (λ c. search needs)
-    (λ c. search needs)
-    returns
-    (λ c. search needs)
-    (λ c κs. search needs)
-    (λ c. search needs)
-    (λ c. search needs)
-    (λ c. search needs)
-    (λ c. search needs)
-    (λ c. search needs)
-    returns-2)
+    tie.close (tie.spec (λ c. search needs) (λ c κs. search needs) (λ c. search needs) read-register-requires
+    (λ c. search needs) (λ c κs. search needs) (λ c. search needs) (λ c. search needs) (λ c. search needs)
+    (λ c. search needs) (λ c. search needs) returns (λ c. search needs) (λ c κs. search needs)
+    (λ c. search needs) (λ c. search needs) (λ c. search needs) (λ c. search needs) (λ c. search needs) returns-2)

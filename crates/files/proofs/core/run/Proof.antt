@@ -5,26 +5,10 @@ use borrow.Author.Needs.{needs}
 use Rattle.files.proofs.core.run.Statement.{statement}
 use Rattle.files.proofs.core.run.Tie as tie
 
-slice-aggregate-write-2 : tie.Need-slice-aggregate-write-2
-slice-aggregate-write-2 c =
-    let answered : tie.After-answer = search in
-    sym (length-take-le _ _ (answered .answer .ensures .fits))
-
 pub run-spec : {M : Type 1} → statement M
 run-spec =
-    tie.close
-    (tie.spec
-    (λ c κs. search needs)
-    (λ c. search needs)
-    (λ c κs. search needs)
-    (λ c κs. search needs)
-    (λ c. search needs)
-    (λ c. search needs)
-    (λ c. search needs)
-    (λ c κs. search needs)
-    (λ c. search needs)
-    (λ c. search needs)
-    (λ c. search needs)
-    slice-aggregate-write-2
-    (λ c κs. search needs)
-    (λ c. search needs))
+    tie.close (tie.spec (λ c κs. search needs) (λ c. search needs) (λ c κs. search needs) (λ c κs. search needs)
+    (λ c. search needs) (λ c. search needs) (λ c. search needs) (λ c κs. search needs) (λ c. search needs)
+    (λ c. search needs) (λ c. search needs)
+    (λ c. let answered : tie.After-answer = search in sym (length-take-le _ _ (answered .answer .ensures .fits)))
+    (λ c κs. search needs) (λ c. search needs))

@@ -5,9 +5,6 @@ use borrow.Author.Needs.{needs}
 use Rattle.files.proofs.core.write.Statement.{statement}
 use Rattle.files.proofs.core.write.Tie as tie
 
-write-requires : tie.Need-write-requires
-write-requires c κs = search needs
-
 returns : tie.Need-returns
 returns c =
     let s : tie.Start = search in
@@ -15,4 +12,4 @@ returns c =
     ran (tellingOf (s .args .kind)) (s .pre .0) (s .pre .1) (sent .write .ensures)
 
 pub write-spec : {M : Type 1} → statement M
-write-spec = tie.close (tie.spec write-requires returns)
+write-spec = tie.close (tie.spec (λ c κs. search needs) returns)

@@ -1,11 +1,9 @@
 -- `files::feed::read_on` meets its contract: a read leaves the bytes that waited as they were, and what it gave is a
 -- piece, the end or a failure. Assumes nothing.
-use mathlib.Core.Path.{_≡_, sym, _∙_}
-use mathlib.Core.List.{List}
+use mathlib.Core.{Path._≡_, Path.sym, List.List}
 use Prim.Native.Nat.{ℕ, _+_, _-_, _≤_}
 use native.Mathlib.Omega.{arith}
-use lib.ListN.{length, take}
-use lib.Seq.{length-take-le}
+use lib.{ListN.length, ListN.take, Seq.length-take-le}
 use borrow.Rule.Slice.PartMut.{putMid, take-put}
 use Rattle.channel.specs.declared.input.Arrived.the-variants.{Bytes, End, Failed}
 use Rattle.channel.proofs.Behind.{front-behind, behind-fits, gave-as}
@@ -122,32 +120,8 @@ failed c =
 
 pub read-on-spec : {M : Type 1} → statement M
 read-on-spec =
-    tie.close
-    (tie.spec
-    (λ c. search needs)
-    (λ c. search needs)
-    (λ c. search needs)
-    (λ c κs. search needs)
-    (λ c. search needs)
-    add-piece
-    piece-requires
-    (λ c. search needs)
-    (λ c. search needs)
-    slice-aggregate-last
-    last-requires
-    (λ c. search needs)
-    (λ c κs. search needs)
-    (λ c. search needs)
-    (λ c. search needs)
-    (λ c. search needs)
-    (λ c. search needs)
-    (λ c. search needs)
-    piece
-    (λ c. search needs)
-    (λ c. search needs)
-    (λ c. search needs)
-    (λ c. search needs)
-    (λ c. search needs)
-    last
-    (λ c. search needs)
-    failed)
+    tie.close (tie.spec (λ c. search needs) (λ c. search needs) (λ c. search needs) (λ c κs. search needs)
+    (λ c. search needs) add-piece piece-requires (λ c. search needs) (λ c. search needs) slice-aggregate-last
+    last-requires (λ c. search needs) (λ c κs. search needs) (λ c. search needs) (λ c. search needs)
+    (λ c. search needs) (λ c. search needs) (λ c. search needs) piece (λ c. search needs) (λ c. search needs)
+    (λ c. search needs) (λ c. search needs) (λ c. search needs) last (λ c. search needs) failed)

@@ -30,11 +30,6 @@ loop-holds c =
     let b = bookOf (a .ids .now) (a .groups .now) (a .marks .now) (a .levels .now) in
     (come-none (a .points) b (a .bytes .now) (s .pre .0) (s .pre .1), refl, refl, refl, refl, refl)
 
-read-on-requires : tie.Need-read-on-requires Inv-loop μ-loop
-read-on-requires c κs =
-    let l : tie.At-loop Inv-loop μ-loop = search in
-    (l .loop .inv .0 .kept, l .loop .inv .0 .waits)
-
 done : tie.Need-returns Inv-loop μ-loop
 done c =
     let l : tie.At-loop Inv-loop μ-loop = search in
@@ -57,17 +52,7 @@ loop-again c =
 
 pub read-register-spec : {M : Type 1} → statement M
 read-register-spec =
-    tie.close
-    (tie.spec
-    Inv-loop
-    μ-loop
-    loop-holds
-    read-on-requires
-    (λ c. search needs)
-    (λ c. search needs)
-    (λ c. search needs)
-    (λ c. search needs)
-    (λ c. search needs)
-    done
-    loop-less
-    loop-again)
+    tie.close (tie.spec Inv-loop μ-loop loop-holds
+    (λ c κs. let l : tie.At-loop Inv-loop μ-loop = search in (l .loop .inv .0 .kept, l .loop .inv .0 .waits))
+    (λ c. search needs) (λ c. search needs) (λ c. search needs) (λ c. search needs) (λ c. search needs) done
+    loop-less loop-again)

@@ -4,12 +4,6 @@ use borrow.Author.Needs.{needs}
 use Rattle.grid.proofs.head.line_at.Statement.{statement}
 use Rattle.grid.proofs.head.line_at.Tie as tie
 
-line-end-requires : tie.Need-line-end-requires
-line-end-requires c κs = search needs
-
-add-t6 : tie.Need-add-t6
-add-t6 c = search needs
-
 returns : tie.Need-returns
 returns c =
     line-ended _ _ (c .before .line-end .result) (c .before .before .before .pre) (c .before .line-end .ensures)
@@ -21,4 +15,4 @@ returns-2 c =
     (c .if1 .left)
 
 pub line-at-spec : {M : Type 1} → statement M
-line-at-spec = tie.close (tie.spec line-end-requires add-t6 returns returns-2)
+line-at-spec = tie.close (tie.spec (λ c κs. search needs) (λ c. search needs) returns returns-2)

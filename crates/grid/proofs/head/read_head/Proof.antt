@@ -1,7 +1,6 @@
 -- `grid::head::read_head` meets its contract: one header line after the other. Assumes nothing.
 use Prim.Native.Nat.{ℕ}
-use mathlib.Core.Path.{refl}
-use mathlib.Core.List.{List}
+use mathlib.Core.{Path.refl, List.List}
 use native.Mathlib.Omega.{arith}
 use Rattle.grid.specs.File.{ncols, nrows, xllcenter, yllcenter, cellsize, firstOff, frameOf}
 use Rattle.grid.proofs.HeadLaws.{KeyStep, seen-none, key-step, key-stop}
@@ -104,44 +103,16 @@ returns-6 c =
     let line-3 : tie.After-known-told3 = search in
     let line-4 : tie.After-known-told4 = search in (
       fifth c .seen .on,
-      rw (
-        first line-1 .number,
-        second line-2 .number,
-        third line-3 .number,
-        fourth line-4 .number,
-        fifth c .number,
-      ),
+      rw (first line-1 .number, second line-2 .number, third line-3 .number, fourth line-4 .number, fifth c .number),
       fifth c .seen .inside,
       fifth c .seen .rest,
     )
 
 pub read-head-spec : {M : Type 1} → statement M
 read-head-spec =
-    tie.close
-    (tie.spec
-    (λ c. search needs)
-    (λ c κs. search needs)
-    (λ c. search needs)
-    (λ c. search needs)
-    returns
-    (λ c. search needs)
-    (λ c κs. first (c .before) .seen .inside)
-    (λ c. search needs)
-    (λ c. search needs)
-    returns-2
-    (λ c. search needs)
-    (λ c κs. second (c .before) .seen .inside)
-    (λ c. search needs)
-    (λ c. search needs)
-    returns-3
-    (λ c. search needs)
-    (λ c κs. third (c .before) .seen .inside)
-    (λ c. search needs)
-    (λ c. search needs)
-    returns-4
-    (λ c. search needs)
-    (λ c κs. fourth (c .before) .seen .inside)
-    (λ c. search needs)
-    (λ c. search needs)
-    returns-5
-    returns-6)
+    tie.close (tie.spec (λ c. search needs) (λ c κs. search needs) (λ c. search needs) (λ c. search needs) returns
+    (λ c. search needs) (λ c κs. first (c .before) .seen .inside) (λ c. search needs) (λ c. search needs)
+    returns-2 (λ c. search needs) (λ c κs. second (c .before) .seen .inside) (λ c. search needs)
+    (λ c. search needs) returns-3 (λ c. search needs) (λ c κs. third (c .before) .seen .inside)
+    (λ c. search needs) (λ c. search needs) returns-4 (λ c. search needs)
+    (λ c κs. fourth (c .before) .seen .inside) (λ c. search needs) (λ c. search needs) returns-5 returns-6)

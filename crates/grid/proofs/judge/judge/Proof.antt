@@ -7,22 +7,10 @@ use borrow.Author.Needs.{needs}
 use Rattle.grid.proofs.judge.judge.Statement.{statement}
 use Rattle.grid.proofs.judge.judge.Tie as tie
 
-read-head-requires : tie.Need-read-head-requires
-read-head-requires c κs = search needs
-
-enum-known-frame : tie.Need-enum-known-frame
-enum-known-frame c = search needs
-
 -- the header is on its layout
 headed : (c : tie.After-known-told) → let g = c .before .frame .given in
     headRead (c .before .before .before .before .before .args .s .now) (Got (g .0 .0) (g .0 .1 .0))
 headed c = subst (headRead _) (c .before .frame .given .1) (c .before .before .before .read-head .ensures)
-
-judge-body-requires : tie.Need-judge-body-requires
-judge-body-requires c κs = headed c .2
-
-enum-known-line : tie.Need-enum-known-line
-enum-known-line c = search needs
 
 returns : tie.Need-returns
 returns c =
@@ -38,11 +26,5 @@ returns-2 c =
 
 pub judge-spec : {M : Type 1} → statement M
 judge-spec =
-    tie.close
-    (tie.spec
-    read-head-requires
-    enum-known-frame
-    judge-body-requires
-    enum-known-line
-    returns
-    returns-2)
+    tie.close (tie.spec (λ c κs. search needs) (λ c. search needs) (λ c κs. headed c .2) (λ c. search needs)
+    returns returns-2)

@@ -1,14 +1,11 @@
 -- `grid::judge::judge_row` meets its contract. The invariant: the values passed, and what all of them were. Assumes
 -- nothing.
 use Prim.Native.Nat.{_-_}
-use mathlib.Core.Path.{_≡_, sym, ap, _∙_}
-use mathlib.Core.Bool.{true, _&&_}
+use mathlib.Core.{Path._≡_, Path.sym, Path.ap, Path._∙_, Bool.true, Bool._&&_}
 use native.Mathlib.Omega.{arith}
 use borrow.Author.Needs.{needs}
-use lib.Dec.{eqb}
-use lib.ListN.{length}
-use Rattle.grid.specs.Row.{isValue}
-use Rattle.grid.specs.InnerSteps.{isSound}
+use lib.{Dec.eqb, ListN.length}
+use Rattle.grid.specs.{Row.isValue, InnerSteps.isSound}
 use Rattle.grid.proofs.ValueLaws.{between, end-within, value-off, value-on, RowAt, row-start, row-off}
 use Rattle.grid.proofs.ValueLaws.{row-last, row-next}
 use Rattle.grid.proofs.judge.judge_row.Statement.{statement}
@@ -19,24 +16,6 @@ Inv-loop s nodata at₀ count₀ sound₀ at count sound = RowAt nodata s at cou
 
 abbrev μ-loop : tie.MeasureT-loop
 μ-loop s nodata at₀ count₀ sound₀ at count sound = length s - at
-
-loop-holds : tie.Need-loop-holds Inv-loop μ-loop
-loop-holds c = row-start _ _
-
-field-end-requires : tie.Need-field-end-requires Inv-loop μ-loop
-field-end-requires c κs = c .loop .inv .within
-
-sub-value-refusal : tie.Need-sub-value-refusal Inv-loop μ-loop
-sub-value-refusal c = search needs
-
-part-value-refusal-start : tie.Need-part-value-refusal-start Inv-loop μ-loop
-part-value-refusal-start c = search needs
-
-part-value-refusal-end : tie.Need-part-value-refusal-end Inv-loop μ-loop
-part-value-refusal-end c = end-within _ _ _ (c .before .loop .inv .within) (c .field-end .ensures)
-
-value-refusal-requires : tie.Need-value-refusal-requires Inv-loop μ-loop
-value-refusal-requires c κs = search needs
 
 returns : tie.Need-returns Inv-loop μ-loop
 returns c =
@@ -60,9 +39,6 @@ tested c =
           (ap (λ n. eqb n 0) (r .ensures) ∙ t .1),
     )
 
-both-requires : tie.Need-both-requires Inv-loop μ-loop
-both-requires c κs = search needs
-
 add-count : tie.Need-add-count Inv-loop μ-loop
 add-count c =
     omega (
@@ -78,12 +54,6 @@ returns-2 c =
     sym (row-last (l .inv) (c .before .before .before .before .before .field-end .result)
     (c .before .before .before .before .before .field-end .ensures) (c .if2 .taken) (t .0) ∙ rw (t .1))
 
-add-at : tie.Need-add-at Inv-loop μ-loop
-add-at c = search needs
-
-loop-less : tie.Need-loop-less Inv-loop μ-loop
-loop-less c = omega (arith, c .before .before .before .before .before .field-end .ensures)
-
 loop-again : tie.Need-loop-again Inv-loop μ-loop
 loop-again c =
     let l = c .before .before .before .before .before .before .loop in
@@ -93,20 +63,7 @@ loop-again c =
 
 pub judge-row-spec : {M : Type 1} → statement M
 judge-row-spec =
-    tie.close
-    (tie.spec
-    Inv-loop
-    μ-loop
-    loop-holds
-    field-end-requires
-    sub-value-refusal
-    part-value-refusal-start
-    part-value-refusal-end
-    value-refusal-requires
-    returns
-    both-requires
-    add-count
-    returns-2
-    add-at
-    loop-less
-    loop-again)
+    tie.close (tie.spec Inv-loop μ-loop (λ c. row-start _ _) (λ c κs. c .loop .inv .within) (λ c. search needs)
+    (λ c. search needs) (λ c. end-within _ _ _ (c .before .loop .inv .within) (c .field-end .ensures))
+    (λ c κs. search needs) returns (λ c κs. search needs) add-count returns-2 (λ c. search needs)
+    (λ c. omega (arith, c .before .before .before .before .before .field-end .ensures)) loop-again)

@@ -17,30 +17,6 @@ Inv-loop s from nodata frame first columns at₀ count₀ fits₀ sound₀ at co
 abbrev μ-loop : tie.MeasureT-loop
 μ-loop s from nodata frame first columns at₀ count₀ fits₀ sound₀ at count fits sound = length s - at
 
-cast-columns : tie.Need-cast-columns Inv-loop μ-loop
-cast-columns c = search needs
-
-loop-holds : tie.Need-loop-holds Inv-loop μ-loop
-loop-holds c = rows-start _ _ _ _ _ (c .before .before .before .pre .0)
-
-line-at-requires : tie.Need-line-at-requires Inv-loop μ-loop
-line-at-requires c κs = c .before .loop .inv .within
-
-sub-judge-row : tie.Need-sub-judge-row Inv-loop μ-loop
-sub-judge-row c = c .line-at .ensures .start
-
-part-judge-row-start : tie.Need-part-judge-row-start Inv-loop μ-loop
-part-judge-row-start c = c .line-at .ensures .start
-
-part-judge-row-end : tie.Need-part-judge-row-end Inv-loop μ-loop
-part-judge-row-end c = c .line-at .ensures .within
-
-judge-row-requires : tie.Need-judge-row-requires Inv-loop μ-loop
-judge-row-requires c κs = search needs
-
-enum-known-values : tie.Need-enum-known-values Inv-loop μ-loop
-enum-known-values c = search needs
-
 enum-told : tie.Need-enum-told Inv-loop μ-loop
 enum-told c = search needs
 
@@ -66,12 +42,6 @@ returns c =
       rows-off i (at-loop-test .loop-test .taken) (sym (judged (c .before .before)) ∙ c .enum-told .given .1),
       omega (arith, start .pre .1),
     )
-
-both-requires : tie.Need-both-requires Inv-loop μ-loop
-both-requires c κs = search needs
-
-both-requires-2 : tie.Need-both-requires-2 Inv-loop μ-loop
-both-requires-2 c κs = search needs
 
 add-count : tie.Need-add-count Inv-loop μ-loop
 add-count c =
@@ -103,12 +73,6 @@ loop-again c =
     rw (c .before .both .ensures, c .both2 .ensures)
     (rows-next i h (l .result) (l .ensures) (v .0 .0) (v .0 .1 .0) (sym (judged at-judge-row) ∙ v .1))
 
-cast-rows : tie.Need-cast-rows Inv-loop μ-loop
-cast-rows c = search needs
-
-both-requires-3 : tie.Need-both-requires-3 Inv-loop μ-loop
-both-requires-3 c κs = search needs
-
 returns-2 : tie.Need-returns-2 Inv-loop μ-loop
 returns-2 c =
     let a = c .before .before .before .before .before .before .before .args in
@@ -118,26 +82,8 @@ returns-2 c =
 
 pub judge-rows-spec : {M : Type 1} → statement M
 judge-rows-spec =
-    tie.close
-    (tie.spec
-    Inv-loop
-    μ-loop
-    cast-columns
-    loop-holds
-    line-at-requires
-    sub-judge-row
-    part-judge-row-start
-    part-judge-row-end
-    judge-row-requires
-    enum-known-values
-    enum-told
-    add-t23
-    returns
-    both-requires
-    both-requires-2
-    add-count
-    loop-less
-    loop-again
-    cast-rows
-    both-requires-3
-    returns-2)
+    tie.close (tie.spec Inv-loop μ-loop (λ c. search needs)
+    (λ c. rows-start _ _ _ _ _ (c .before .before .before .pre .0)) (λ c κs. c .before .loop .inv .within)
+    (λ c. c .line-at .ensures .start) (λ c. c .line-at .ensures .start) (λ c. c .line-at .ensures .within)
+    (λ c κs. search needs) (λ c. search needs) enum-told add-t23 returns (λ c κs. search needs)
+    (λ c κs. search needs) add-count loop-less loop-again (λ c. search needs) (λ c κs. search needs) returns-2)

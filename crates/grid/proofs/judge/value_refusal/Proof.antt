@@ -1,23 +1,10 @@
 -- `grid::judge::value_refusal` meets its contract. Assumes nothing.
-use mathlib.Core.Path.{_≡_, sym, _∙_}
-use mathlib.Core.Bool.{false}
+use mathlib.Core.{Path._≡_, Path.sym, Path._∙_, Bool.false}
 use Rattle.text.specs.Same.{sameText}
 use Rattle.grid.proofs.ValueLaws.{none-here, level-here, high-here, neither-here}
 use borrow.Author.Needs.{needs}
 use Rattle.grid.proofs.judge.value_refusal.Statement.{statement}
 use Rattle.grid.proofs.judge.value_refusal.Tie as tie
-
-same-text-requires : tie.Need-same-text-requires
-same-text-requires c κs = search needs
-
-returns : tie.Need-returns
-returns c = sym (none-here _ _ (sym (c .before .same-text .ensures) ∙ c .if1 .taken))
-
-level-requires : tie.Need-level-requires
-level-requires c κs = search needs
-
-enum-known-v : tie.Need-enum-known-v
-enum-known-v c = search needs
 
 returns-2 : tie.Need-returns-2
 returns-2 c =
@@ -53,13 +40,6 @@ returns-4 c =
 
 pub value-refusal-spec : {M : Type 1} → statement M
 value-refusal-spec =
-    tie.close
-    (tie.spec
-    same-text-requires
-    returns
-    level-requires
-    enum-known-v
-    returns-2
-    enum-told
-    returns-3
-    returns-4)
+    tie.close (tie.spec (λ c κs. search needs)
+    (λ c. sym (none-here _ _ (sym (c .before .same-text .ensures) ∙ c .if1 .taken))) (λ c κs. search needs)
+    (λ c. search needs) returns-2 enum-told returns-3 returns-4)

@@ -4,15 +4,6 @@ use borrow.Author.Needs.{needs}
 use Rattle.grid.proofs.put.put_end.Statement.{statement}
 use Rattle.grid.proofs.put.put_end.Tie as tie
 
-put-byte-requires : tie.Need-put-byte-requires
-put-byte-requires c κs = search needs
-
-put-byte-requires-2 : tie.Need-put-byte-requires-2
-put-byte-requires-2 c κs = search needs
-
-same-length : tie.Need-same-length
-same-length c = search needs
-
 returns : tie.Need-returns
 returns c =
     let at-put-byte = c .before .before .before .before .before .before in
@@ -20,4 +11,4 @@ returns c =
     wrote-then (start .pre) (at-put-byte .put-byte .ensures) (c .before .before .put-byte2 .ensures)
 
 pub put-end-spec : {M : Type 1} → statement M
-put-end-spec = tie.close (tie.spec put-byte-requires put-byte-requires-2 same-length returns)
+put-end-spec = tie.close (tie.spec (λ c κs. search needs) (λ c κs. search needs) (λ c. search needs) returns)

@@ -20,9 +20,6 @@ room c = omega (
   key-length (c .args .key .now) (c .args .n),
 )
 
-put-text-requires : tie.Need-put-text-requires
-put-text-requires c κs = omega (arith, room (c .before .before .before))
-
 put-whole-requires : tie.Need-put-whole-requires
 put-whole-requires c κs =
     let k = c .before .before .before .put-text in (
@@ -38,9 +35,6 @@ put-end-requires c κs =
     let n = c .before .before .before .put-whole in
     omega (arith, room start, k .ensures .place, k .kept .0, n .ensures .place, n .kept .0)
 
-same-length : tie.Need-same-length
-same-length c = search needs
-
 returns : tie.Need-returns
 returns c =
     let at-put-whole = c .before .before .before .before .before .before in
@@ -52,4 +46,5 @@ returns c =
 
 pub put-line-spec : {M : Type 1} → statement M
 put-line-spec =
-    tie.close (tie.spec put-text-requires put-whole-requires put-end-requires same-length returns)
+    tie.close (tie.spec (λ c κs. omega (arith, room (c .before .before .before))) put-whole-requires put-end-requires
+    (λ c. search needs) returns)

@@ -4,9 +4,7 @@ use native.Mathlib.Omega.{arith}
 use lib.ListN.{length, length-append}
 use mathlib.Core.List.{_++_}
 use Rattle.room.proofs.Laws.{wrote-then}
-use Rattle.grid.specs.File.{xllcenter, yllcenter, cellsize}
-use Rattle.grid.specs.Write.{keyLine}
-use Rattle.grid.specs.InnerSteps.{ended}
+use Rattle.grid.specs.{File.xllcenter, File.yllcenter, File.cellsize, Write.keyLine, InnerSteps.ended}
 use Rattle.grid.proofs.WriteSizes.{three-lines, three-length}
 use borrow.Author.Needs.{needs}
 use Rattle.grid.proofs.put.put_place.Statement.{statement}
@@ -25,17 +23,11 @@ room c = let f = c .args .frame in
           (keyLine cellsize (f .spacing)),
     )
 
-slice-aggregate-put-line : tie.Need-slice-aggregate-put-line
-slice-aggregate-put-line c = search needs
-
 put-line-requires : tie.Need-put-line-requires
 put-line-requires c κs = (
   c .before .before .before .pre .0 .west-most,
   omega (arith, room (c .before .before .before)),
 )
-
-slice-aggregate-put-line-2 : tie.Need-slice-aggregate-put-line-2
-slice-aggregate-put-line-2 c = search needs
 
 put-line-requires-2 : tie.Need-put-line-requires-2
 put-line-requires-2 c κs =
@@ -49,9 +41,6 @@ put-line-requires-2 c κs =
       ),
     )
 
-slice-aggregate-put-line-3 : tie.Need-slice-aggregate-put-line-3
-slice-aggregate-put-line-3 c = search needs
-
 put-line-requires-3 : tie.Need-put-line-requires-3
 put-line-requires-3 c κs =
     let at-put-line2 = c .before .before .before .before in
@@ -62,9 +51,6 @@ put-line-requires-3 c κs =
       start .pre .0 .spacing-most,
       omega (arith, room start, l .ensures .place, l .kept .0, m .ensures .place, m .kept .0),
     )
-
-same-length : tie.Need-same-length
-same-length c = search needs
 
 returns : tie.Need-returns
 returns c =
@@ -83,13 +69,5 @@ returns c =
 
 pub put-place-spec : {M : Type 1} → statement M
 put-place-spec =
-    tie.close
-    (tie.spec
-    slice-aggregate-put-line
-    put-line-requires
-    slice-aggregate-put-line-2
-    put-line-requires-2
-    slice-aggregate-put-line-3
-    put-line-requires-3
-    same-length
-    returns)
+    tie.close (tie.spec (λ c. search needs) put-line-requires (λ c. search needs) put-line-requires-2
+    (λ c. search needs) put-line-requires-3 (λ c. search needs) returns)

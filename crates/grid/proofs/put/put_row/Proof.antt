@@ -18,9 +18,6 @@ put-end-requires c κs =
     let v = c .before .before .before .put-values in
     omega (arith, a .pre .2, ended-length (rowLine (a .args .row .now)), v .ensures .place, v .kept .0)
 
-same-length : tie.Need-same-length
-same-length c = search needs
-
 returns : tie.Need-returns
 returns c =
     let at-put-values = c .before .before .before .before .before .before in
@@ -28,4 +25,4 @@ returns c =
     wrote-then (start .pre .2) (at-put-values .put-values .ensures) (c .before .before .put-end .ensures)
 
 pub put-row-spec : {M : Type 1} → statement M
-put-row-spec = tie.close (tie.spec put-values-requires put-end-requires same-length returns)
+put-row-spec = tie.close (tie.spec put-values-requires put-end-requires (λ c. search needs) returns)

@@ -1,7 +1,6 @@
 -- `grid::put::put_rows` meets its contract. The invariant: what is written, and what is left to write. Assumes nothing.
-use mathlib.Core.Path.{_≡_, refl, sym, subst, ap, _∙_}
-use mathlib.Core.List.{_++_}
-use lib.ListN.{length, drop, length-append, length-drop}
+use mathlib.Core.{Path._≡_, Path.refl, Path.sym, Path.subst, Path.ap, Path._∙_, List._++_}
+use lib.{ListN.length, ListN.drop, ListN.length-append, ListN.length-drop, Seq.length-take-le}
 use Rattle.room.specs.Room.{Wrote}
 use Rattle.grid.specs.InnerSteps.{ended, Quiet}
 use Rattle.room.proofs.Writing.{Writing, writing-start, writing-room, writing-more, writing-end}
@@ -9,7 +8,6 @@ use Rattle.grid.proofs.WriteLaws.{row-inside, part-row, quiet-part, row
 use Prim.Native.Nat.{_+_, _-_, _*_, _≤_}
 use native.Mathlib.Omega.{arith}
 use borrow.Author.Needs.{needs}
-use lib.Seq.{length-take-le}
 use Rattle.grid.specs.Write.{rowLine, rowAt, rowLines, textOf}
 use Rattle.grid.proofs.put.put_rows.Statement.{statement}
 use Rattle.grid.proofs.put.put_rows.Tie as tie
@@ -21,12 +19,6 @@ Inv-loop out₀ from levels columns rows at₀ left₀ out at left =
 
 abbrev μ-loop : tie.MeasureT-loop
 μ-loop out₀ from levels columns rows at₀ left₀ out at left = left
-
-loop-holds : tie.Need-loop-holds Inv-loop μ-loop
-loop-holds c = (writing-start _ _ _, omega arith, refl)
-
-sub-left : tie.Need-sub-left Inv-loop μ-loop
-sub-left c = search needs
 
 -- the row stands among the levels
 inside : (c : tie.In-loop Inv-loop μ-loop) → let a = c .before .before .before .before .args in
@@ -44,24 +36,6 @@ next : (c : tie.In-loop Inv-loop μ-loop) → let a = c .before .before .before 
 next c = let a = c .before .before .before .before .args in
     rw (← rows-more (a .columns) (a .levels .now) (c .before .loop .left) (c .loop-test .taken))
     (c .before .loop .inv .0)
-
-mul-start : tie.Need-mul-start Inv-loop μ-loop
-mul-start c = omega (arith, inside c, c .before .before .before .before .good .1 .1 .0 .0)
-
-add-put-row : tie.Need-add-put-row Inv-loop μ-loop
-add-put-row c = omega (arith, inside (c .before), c .before .before .before .before .before .good .1 .1 .0 .0)
-
-mul-put-row : tie.Need-mul-put-row Inv-loop μ-loop
-mul-put-row c = omega (arith, inside (c .before), c .before .before .before .before .before .good .1 .1 .0 .1)
-
-sub-put-row : tie.Need-sub-put-row Inv-loop μ-loop
-sub-put-row c = omega arith
-
-part-put-row-start : tie.Need-part-put-row-start Inv-loop μ-loop
-part-put-row-start c = omega arith
-
-part-put-row-end : tie.Need-part-put-row-end Inv-loop μ-loop
-part-put-row-end c = inside (c .before)
 
 put-row-requires : tie.Need-put-row-requires Inv-loop μ-loop
 put-row-requires c κs =
@@ -85,9 +59,6 @@ put-row-requires c κs =
       ),
     )
 
-loop-less : tie.Need-loop-less Inv-loop μ-loop
-loop-less c = omega (arith, c .before .before .before .before .before .loop-test .taken)
-
 loop-again : tie.Need-loop-again Inv-loop μ-loop
 loop-again c =
     let in-loop = c .before .before .before .before .before in
@@ -106,9 +77,6 @@ loop-again c =
       p .kept .0 ∙ l .inv .2,
     )
 
-same-length : tie.Need-same-length Inv-loop μ-loop
-same-length c = c .before .loop .inv .2
-
 returns : tie.Need-returns Inv-loop μ-loop
 returns c =
     let s = c .before .before .before .before in
@@ -120,20 +88,10 @@ returns c =
 
 pub put-rows-spec : {M : Type 1} → statement M
 put-rows-spec =
-    tie.close
-    (tie.spec
-    Inv-loop
-    μ-loop
-    loop-holds
-    sub-left
-    mul-start
-    add-put-row
-    mul-put-row
-    sub-put-row
-    part-put-row-start
-    part-put-row-end
-    put-row-requires
-    loop-less
-    loop-again
-    same-length
-    returns)
+    tie.close (tie.spec Inv-loop μ-loop (λ c. (writing-start _ _ _, omega arith, refl)) (λ c. search needs)
+    (λ c. omega (arith, inside c, c .before .before .before .before .good .1 .1 .0 .0))
+    (λ c. omega (arith, inside (c .before), c .before .before .before .before .before .good .1 .1 .0 .0))
+    (λ c. omega (arith, inside (c .before), c .before .before .before .before .before .good .1 .1 .0 .1))
+    (λ c. omega arith) (λ c. omega arith) (λ c. inside (c .before)) put-row-requires
+    (λ c. omega (arith, c .before .before .before .before .before .loop-test .taken)) loop-again
+    (λ c. c .before .loop .inv .2) returns)

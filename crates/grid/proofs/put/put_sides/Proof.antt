@@ -3,9 +3,7 @@ use Prim.Native.Nat.{_+_, _≤_}
 use native.Mathlib.Omega.{arith}
 use lib.ListN.{length, length-append}
 use Rattle.room.proofs.Laws.{wrote-then}
-use Rattle.grid.specs.File.{ncols, nrows}
-use Rattle.grid.specs.Write.{keyLine}
-use Rattle.grid.specs.InnerSteps.{ended}
+use Rattle.grid.specs.{File.ncols, File.nrows, Write.keyLine, InnerSteps.ended}
 use Rattle.grid.proofs.WriteSizes.{two-lines, two-length}
 use borrow.Author.Needs.{needs}
 use Rattle.grid.proofs.put.put_sides.Statement.{statement}
@@ -18,17 +16,11 @@ room : (c : tie.Start) → let f = c .args .frame in
 room c = let f = c .args .frame in
     omega (arith, c .pre .1, two-length (keyLine ncols (f .columns)) (keyLine nrows (f .rows)))
 
-slice-aggregate-put-line : tie.Need-slice-aggregate-put-line
-slice-aggregate-put-line c = search needs
-
 put-line-requires : tie.Need-put-line-requires
 put-line-requires c κs = (
   c .before .before .before .pre .0 .columns-most,
   omega (arith, room (c .before .before .before)),
 )
-
-slice-aggregate-put-line-2 : tie.Need-slice-aggregate-put-line-2
-slice-aggregate-put-line-2 c = search needs
 
 put-line-requires-2 : tie.Need-put-line-requires-2
 put-line-requires-2 c κs =
@@ -41,9 +33,6 @@ put-line-requires-2 c κs =
         l .kept .0,
       ),
     )
-
-same-length : tie.Need-same-length
-same-length c = search needs
 
 returns : tie.Need-returns
 returns c =
@@ -58,11 +47,5 @@ returns c =
 
 pub put-sides-spec : {M : Type 1} → statement M
 put-sides-spec =
-    tie.close
-    (tie.spec
-    slice-aggregate-put-line
-    put-line-requires
-    slice-aggregate-put-line-2
-    put-line-requires-2
-    same-length
-    returns)
+    tie.close (tie.spec (λ c. search needs) put-line-requires (λ c. search needs) put-line-requires-2
+    (λ c. search needs) returns)

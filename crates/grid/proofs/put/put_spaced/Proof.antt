@@ -4,15 +4,6 @@ use borrow.Author.Needs.{needs}
 use Rattle.grid.proofs.put.put_spaced.Statement.{statement}
 use Rattle.grid.proofs.put.put_spaced.Tie as tie
 
-put-byte-requires : tie.Need-put-byte-requires
-put-byte-requires c κs = search needs
-
-put-level-requires : tie.Need-put-level-requires
-put-level-requires c κs = search needs
-
-same-length : tie.Need-same-length
-same-length c = search needs
-
 returns : tie.Need-returns
 returns c =
     let at-put-byte = c .before .before .before .before .before .before in
@@ -20,4 +11,4 @@ returns c =
     wrote-then (start .pre .1) (at-put-byte .put-byte .ensures) (c .before .before .put-level .ensures)
 
 pub put-spaced-spec : {M : Type 1} → statement M
-put-spaced-spec = tie.close (tie.spec put-byte-requires put-level-requires same-length returns)
+put-spaced-spec = tie.close (tie.spec (λ c κs. search needs) (λ c κs. search needs) (λ c. search needs) returns)

@@ -1,8 +1,7 @@
 -- `grid::put::put_values` meets its contract. The invariant: what is written, and what is left to write. Assumes
 -- nothing.
 use Prim.Native.Nat.{ℕ, _+_, _-_, _≤_}
-use mathlib.Core.Path.{_≡_, refl, ap, _∙_}
-use mathlib.Core.List.{List, _∷_, _++_}
+use mathlib.Core.{Path._≡_, Path.refl, Path.ap, Path._∙_, List.List, List._∷_, List._++_}
 use native.Mathlib.Omega.{arith}
 use borrow.Author.Needs.{needs}
 use lib.ListN.{length, getD, drop, length-append}
@@ -20,9 +19,6 @@ Inv-loop out₀ from row at₀ i₀ out at i =
 
 abbrev μ-loop : tie.MeasureT-loop
 μ-loop out₀ from row at₀ i₀ out at i = length row - i
-
-shared-slice-read-put-level : tie.Need-shared-slice-read-put-level Inv-loop μ-loop
-shared-slice-read-put-level c = omega (arith, c .before .before .before .before .pre .0)
 
 put-level-requires : tie.Need-put-level-requires Inv-loop μ-loop
 put-level-requires c κs =
@@ -76,12 +72,6 @@ next c =
     let start = at-loop .before .before .before .before .before .before .before .before in
     rw (← spaced-more (start .args .row .now) (at-loop .loop .i) (c .loop-test .taken)) (at-loop .loop .inv .0)
 
-mul-put-spaced : tie.Need-mul-put-spaced Inv-loop μ-loop
-mul-put-spaced c = search needs
-
-shared-slice-read-put-spaced : tie.Need-shared-slice-read-put-spaced Inv-loop μ-loop
-shared-slice-read-put-spaced c = search needs
-
 put-spaced-requires : tie.Need-put-spaced-requires Inv-loop μ-loop
 put-spaced-requires c κs =
     let at-slice-known2 = c .before .before .before .before in
@@ -95,12 +85,6 @@ put-spaced-requires c κs =
         length-append piece (spacedOf (drop (l .i + 1) (a .args .row .now))),
       ),
     )
-
-add-i : tie.Need-add-i Inv-loop μ-loop
-add-i c = search needs
-
-loop-less : tie.Need-loop-less Inv-loop μ-loop
-loop-less c = search needs
 
 loop-again : tie.Need-loop-again Inv-loop μ-loop
 loop-again c =
@@ -118,9 +102,6 @@ loop-again c =
       c .before .before .put-spaced .kept .0 ∙ l .inv .3,
     )
 
-same-length : tie.Need-same-length Inv-loop μ-loop
-same-length c = c .before .loop .inv .3 ∙ c .before .before .before .before .put-level .kept .0
-
 returns : tie.Need-returns Inv-loop μ-loop
 returns c =
     let at-put-level = c .before .before .before .before in
@@ -133,18 +114,7 @@ returns c =
 
 pub put-values-spec : {M : Type 1} → statement M
 put-values-spec =
-    tie.close
-    (tie.spec
-    Inv-loop
-    μ-loop
-    shared-slice-read-put-level
-    put-level-requires
-    loop-holds
-    mul-put-spaced
-    shared-slice-read-put-spaced
-    put-spaced-requires
-    add-i
-    loop-less
-    loop-again
-    same-length
-    returns)
+    tie.close (tie.spec Inv-loop μ-loop (λ c. omega (arith, c .before .before .before .before .pre .0))
+    put-level-requires loop-holds (λ c. search needs) (λ c. search needs) put-spaced-requires (λ c. search needs)
+    (λ c. search needs) loop-again
+    (λ c. c .before .loop .inv .3 ∙ c .before .before .before .before .put-level .kept .0) returns)

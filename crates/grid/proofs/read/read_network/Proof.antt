@@ -2,10 +2,8 @@
 -- Assumes nothing.
 use mathlib.Core.Path.{_≡_, subst, sym, ap, _∙_}
 use native.Mathlib.Omega.{arith}
-use Rattle.grid.specs.Row.{levelsOf}
+use Rattle.grid.specs.{Row.levelsOf, Read.numbersOf, InnerSteps.fileRead, InnerSteps.shapeRefusal}
 use Rattle.room.specs.Room.{front}
-use Rattle.grid.specs.Read.{numbersOf}
-use Rattle.grid.specs.InnerSteps.{fileRead, shapeRefusal}
 use Rattle.grid.specs.declared.judge.File.the-variants.{On}
 use Rattle.grid.proofs.ReadLaws.{off-layout, shape-refused, rows-ready, product-small, no-header, no-levels}
 use Rattle.grid.proofs.ReadLaws.{roomy-both, refused-outcome, read-outcome}
@@ -24,12 +22,6 @@ none : (c : tie.Else1) → let g = c .before .before .before .frame .given .0 in
     shapeRefusal (g .0) (g .1 .1 .0) (g .1 .1 .1 .0) ≡ 0
 none c = sym (c .before .shape-refusal .ensures) ∙ c .if1 .left
 
-judge-requires : tie.Need-judge-requires
-judge-requires c κs = search needs
-
-enum-known-frame : tie.Need-enum-known-frame
-enum-known-frame c = search needs
-
 enum-told : tie.Need-enum-told
 enum-told c = search needs
 
@@ -39,9 +31,6 @@ returns c =
     let f = subst (fileRead (a .text .now)) (c .enum-told .given .1) (c .before .before .judge .ensures) in
     refused-outcome (a .text .now) (a .header .now) (a .levels .now) 17
     (off-layout (a .text .now) _ _ _ (f .0) (f .1)) (λ z. omega arith)
-
-shape-refusal-requires : tie.Need-shape-refusal-requires
-shape-refusal-requires c κs = search needs
 
 returns-2 : tie.Need-returns-2
 returns-2 c =
@@ -53,12 +42,6 @@ returns-2 c =
     (shape-refused (a .text .now) _ _ _ _ (f .0) (f .1) _ _ (c .before .shape-refusal .result)
     (c .before .shape-refusal .ensures) (c .if1 .taken))
     (c .if1 .taken)
-
-cast-columns : tie.Need-cast-columns
-cast-columns c = search needs
-
-cast-rows : tie.Need-cast-rows
-cast-rows c = search needs
 
 returns-3 : tie.Need-returns-3
 returns-3 c =
@@ -87,9 +70,6 @@ returns-4 c =
     (omega (arith, c .before .if2 .left)) (c .if3 .taken))
     (λ z. omega arith)
 
-store-frame-requires : tie.Need-store-frame-requires
-store-frame-requires c κs = search needs
-
 store-rows-requires : tie.Need-store-rows-requires
 store-rows-requires c κs =
     let at-if3 = c .before .before .before .before .before in
@@ -97,12 +77,6 @@ store-rows-requires c κs =
     let at-known-told = at-1 .before .before in
     let f = file at-known-told in
     (rows-ready _ _ _ _ _ (f .0) (f .1) (none at-1), at-if3 .if3 .left)
-
-same-length : tie.Need-same-length
-same-length c = search needs
-
-same-length-2 : tie.Need-same-length-2
-same-length-2 c = search needs
 
 returns-5 : tie.Need-returns-5
 returns-5 c =
@@ -124,21 +98,6 @@ returns-5 c =
 
 pub read-network-spec : {M : Type 1} → statement M
 read-network-spec =
-    tie.close
-    (tie.spec
-    judge-requires
-    enum-known-frame
-    enum-told
-    returns
-    shape-refusal-requires
-    returns-2
-    cast-columns
-    cast-rows
-    returns-3
-    mul-if3
-    returns-4
-    store-frame-requires
-    store-rows-requires
-    same-length
-    same-length-2
-    returns-5)
+    tie.close (tie.spec (λ c κs. search needs) (λ c. search needs) enum-told returns (λ c κs. search needs)
+    returns-2 (λ c. search needs) (λ c. search needs) returns-3 mul-if3 returns-4 (λ c κs. search needs)
+    store-rows-requires (λ c. search needs) (λ c. search needs) returns-5)

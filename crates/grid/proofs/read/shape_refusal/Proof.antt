@@ -1,17 +1,9 @@
 -- `grid::read::shape_refusal` meets its contract: one test after the other. Assumes nothing.
-use mathlib.Core.Path.{_≡_, sym, _∙_}
-use mathlib.Core.Bool.{true, false}
-use borrow.Author.Tests.{not-true, not-false}
+use mathlib.Core.{Path._≡_, Path.sym, Path._∙_, Bool.true, Bool.false}
+use borrow.Author.{Tests.not-true, Tests.not-false, Needs.needs}
 use Rattle.network.specs.Refusals.{sided, placed}
-use borrow.Author.Needs.{needs}
 use Rattle.grid.proofs.read.shape_refusal.Statement.{statement}
 use Rattle.grid.proofs.read.shape_refusal.Tie as tie
-
-returns : tie.Need-returns
-returns c = let unfit = not-true (c .before .args .fits) (c .if1 .taken) in rw unfit
-
-is-sided-requires : tie.Need-is-sided-requires
-is-sided-requires c κs = search needs
 
 returns-2 : tie.Need-returns-2
 returns-2 c =
@@ -19,9 +11,6 @@ returns-2 c =
     let out : sided (c .before .before .before .args .frame) ≡ false = sym (c .before .is-sided .ensures)
     ∙ not-true _ (c .if2 .taken) in
     rw (fits, out)
-
-is-placed-requires : tie.Need-is-placed-requires
-is-placed-requires c κs = search needs
 
 -- past the tests of the rows and of the sides
 past : (c : tie.Else2) → let a = c .before .before .before .args in (a .fits ≡ true) × (sided (a .frame) ≡ true)
@@ -50,5 +39,5 @@ returns-5 c =
 
 pub shape-refusal-spec : {M : Type 1} → statement M
 shape-refusal-spec =
-    tie.close
-    (tie.spec returns is-sided-requires returns-2 is-placed-requires returns-3 returns-4 returns-5)
+    tie.close (tie.spec (λ c. let unfit = not-true (c .before .args .fits) (c .if1 .taken) in rw unfit)
+    (λ c κs. search needs) returns-2 (λ c κs. search needs) returns-3 returns-4 returns-5)

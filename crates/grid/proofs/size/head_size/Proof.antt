@@ -28,33 +28,6 @@ four c = let f = c .before .before .before .before in
       whole-most (f .args .frame .south) (f .pre .south-most),
     )
 
-whole-size-requires : tie.Need-whole-size-requires
-whole-size-requires c κs = search needs
-
-whole-size-requires-2 : tie.Need-whole-size-requires-2
-whole-size-requires-2 c κs = search needs
-
-add-sides : tie.Need-add-sides
-add-sides c = omega (arith, two c)
-
-whole-size-requires-3 : tie.Need-whole-size-requires-3
-whole-size-requires-3 c κs = search needs
-
-whole-size-requires-4 : tie.Need-whole-size-requires-4
-whole-size-requires-4 c κs = search needs
-
-add-place : tie.Need-add-place
-add-place c = omega (arith, four c)
-
-add-result : tie.Need-add-result
-add-result c = omega (arith, two (c .before .before))
-
-add-result-2 : tie.Need-add-result-2
-add-result-2 c = omega (arith, two (c .before .before), four c)
-
-whole-size-requires-5 : tie.Need-whole-size-requires-5
-whole-size-requires-5 c κs = search needs
-
 add-result-3 : tie.Need-add-result-3
 add-result-3 c =
     let f = c .before .before .before .before .before in
@@ -80,16 +53,7 @@ returns c =
 
 pub head-size-spec : {M : Type 1} → statement M
 head-size-spec =
-    tie.close
-    (tie.spec
-    whole-size-requires
-    whole-size-requires-2
-    add-sides
-    whole-size-requires-3
-    whole-size-requires-4
-    add-place
-    add-result
-    add-result-2
-    whole-size-requires-5
-    add-result-3
-    returns)
+    tie.close (tie.spec (λ c κs. search needs) (λ c κs. search needs) (λ c. omega (arith, two c))
+    (λ c κs. search needs) (λ c κs. search needs) (λ c. omega (arith, four c))
+    (λ c. omega (arith, two (c .before .before))) (λ c. omega (arith, two (c .before .before), four c))
+    (λ c κs. search needs) add-result-3 returns)

@@ -18,18 +18,6 @@ Inv-loop levels total₀ i₀ total i = (total + sizesOf (drop i levels) ≡ siz
 abbrev μ-loop : tie.MeasureT-loop
 μ-loop levels total₀ i₀ total i = length levels - i
 
-loop-holds : tie.Need-loop-holds Inv-loop μ-loop
-loop-holds c = (omega arith, omega arith, omega arith)
-
-mul-level-size : tie.Need-mul-level-size Inv-loop μ-loop
-mul-level-size c = search needs
-
-shared-slice-read-level-size : tie.Need-shared-slice-read-level-size Inv-loop μ-loop
-shared-slice-read-level-size c = search needs
-
-level-size-requires : tie.Need-level-size-requires Inv-loop μ-loop
-level-size-requires c κs = c .before .before .before .before .pre .1 (c .before .before .loop .i)
-
 -- what one level adds
 added : (c : tie.After-level-size Inv-loop μ-loop) → let a = c .before .before .before .before .before .args in
     let l = c .before .before .before .loop in
@@ -64,12 +52,6 @@ add-total-2 c =
       c .before .before .before .before .before .pre .0,
     )
 
-add-i : tie.Need-add-i Inv-loop μ-loop
-add-i c = omega (arith, c .before .before .loop-test .taken)
-
-loop-less : tie.Need-loop-less Inv-loop μ-loop
-loop-less c = omega (arith, c .before .before .loop-test .taken)
-
 loop-again : tie.Need-loop-again Inv-loop μ-loop
 loop-again c =
     let l = c .before .before .before .loop in
@@ -87,17 +69,7 @@ returns c =
 
 pub levels-size-spec : {M : Type 1} → statement M
 levels-size-spec =
-    tie.close
-    (tie.spec
-    Inv-loop
-    μ-loop
-    loop-holds
-    mul-level-size
-    shared-slice-read-level-size
-    level-size-requires
-    add-total
-    add-total-2
-    add-i
-    loop-less
-    loop-again
-    returns)
+    tie.close (tie.spec Inv-loop μ-loop (λ c. (omega arith, omega arith, omega arith)) (λ c. search needs)
+    (λ c. search needs) (λ c κs. c .before .before .before .before .pre .1 (c .before .before .loop .i)) add-total
+    add-total-2 (λ c. omega (arith, c .before .before .loop-test .taken))
+    (λ c. omega (arith, c .before .before .loop-test .taken)) loop-again returns)

@@ -7,14 +7,6 @@ use borrow.Author.Needs.{needs}
 use Rattle.grid.proofs.size.text_size.Statement.{statement}
 use Rattle.grid.proofs.size.text_size.Tie as tie
 
-head-size-requires : tie.Need-head-size-requires
-head-size-requires c κs = near _ _ (c .before .pre)
-
-levels-size-requires : tie.Need-levels-size-requires
-levels-size-requires c κs =
-    let p = c .before .before .pre in
-    (points-most _ _ _ (p .sized), p .quiet)
-
 -- the sizes are small
 most : (c : tie.After-levels-size) → (c .before .head-size .result ≤ 86) × (c .levels-size .result ≤ 458752)
 most c =
@@ -22,15 +14,6 @@ most c =
       omega (arith, c .before .head-size .ensures, head-most (s .args .frame) (near _ _ (s .pre))),
       omega (arith, c .levels-size .ensures, levels-most _ _ (s .pre)),
     )
-
-add-result : tie.Need-add-result
-add-result c = omega (arith, most c)
-
-cast-result : tie.Need-cast-result
-cast-result c = search needs
-
-add-result-2 : tie.Need-add-result-2
-add-result-2 c = omega (arith, most (c .before), c .before .before .before .before .pre .sized .sides .low)
 
 returns : tie.Need-returns
 returns c =
@@ -44,5 +27,7 @@ returns c =
 
 pub text-size-spec : {M : Type 1} → statement M
 text-size-spec =
-    tie.close
-    (tie.spec head-size-requires levels-size-requires add-result cast-result add-result-2 returns)
+    tie.close (tie.spec (λ c κs. near _ _ (c .before .pre))
+    (λ c κs. let p = c .before .before .pre in (points-most _ _ _ (p .sized), p .quiet))
+    (λ c. omega (arith, most c)) (λ c. search needs)
+    (λ c. omega (arith, most (c .before), c .before .before .before .before .pre .sized .sides .low)) returns)

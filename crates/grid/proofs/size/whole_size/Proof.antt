@@ -15,9 +15,6 @@ Inv-loop n left₀ size₀ left size = (length (showWhole n) + 1 ≡ length (sho
 abbrev μ-loop : tie.MeasureT-loop
 μ-loop n left₀ size₀ left size = left
 
-loop-holds : tie.Need-loop-holds Inv-loop μ-loop
-loop-holds c = (refl, omega arith)
-
 add-size : tie.Need-add-size Inv-loop μ-loop
 add-size c =
     omega (
@@ -27,9 +24,6 @@ add-size c =
           (omega (arith, c .before .before .pre)),
       shown-least 6 (c .before .loop .left),
     )
-
-loop-less : tie.Need-loop-less Inv-loop μ-loop
-loop-less c = omega (arith, c .loop-test .taken)
 
 loop-again : tie.Need-loop-again Inv-loop μ-loop
 loop-again c =
@@ -51,4 +45,5 @@ returns c =
 
 pub whole-size-spec : {M : Type 1} → statement M
 whole-size-spec =
-    tie.close (tie.spec Inv-loop μ-loop loop-holds add-size loop-less loop-again returns)
+    tie.close (tie.spec Inv-loop μ-loop (λ c. (refl, omega arith)) add-size
+    (λ c. omega (arith, c .loop-test .taken)) loop-again returns)

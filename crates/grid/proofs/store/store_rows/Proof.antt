@@ -1,9 +1,8 @@
 -- `grid::store::store_rows` meets its contract. The invariant: what the rest of the rows still changes. Assumes
 -- nothing.
-use native.Mathlib.Nat.{mul-le-mul-right}
+use native.Mathlib.{Nat.mul-le-mul-right, Omega.arith}
 use Prim.Native.Nat.{_+_, _-_, _*_, _≤_}
 use mathlib.Core.Path.{_≡_, refl, sym, ap, _∙_}
-use native.Mathlib.Omega.{arith}
 use lib.ListN.{length}
 use Rattle.room.specs.Room.{front, put}
 use Rattle.grid.specs.Row.{valuesOf, rowLevels, levelsOf}
@@ -26,28 +25,10 @@ loop-holds c =
     let e : c .before .before .args .rows - 0 ≡ c .before .before .args .rows = omega arith in
     rw e (c .before .before .pre .0, refl, refl)
 
-line-at-requires : tie.Need-line-at-requires Inv-loop μ-loop
-line-at-requires c κs = c .before .loop .inv .0 .inside
-
 -- this row is one of those left
 among : (c : tie.After-line-at Inv-loop μ-loop)
     → c .before .before .loop .row + 1 ≤ c .before .before .before .before .before .args .rows
 among c = omega (arith, left-here _ _ _ _ (c .before .before .loop .inv .0) (c .before .loop-test .taken))
-
-add-row : tie.Need-add-row Inv-loop μ-loop
-add-row c = omega (arith, among c, c .before .before .before .before .before .fits .rows)
-
-rows-south-requires : tie.Need-rows-south-requires Inv-loop μ-loop
-rows-south-requires c κs = (omega arith, among c)
-
-sub-store-row : tie.Need-sub-store-row Inv-loop μ-loop
-sub-store-row c = c .before .line-at .ensures .start
-
-part-store-row-start : tie.Need-part-store-row-start Inv-loop μ-loop
-part-store-row-start c = c .before .line-at .ensures .start
-
-part-store-row-end : tie.Need-part-store-row-end Inv-loop μ-loop
-part-store-row-end c = c .before .line-at .ensures .within
 
 -- its place, and the room for its levels
 room : (c : tie.After-rows-south Inv-loop μ-loop)
@@ -111,9 +92,6 @@ loop-again c =
       kept ∙ l .inv .2,
     )
 
-same-length : tie.Need-same-length Inv-loop μ-loop
-same-length c = c .before .loop .inv .2
-
 returns : tie.Need-returns Inv-loop μ-loop
 returns c =
     let a = c .before .before .before .before .args in
@@ -122,20 +100,8 @@ returns c =
 
 pub store-rows-spec : {M : Type 1} → statement M
 store-rows-spec =
-    tie.close
-    (tie.spec
-    Inv-loop
-    μ-loop
-    loop-holds
-    line-at-requires
-    add-row
-    rows-south-requires
-    sub-store-row
-    part-store-row-start
-    part-store-row-end
-    mul-store-row
-    store-row-requires
-    loop-less
-    loop-again
-    same-length
-    returns)
+    tie.close (tie.spec Inv-loop μ-loop loop-holds (λ c κs. c .before .loop .inv .0 .inside)
+    (λ c. omega (arith, among c, c .before .before .before .before .before .fits .rows))
+    (λ c κs. (omega arith, among c)) (λ c. c .before .line-at .ensures .start)
+    (λ c. c .before .line-at .ensures .start) (λ c. c .before .line-at .ensures .within) mul-store-row
+    store-row-requires loop-less loop-again (λ c. c .before .loop .inv .2) returns)

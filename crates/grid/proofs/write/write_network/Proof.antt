@@ -1,12 +1,10 @@
 -- `grid::write::write_network` meets its contract: refused as a network, too little room, or written. Assumes nothing.
-use mathlib.Core.Path.{_≡_, sym, ap, _∙_}
-use mathlib.Core.List.{[], _∷_}
+use mathlib.Core.{Path._≡_, Path.sym, Path.ap, Path._∙_, List.[], List._∷_}
 use native.Mathlib.Omega.{arith}
 use Rattle.network.specs.Refusals.{networkRefusal}
 use Rattle.network.proofs.Refusals.{not-refused}
 use Rattle.room.specs.Room.{front}
-use Rattle.room.proofs.Fronts.{front-one}
-use Rattle.room.proofs.Writing.{wrote-leaves}
+use Rattle.room.proofs.{Fronts.front-one, Writing.wrote-leaves}
 use Rattle.grid.proofs.WriteLaws.{network-refused, text-refused, size-refused, written, network-most}
 use borrow.Author.Needs.{needs}
 use Rattle.grid.proofs.write.write_network.Statement.{statement}
@@ -17,17 +15,11 @@ none : (c : tie.Else1) → let a = c .before .before .before .before .before .ar
     networkRefusal (a .levels .now) (a .frame) ≡ 0
 none c = sym (c .before .refusal .ensures) ∙ c .if1 .left
 
-refusal-requires : tie.Need-refusal-requires
-refusal-requires c κs = search needs
-
 returns : tie.Need-returns
 returns c =
     let a = c .before .before .before .before .before .args in
     network-refused (a .levels .now) (a .frame) (a .text .now) (a .size .now) (c .before .refusal .result)
     (c .before .refusal .ensures) (c .if1 .taken)
-
-text-size-requires : tie.Need-text-size-requires
-text-size-requires c κs = not-refused _ _ (none c)
 
 returns-2 : tie.Need-returns-2
 returns-2 c =
@@ -60,15 +52,6 @@ cast-size c =
           (not-refused (a .levels .now) (a .frame) (none at-1)),
     )
 
-slice-write-size : tie.Need-slice-write-size
-slice-write-size c = search needs
-
-same-length : tie.Need-same-length
-same-length c = search needs
-
-same-length-2 : tie.Need-same-length-2
-same-length-2 c = search needs
-
 returns-4 : tie.Need-returns-4
 returns-4 c =
     let at-if2 = c .before .before .before .before .before in
@@ -89,16 +72,5 @@ returns-4 c =
 
 pub write-network-spec : {M : Type 1} → statement M
 write-network-spec =
-    tie.close
-    (tie.spec
-    refusal-requires
-    returns
-    text-size-requires
-    returns-2
-    returns-3
-    put-network-requires
-    cast-size
-    slice-write-size
-    same-length
-    same-length-2
-    returns-4)
+    tie.close (tie.spec (λ c κs. search needs) returns (λ c κs. not-refused _ _ (none c)) returns-2 returns-3
+    put-network-requires cast-size (λ c. search needs) (λ c. search needs) (λ c. search needs) returns-4)

@@ -3,28 +3,9 @@ use borrow.Author.Needs.{needs}
 use Rattle.journal.proofs.making.enter_from.Statement.{statement}
 use Rattle.journal.proofs.making.enter_from.Tie as tie
 
-enter-requires : tie.Need-enter-requires
-enter-requires c κs =
-    let start : tie.Start = search in
-    start .pre .0
-
-returns : tie.Need-returns
-returns c =
-    let at-enter : tie.After-enter = search in
-    at-enter .enter .ensures
-
 pub enter-from-spec : {M : Type 1} → statement M
 enter-from-spec =
-    tie.close
-    (tie.spec
-    (λ c. search needs)
-    (λ c. search needs)
-    (λ c. search needs)
-    (λ c. search needs)
-    (λ c. search needs)
-    enter-requires
-    (λ c. search needs)
-    (λ c. search needs)
-    (λ c. search needs)
-    (λ c. search needs)
-    returns)
+    tie.close (tie.spec (λ c. search needs) (λ c. search needs) (λ c. search needs) (λ c. search needs)
+    (λ c. search needs) (λ c κs. let start : tie.Start = search in start .pre .0) (λ c. search needs)
+    (λ c. search needs) (λ c. search needs) (λ c. search needs)
+    (λ c. let at-enter : tie.After-enter = search in at-enter .enter .ensures))

@@ -6,27 +6,12 @@ use Rattle.journal.proofs.Reading.{call-supply, call-take-back, call-wi
 use Rattle.journal.proofs.making.make_call.Statement.{statement}
 use Rattle.journal.proofs.making.make_call.Tie as tie
 
-shared-slice-read-kind : tie.Need-shared-slice-read-kind
-shared-slice-read-kind c =
-    let start : tie.Start = search in
-    omega (arith, complete-two _ (start .pre .1))
-
-shared-slice-read-identity : tie.Need-shared-slice-read-identity
-shared-slice-read-identity c =
-    let start : tie.Start = search in
-    omega (arith, complete-two _ (start .pre .1))
-
 enter-from-requires : tie.Need-enter-from-requires
 enter-from-requires c κs =
     let start : tie.Start = search in
     let taken1 : tie.Then1 = search in (
       start .pre .0,
-      omega (
-        arith,
-        complete-width _ (start .pre .1) .1,
-        width-enter (start .args .rest .now)
-            (taken1 .if1 .taken),
-      ),
+      omega (arith, complete-width _ (start .pre .1) .1, width-enter (start .args .rest .now) (taken1 .if1 .taken)),
     )
 
 returns : tie.Need-returns
@@ -40,12 +25,7 @@ supply-from-requires c κs =
     let start : tie.Start = search in
     let taken2 : tie.Then2 = search in (
       start .pre .0,
-      omega (
-        arith,
-        complete-width _ (start .pre .1) .1,
-        width-supply (start .args .rest .now)
-            (taken2 .if2 .taken),
-      ),
+      omega (arith, complete-width _ (start .pre .1) .1, width-supply (start .args .rest .now) (taken2 .if2 .taken)),
     )
 
 returns-2 : tie.Need-returns-2
@@ -54,21 +34,11 @@ returns-2 c =
     let at-supply-from : tie.After-supply-from = search in
     rw (call-supply _ (taken2 .if2 .taken)) (at-supply-from .supply-from .ensures)
 
-take-back-requires : tie.Need-take-back-requires
-take-back-requires c κs =
-    let start : tie.Start = search in
-    start .pre .0
-
 returns-3 : tie.Need-returns-3
 returns-3 c =
     let taken3 : tie.Then3 = search in
     let at-take-back : tie.After-take-back = search in
     rw (call-take-back _ (taken3 .if3 .taken)) (at-take-back .take-back .ensures)
-
-withdraw-requires : tie.Need-withdraw-requires
-withdraw-requires c κs =
-    let start : tie.Start = search in
-    start .pre .0
 
 returns-4 : tie.Need-returns-4
 returns-4 c =
@@ -80,31 +50,10 @@ returns-4 c =
 
 pub make-call-spec : {M : Type 1} → statement M
 make-call-spec =
-    tie.close
-    (tie.spec
-    shared-slice-read-kind
-    shared-slice-read-identity
-    enter-from-requires
-    (λ c. search needs)
-    (λ c. search needs)
-    (λ c. search needs)
-    (λ c. search needs)
-    returns
-    supply-from-requires
-    (λ c. search needs)
-    (λ c. search needs)
-    (λ c. search needs)
-    (λ c. search needs)
-    returns-2
-    take-back-requires
-    (λ c. search needs)
-    (λ c. search needs)
-    (λ c. search needs)
-    (λ c. search needs)
-    returns-3
-    withdraw-requires
-    (λ c. search needs)
-    (λ c. search needs)
-    (λ c. search needs)
-    (λ c. search needs)
-    returns-4)
+    tie.close (tie.spec (λ c. let start : tie.Start = search in omega (arith, complete-two _ (start .pre .1)))
+    (λ c. let start : tie.Start = search in omega (arith, complete-two _ (start .pre .1))) enter-from-requires
+    (λ c. search needs) (λ c. search needs) (λ c. search needs) (λ c. search needs) returns supply-from-requires
+    (λ c. search needs) (λ c. search needs) (λ c. search needs) (λ c. search needs) returns-2
+    (λ c κs. let start : tie.Start = search in start .pre .0) (λ c. search needs) (λ c. search needs)
+    (λ c. search needs) (λ c. search needs) returns-3 (λ c κs. let start : tie.Start = search in start .pre .0)
+    (λ c. search needs) (λ c. search needs) (λ c. search needs) (λ c. search needs) returns-4)

@@ -7,11 +7,6 @@ use borrow.Author.Needs.{needs}
 use Rattle.journal.proofs.making.supply_from.Statement.{statement}
 use Rattle.journal.proofs.making.supply_from.Tie as tie
 
-supply-requires : tie.Need-supply-requires
-supply-requires c κs =
-    let start : tie.Start = search in
-    start .pre .0
-
 returns : tie.Need-returns
 returns c =
     let start : tie.Start = search in
@@ -22,16 +17,6 @@ returns c =
 
 pub supply-from-spec : {M : Type 1} → statement M
 supply-from-spec =
-    tie.close
-    (tie.spec
-    (λ c. search needs)
-    (λ c. search needs)
-    (λ c. search needs)
-    (λ c. search needs)
-    (λ c. search needs)
-    (λ c. search needs)
-    (λ c. search needs)
-    supply-requires
-    (λ c. search needs)
-    (λ c. search needs)
-    returns)
+    tie.close (tie.spec (λ c. search needs) (λ c. search needs) (λ c. search needs) (λ c. search needs)
+    (λ c. search needs) (λ c. search needs) (λ c. search needs)
+    (λ c κs. let start : tie.Start = search in start .pre .0) (λ c. search needs) (λ c. search needs) returns)

@@ -1,6 +1,5 @@
 -- `journal::numbers::count_calls` meets its contract. Assumes nothing.
-use mathlib.Core.Path.{_≡_, refl, sym, ap, _∙_}
-use mathlib.Core.Bool.{true}
+use mathlib.Core.{Path._≡_, Path.sym, Path.ap, Path._∙_, Bool.true}
 use Prim.Native.Nat.{_+_, _-_, _≤_}
 use native.Mathlib.Omega.{arith}
 use lib.ListN.{length, drop, length-drop}
@@ -19,12 +18,6 @@ Inv-loop journal at₀ count₀ at count =
 abbrev μ-loop : tie.MeasureT-loop
 μ-loop journal at₀ count₀ at count = length journal - at
 
-loop-holds : tie.Need-loop-holds Inv-loop μ-loop
-loop-holds c = (omega arith, (omega arith, (c .before .pre, omega arith)))
-
-mul-width-of : tie.Need-mul-width-of Inv-loop μ-loop
-mul-width-of c = let g = c .before .before .before .good in omega arith
-
 -- the places that the facts below look back to
 abbrev start : tie.After-width-of Inv-loop μ-loop → tie.Start Inv-loop μ-loop
 start c = search
@@ -37,15 +30,6 @@ step : (c : tie.After-width-of Inv-loop μ-loop)
 step c =
     step-laid _ _ _ (c .width-of .ensures) (c .before .before .loop-test .taken)
     (c .before .before .before .loop .inv .1 .1 .0)
-
-add-at : tie.Need-add-at Inv-loop μ-loop
-add-at c = let s = step c .fits in omega arith
-
-add-count : tie.Need-add-count Inv-loop μ-loop
-add-count c = let s = step c .fits in let t = step c .some in omega arith
-
-loop-less : tie.Need-loop-less Inv-loop μ-loop
-loop-less c = let s = step c in omega (arith, s .some, s .fits)
 
 loop-again : tie.Need-loop-again Inv-loop μ-loop
 loop-again c =
@@ -62,18 +46,8 @@ returns c =
 
 pub count-calls-spec : {M : Type 1} → statement M
 count-calls-spec =
-    tie.close
-    (tie.spec
-    Inv-loop
-    μ-loop
-    loop-holds
-    mul-width-of
-    (λ c. search needs)
-    (λ c. search needs)
-    (λ c. search needs)
-    (λ c κs. search needs)
-    add-at
-    add-count
-    loop-less
-    loop-again
-    returns)
+    tie.close (tie.spec Inv-loop μ-loop (λ c. (omega arith, (omega arith, (c .before .pre, omega arith))))
+    (λ c. let g = c .before .before .before .good in omega arith) (λ c. search needs) (λ c. search needs)
+    (λ c. search needs) (λ c κs. search needs) (λ c. let s = step c .fits in omega arith)
+    (λ c. let s = step c .fits in let t = step c .some in omega arith)
+    (λ c. let s = step c in omega (arith, s .some, s .fits)) loop-again returns)

@@ -1,6 +1,5 @@
 -- `journal::numbers::is_laid_out` meets its contract. Assumes nothing.
-use mathlib.Core.Path.{_≡_, refl, sym, _∙_}
-use mathlib.Core.Logic.{inl, inr}
+use mathlib.Core.{Path._≡_, Path.sym, Path._∙_, Logic.inl, Logic.inr}
 use Prim.Native.Nat.{_-_, _≤_}
 use native.Mathlib.Omega.{arith}
 use lib.ListN.{length, drop, length-drop}
@@ -15,9 +14,6 @@ Inv-loop journal at₀ at = (at ≤ length journal) × (laidOut journal ≡ laid
 
 abbrev μ-loop : tie.MeasureT-loop
 μ-loop journal at₀ at = length journal - at
-
-mul-width-of : tie.Need-mul-width-of Inv-loop μ-loop
-mul-width-of c = let g = c .before .before .before .good in omega arith
 
 returns : tie.Need-returns Inv-loop μ-loop
 returns c =
@@ -46,17 +42,6 @@ step c =
     step-tested _ _ _ (c .before .before .width-of .ensures) (c .before .before .before .before .loop-test .taken)
     (c .before .if1 .left) (c .if2 .left)
 
-add-at : tie.Need-add-at Inv-loop μ-loop
-add-at c = let s = step c .fits in omega arith
-
-loop-less : tie.Need-loop-less Inv-loop μ-loop
-loop-less c = let s = step c in omega (arith, s .some, s .fits)
-
-loop-again : tie.Need-loop-again Inv-loop μ-loop
-loop-again c =
-    let head : tie.At-loop Inv-loop μ-loop = search in
-    (step c .fits, head .loop .inv .1 ∙ step c .laid)
-
 returns-3 : tie.Need-returns-3 Inv-loop μ-loop
 returns-3 c =
     let j = c .before .before .before .args .journal .now in
@@ -65,20 +50,9 @@ returns-3 c =
 
 pub is-laid-out-spec : {M : Type 1} → statement M
 is-laid-out-spec =
-    tie.close
-    (tie.spec
-    Inv-loop
-    μ-loop
-    (λ c. search needs)
-    mul-width-of
-    (λ c. search needs)
-    (λ c. search needs)
-    (λ c. search needs)
-    (λ c κs. search needs)
-    returns
-    (λ c. search needs)
-    returns-2
-    add-at
-    loop-less
-    loop-again
+    tie.close (tie.spec Inv-loop μ-loop (λ c. search needs)
+    (λ c. let g = c .before .before .before .good in omega arith) (λ c. search needs) (λ c. search needs)
+    (λ c. search needs) (λ c κs. search needs) returns (λ c. search needs) returns-2
+    (λ c. let s = step c .fits in omega arith) (λ c. let s = step c in omega (arith, s .some, s .fits))
+    (λ c. let head : tie.At-loop Inv-loop μ-loop = search in (step c .fits, head .loop .inv .1 ∙ step c .laid))
     returns-3)

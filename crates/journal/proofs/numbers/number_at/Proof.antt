@@ -5,14 +5,7 @@ use Rattle.journal.proofs.Reading.{past}
 use Rattle.journal.proofs.numbers.number_at.Statement.{statement}
 use Rattle.journal.proofs.numbers.number_at.Tie as tie
 
-returns-2 : tie.Need-returns-2
-returns-2 c = sym (past (c .before .args .rest .now) (c .before .args .i) (c .if1 .left))
-
 pub number-at-spec : {M : Type 1} → statement M
 number-at-spec =
-    tie.close
-    (tie.spec
-    (λ c. search needs)
-    (λ c. search needs)
-    (λ c. search needs)
-    returns-2)
+    tie.close (tie.spec (λ c. search needs) (λ c. search needs) (λ c. search needs)
+    (λ c. sym (past (c .before .args .rest .now) (c .before .args .i) (c .if1 .left))))

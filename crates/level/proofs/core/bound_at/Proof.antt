@@ -1,14 +1,10 @@
 -- `level::core::bound_at` meets its contract: B(k) is below 10^7 and its factor at most 10^10, so that each product
--- fits.
--- Assumes nothing.
+-- fits. Assumes nothing.
 use mathlib.Core.Path.{_≡_, sym}
 use Prim.Native.Nat.{ℕ, _-_, _*_, _/_, _%_, _^_, _≤_, _<_}
-use native.Mathlib.Nat.{mul-le-mul, pow-le-pow-right, lt-of-le-of-lt}
-use native.Mathlib.Omega.{arith}
-use lib.Dec.{lit<}
-use lib.ListN.{getD}
-use Rattle.level.specs.Tables.{tableB}
-use Rattle.level.specs.Level.{bound}
+use native.Mathlib.{Nat.mul-le-mul, Nat.pow-le-pow-right, Nat.lt-of-le-of-lt, Omega.arith}
+use lib.{Dec.lit<, ListN.getD}
+use Rattle.level.specs.{Tables.tableB, Level.bound}
 use Rattle.level.proofs.LevelLaws.{b-below, thousand-out, thousandth-le}
 use borrow.Author.Needs.{needs}
 use Rattle.level.proofs.core.bound_at.Statement.{statement}
@@ -59,19 +55,6 @@ returns-2 c =
 
 pub bound-at-spec : {M : Type 1} → statement M
 bound-at-spec =
-    tie.close
-    (tie.spec
-    (λ c. search needs)
-    (λ c. search needs)
-    (λ c. search needs)
-    (λ c. search needs)
-    (λ c. search needs)
-    (λ c. search needs)
-    mul-result-3
-    (λ c. search needs)
-    (λ c. search needs)
-    (λ c. search needs)
-    (λ c. search needs)
-    mul-result-6
-    returns
-    returns-2)
+    tie.close (tie.spec (λ c. search needs) (λ c. search needs) (λ c. search needs) (λ c. search needs)
+    (λ c. search needs) (λ c. search needs) mul-result-3 (λ c. search needs) (λ c. search needs)
+    (λ c. search needs) (λ c. search needs) mul-result-6 returns returns-2)

@@ -2,12 +2,9 @@
 -- Assumes nothing.
 use mathlib.Core.Path.{_≡_}
 use Prim.Native.Nat.{_/_, _%_, _^_}
-use native.Mathlib.Nat.{lt-of-le-of-lt}
-use native.Mathlib.Omega.{arith}
-use lib.Dec.{lit<}
-use lib.ListN.{getD}
-use Rattle.level.specs.Tables.{tableA}
-use Rattle.level.specs.Energy.{energyOf}
+use native.Mathlib.{Nat.lt-of-le-of-lt, Omega.arith}
+use lib.{Dec.lit<, ListN.getD}
+use Rattle.level.specs.{Tables.tableA, Energy.energyOf}
 use Rattle.level.proofs.EnergyLaws.{product-le}
 use borrow.Author.Needs.{needs}
 use Rattle.level.proofs.core.energy.Statement.{statement}
@@ -25,19 +22,8 @@ mul-result-3 c =
     let s = c .before .before in
     record { fits = rw (of-a s, of-powers s) (lt-of-le-of-lt (product-le (s .args .c) (s .pre .0)) (lit< tt)) }
 
-returns : tie.Need-returns
-unfolding energyOf
-returns c = rw (of-a (c .before .before), of-powers (c .before .before))
-
 pub energy-spec : {M : Type 1} → statement M
 energy-spec =
-    tie.close
-    (tie.spec
-    (λ c. search needs)
-    (λ c. search needs)
-    (λ c. search needs)
-    (λ c. search needs)
-    (λ c. search needs)
-    (λ c. search needs)
-    mul-result-3
-    returns)
+    tie.close (tie.spec (λ c. search needs) (λ c. search needs) (λ c. search needs) (λ c. search needs)
+    (λ c. search needs) (λ c. search needs) mul-result-3
+    (λ c. unfold energyOf in rw (of-a (c .before .before), of-powers (c .before .before))))

@@ -1,10 +1,8 @@
 -- `level::core::first_reaching` meets its contract. The loop's invariant: every level before n misses m. It ends by
--- 13,999, whose bound reaches m.
--- Assumes nothing.
+-- 13,999, whose bound reaches m. Assumes nothing.
 use mathlib.Core.Path.{sym}
-use Prim.Native.Nat.{ℕ, _+_, _-_, _≤_, _<_}
-use native.Mathlib.Nat.{lt-of-not-le}
-use native.Mathlib.Omega.{arith}
+use Prim.Native.Nat.{ℕ, _-_, _≤_, _<_}
+use native.Mathlib.{Nat.lt-of-not-le, Omega.arith}
 use borrow.Author.Count.{below-more}
 use Rattle.level.specs.Level.{bound}
 use Rattle.level.proofs.LevelLaws.{level-is, bound-mono, bound-top}
@@ -17,18 +15,9 @@ Inv-loop b powers m n₀ n = (n ≤ 13999) × ((j : ℕ) → j < n → bound j <
 abbrev μ-loop : tie.MeasureT-loop
 μ-loop b powers m n₀ n = 13999 - n
 
-bound-at-requires : tie.Need-bound-at-requires Inv-loop μ-loop
-bound-at-requires c κs = (omega arith, c .before .pre .2, c .before .pre .3)
-
 -- a level that misses m is below 13,999
 more : (c : tie.Then1 Inv-loop μ-loop) → c .before .before .loop .n < 13999
 more c = lt-of-not-le (λ h. let g = bound-mono 13999 (c .before .before .loop .n) h in omega (arith, bound-top))
-
-loop-less : tie.Need-loop-less Inv-loop μ-loop
-loop-less c = omega (arith, more c)
-
-loop-again : tie.Need-loop-again Inv-loop μ-loop
-loop-again c = (omega (arith, more c), below-more _ _ (c .before .before .loop .inv .1) (omega arith))
 
 returns : tie.Need-returns Inv-loop μ-loop
 returns c =
@@ -37,13 +26,6 @@ returns c =
 
 pub first-reaching-spec : {M : Type 1} → statement M
 first-reaching-spec =
-    tie.close
-    (tie.spec
-    Inv-loop
-    μ-loop
-    (λ c. (omega arith, λ j h. omega arith))
-    bound-at-requires
-    (λ c. omega arith)
-    loop-less
-    loop-again
-    returns)
+    tie.close (tie.spec Inv-loop μ-loop (λ c. (omega arith, λ j h. omega arith))
+    (λ c κs. (omega arith, c .before .pre .2, c .before .pre .3)) (λ c. omega arith) (λ c. omega (arith, more c))
+    (λ c. (omega (arith, more c), below-more _ _ (c .before .before .loop .inv .1) (omega arith))) returns)

@@ -1,8 +1,7 @@
 -- `level::core::scaled` meets its contract: s·n / d is s / d · n and what the rest gives, and both parts fit since
--- their sum does.
--- Assumes nothing.
+-- their sum does. Assumes nothing.
 use mathlib.Core.Path.{_≡_, sym}
-use Prim.Native.Nat.{_+_, _*_, _/_, _%_, _^_, _<_}
+use Prim.Native.Nat.{_+_, _*_, _/_, _%_}
 use native.Mathlib.Omega.{arith}
 use borrow.Author.Needs.{needs}
 use Rattle.level.proofs.ScaleLaws.{by-parts, rest-fits}
@@ -18,16 +17,7 @@ sum : (c : tie.Start)
     .args .n / c .args .d
 sum c = by-parts (c .args .s) (c .args .n) (c .args .d) (c .pre .0)
 
-mul-result : tie.Need-mul-result
-mul-result c = omega (arith, sum c, c .pre .1)
-
-add-result : tie.Need-add-result
-add-result c = omega (arith, sum c, c .pre .1)
-
-returns : tie.Need-returns
-returns c = sym (sum c)
-
 pub scaled-spec : {M : Type 1} → statement M
 scaled-spec =
-    tie.close
-    (tie.spec (λ c. search needs) mul-rest (λ c. search needs) (λ c. search needs) mul-result add-result returns)
+    tie.close (tie.spec (λ c. search needs) mul-rest (λ c. search needs) (λ c. search needs)
+    (λ c. omega (arith, sum c, c .pre .1)) (λ c. omega (arith, sum c, c .pre .1)) (λ c. sym (sum c)))

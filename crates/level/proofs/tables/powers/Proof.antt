@@ -8,8 +8,7 @@ use Rattle.level.proofs.tables.powers.Tie as tie
 use Rattle.level.proofs.tables.powers.Reads as reads
 use Rattle.level.proofs.tables.powers.Lts as lts
 
-returns : tie.Need-returns
-returns c = λ k h. eqb→eq _ _ (at (λ q x. eqb x (10 ^ q)) (lts.m2 reads.Pre reads.Post (c .args) .0) tt k h)
-
 pub powers-spec : {M : Type 1} → statement M
-powers-spec = tie.close (tie.spec returns)
+powers-spec =
+    tie.close (tie.spec
+    (λ c. λ k h. eqb→eq _ _ (at (λ q x. eqb x (10 ^ q)) (lts.m2 reads.Pre reads.Post (c .args) .0) tt k h)))

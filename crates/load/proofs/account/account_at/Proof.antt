@@ -1,18 +1,14 @@
--- `load::account::account_at` meets its contract: 9, 11, and then the account of the rows.
--- Assumes nothing.
-use mathlib.Core.Path.{_≡_, refl}
-use mathlib.Core.Bool.{true}
+-- `load::account::account_at` meets its contract: 9, 11, and then the account of the rows. Assumes nothing.
+use mathlib.Core.{Path._≡_, Path.refl, Bool.true}
 use Prim.Native.Nat.{_<_}
 use native.Mathlib.Omega.{arith}
 use lib.ListN.{length}
 use Rattle.refusal.proofs.Laws.{passed, failed}
 use Rattle.room.proofs.Answers.{refuse}
 use Rattle.book_rules.specs.Columns.{Book, bookNow, sound}
-use Rattle.load_rules.specs.Shares.{bookShares}
-use Rattle.load_rules.specs.Load.{loadRefusal, refusedLoad, loadOf, bookLoad}
+use Rattle.load_rules.specs.{Shares.bookShares, Load.loadRefusal, Load.refusedLoad, Load.loadOf, Load.bookLoad}
 use Rattle.load_rules.specs.Account.{accountOf}
-use Rattle.load.proofs.RowLaws.{rows-bounded, rows-grouped}
-use Rattle.load.proofs.SumsLaws.{fits-there}
+use Rattle.load.proofs.{RowLaws.rows-bounded, RowLaws.rows-grouped, SumsLaws.fits-there}
 use Rattle.load.proofs.AccountLaws.{account-shares}
 use borrow.Author.Needs.{needs}
 use Rattle.load.proofs.account.account_at.Statement.{statement}
@@ -43,11 +39,6 @@ returns-2 c =
       passed (c .before .before .before .point-fits .ensures) (c .before .before .if1 .left),
       failed (c .before .days-fit .ensures) (c .if2 .taken),
     ) refl) (λ z. omega arith)
-
-groups-of-requires : tie.Need-groups-of-requires
-groups-of-requires c κs =
-    let left : tie.Else1 = search in
-    (there left .0, there left .1)
 
 put-account-requires : tie.Need-put-account-requires
 unfolding bookShares
@@ -81,13 +72,6 @@ returns-3 c =
 
 pub account-at-spec : {M : Type 1} → statement M
 account-at-spec =
-    tie.close
-    (tie.spec
-    (λ c κs. search needs)
-    returns
-    (λ c κs. search needs)
-    returns-2
-    groups-of-requires
-    put-account-requires
-    (λ c. search needs)
-    returns-3)
+    tie.close (tie.spec (λ c κs. search needs) returns (λ c κs. search needs) returns-2
+    (λ c κs. let left : tie.Else1 = search in (there left .0, there left .1)) put-account-requires
+    (λ c. search needs) returns-3)

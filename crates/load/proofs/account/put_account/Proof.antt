@@ -1,15 +1,12 @@
 -- `load::account::put_account` meets its contract: the sums give refusal 10, or the numbers of the groups and of the
--- whole are written where there is room.
--- Assumes nothing.
-use mathlib.Core.Path.{_≡_, sym, ap, _∙_}
-use mathlib.Core.Bool.{_&&_}
+-- whole are written where there is room. Assumes nothing.
+use mathlib.Core.{Path._≡_, Path.sym, Path.ap, Path._∙_, Bool._&&_}
 use Prim.Native.Nat.{_+_}
 use native.Mathlib.Omega.{arith}
 use lib.Dec.{eqb, ltb}
 use Rattle.room.proofs.Answers.{refuse, lack, write}
 use Rattle.load_rules.specs.declared.Load.{Load}
-use Rattle.load_rules.specs.Factors.{knownSum, unknownSum}
-use Rattle.load_rules.specs.Load.{countsOf, refusedLoad}
+use Rattle.load_rules.specs.{Factors.knownSum, Factors.unknownSum, Load.countsOf, Load.refusedLoad}
 use Rattle.load_rules.proofs.Accounts.{length-account}
 use Rattle.load.specs.InnerSteps.{groupAt, Scalable, loadFrom}
 use Rattle.load.proofs.SumsLaws.{sums-fit, sums-none, from-refused, from-fine}
@@ -57,11 +54,6 @@ returns-2 c =
     let s = entry left in
     lack (fine left) (omega (arith, length-account (groupAt (s .args .groups)) (s .args .days), c .if2 .taken))
 
-totals-of-requires : tie.Need-totals-of-requires
-totals-of-requires c κs =
-    let n : tie.After-summed = search in
-    (fits n, start n .pre .1)
-
 put-whole-requires : tie.Need-put-whole-requires
 put-whole-requires c κs =
     let n : tie.After-summed = search in
@@ -86,14 +78,6 @@ returns-3 c =
 
 pub put-account-spec : {M : Type 1} → statement M
 put-account-spec =
-    tie.close
-    (tie.spec
-    (λ c κs. search needs)
-    (λ c κs. search needs)
-    returns
-    returns-2
-    (λ c κs. search needs)
-    totals-of-requires
-    put-whole-requires
-    (λ c. search needs)
+    tie.close (tie.spec (λ c κs. search needs) (λ c κs. search needs) returns returns-2 (λ c κs. search needs)
+    (λ c κs. let n : tie.After-summed = search in (fits n, start n .pre .1)) put-whole-requires (λ c. search needs)
     returns-3)

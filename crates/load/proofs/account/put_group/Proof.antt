@@ -1,5 +1,4 @@
--- `load::account::put_group` meets its contract: four stores, one past the other.
--- Assumes nothing.
+-- `load::account::put_group` meets its contract: four stores, one past the other. Assumes nothing.
 use native.Mathlib.Omega.{arith}
 use lib.ListN.{length-set}
 use borrow.Author.Needs.{needs}
@@ -7,15 +6,6 @@ use Rattle.load_rules.specs.Load.{scaledEnergy}
 use Rattle.load.proofs.AccountLaws.{put-four}
 use Rattle.load.proofs.account.put_group.Statement.{statement}
 use Rattle.load.proofs.account.put_group.Tie as tie
-
-slice-write-answer-2 : tie.Need-slice-write-answer-2
-slice-write-answer-2 c = let s : tie.Start = search in simp length-set (omega (arith, s .pre .1))
-
-slice-write-answer-3 : tie.Need-slice-write-answer-3
-slice-write-answer-3 c = let s : tie.Start = search in simp length-set (omega (arith, s .pre .1))
-
-slice-write-answer-4 : tie.Need-slice-write-answer-4
-slice-write-answer-4 c = let s : tie.Start = search in simp length-set (omega (arith, s .pre .1))
 
 returns : tie.Need-returns
 unfolding scaledEnergy
@@ -27,22 +17,9 @@ returns c =
 
 pub put-group-spec : {M : Type 1} → statement M
 put-group-spec =
-    tie.close
-    (tie.spec
-    (λ c. search needs)
-    (λ c. search needs)
-    (λ c. search needs)
-    (λ c. search needs)
-    (λ c. search needs)
-    (λ c. search needs)
-    slice-write-answer-2
-    (λ c. search needs)
-    (λ c. search needs)
-    slice-write-answer-3
-    (λ c. search needs)
-    (λ c κs. search needs)
-    (λ c. search needs)
-    (λ c. search needs)
-    slice-write-answer-4
-    (λ c. search needs)
-    returns)
+    tie.close (tie.spec (λ c. search needs) (λ c. search needs) (λ c. search needs) (λ c. search needs)
+    (λ c. search needs) (λ c. search needs)
+    (λ c. let s : tie.Start = search in simp length-set (omega (arith, s .pre .1))) (λ c. search needs)
+    (λ c. search needs) (λ c. let s : tie.Start = search in simp length-set (omega (arith, s .pre .1)))
+    (λ c. search needs) (λ c κs. search needs) (λ c. search needs) (λ c. search needs)
+    (λ c. let s : tie.Start = search in simp length-set (omega (arith, s .pre .1))) (λ c. search needs) returns)

@@ -21,10 +21,6 @@ Inv-loop groups answer₀ g₀ answer g =
 abbrev μ-loop : tie.MeasureT-loop
 μ-loop groups answer₀ g₀ answer g = groupCount - g
 
-loop-holds : tie.Need-loop-holds Inv-loop μ-loop
-unfolding groupsTo
-loop-holds c = (omega arith, refl, refl)
-
 put-group-requires : tie.Need-put-group-requires Inv-loop μ-loop
 put-group-requires c κs =
     let s : tie.Start Inv-loop μ-loop = search in
@@ -56,16 +52,6 @@ returns c =
 
 pub put-groups-spec : {M : Type 1} → statement M
 put-groups-spec =
-    tie.close
-    (tie.spec
-    Inv-loop
-    μ-loop
-    loop-holds
-    (λ c κs. search needs)
-    (λ c. search needs)
-    put-group-requires
-    (λ c. search needs)
-    (λ c. search needs)
-    loop-again
-    (λ c. search needs)
+    tie.close (tie.spec Inv-loop μ-loop (λ c. unfold groupsTo in (omega arith, refl, refl)) (λ c κs. search needs)
+    (λ c. search needs) put-group-requires (λ c. search needs) (λ c. search needs) loop-again (λ c. search needs)
     returns)

@@ -1,27 +1,12 @@
--- `load::account::put_whole` meets its contract: six stores, one past the other.
--- Assumes nothing.
+-- `load::account::put_whole` meets its contract: six stores, one past the other. Assumes nothing.
 use Prim.Native.Nat.{_+_}
 use native.Mathlib.Omega.{arith}
-use lib.ListN.{length-set}
-use lib.Seq.{sets-eq}
+use lib.{ListN.length-set, Seq.sets-eq}
 use borrow.Author.Needs.{needs}
 use Rattle.room.specs.Room.{put}
-use Rattle.load_rules.specs.Factors.{ratio}
-use Rattle.load_rules.specs.Account.{wholeNumbers, wholeFrom}
+use Rattle.load_rules.specs.{Factors.ratio, Account.wholeNumbers, Account.wholeFrom}
 use Rattle.load.proofs.account.put_whole.Statement.{statement}
 use Rattle.load.proofs.account.put_whole.Tie as tie
-
-slice-write-answer-2 : tie.Need-slice-write-answer-2
-slice-write-answer-2 c = let s : tie.Start = search in simp length-set (omega (arith, s .pre .1))
-
-slice-write-answer-3 : tie.Need-slice-write-answer-3
-slice-write-answer-3 c = let s : tie.Start = search in simp length-set (omega (arith, s .pre .1))
-
-slice-write-answer-4 : tie.Need-slice-write-answer-4
-slice-write-answer-4 c = let s : tie.Start = search in simp length-set (omega (arith, s .pre .1))
-
-slice-write-answer-5 : tie.Need-slice-write-answer-5
-slice-write-answer-5 c = let s : tie.Start = search in simp length-set (omega (arith, s .pre .1))
 
 returns : tie.Need-returns
 unfolding put
@@ -37,30 +22,12 @@ returns c =
 
 pub put-whole-spec : {M : Type 1} → statement M
 put-whole-spec =
-    tie.close
-    (tie.spec
-    (λ c. search needs)
-    (λ c. search needs)
-    (λ c. search needs)
-    (λ c. search needs)
-    (λ c. search needs)
-    (λ c. search needs)
-    slice-write-answer-2
-    (λ c. search needs)
-    (λ c. search needs)
-    slice-write-answer-3
-    (λ c. search needs)
-    (λ c. search needs)
-    slice-write-answer-4
-    (λ c κs. search needs)
-    (λ c. search needs)
-    (λ c. search needs)
-    (λ c. search needs)
-    slice-write-answer-5
-    (λ c κs. search needs)
-    (λ c. search needs)
-    (λ c. search needs)
-    (λ c. search needs)
-    (λ c. search needs)
-    (λ c. search needs)
-    returns)
+    tie.close (tie.spec (λ c. search needs) (λ c. search needs) (λ c. search needs) (λ c. search needs)
+    (λ c. search needs) (λ c. search needs)
+    (λ c. let s : tie.Start = search in simp length-set (omega (arith, s .pre .1))) (λ c. search needs)
+    (λ c. search needs) (λ c. let s : tie.Start = search in simp length-set (omega (arith, s .pre .1)))
+    (λ c. search needs) (λ c. search needs)
+    (λ c. let s : tie.Start = search in simp length-set (omega (arith, s .pre .1))) (λ c κs. search needs)
+    (λ c. search needs) (λ c. search needs) (λ c. search needs)
+    (λ c. let s : tie.Start = search in simp length-set (omega (arith, s .pre .1))) (λ c κs. search needs)
+    (λ c. search needs) (λ c. search needs) (λ c. search needs) (λ c. search needs) (λ c. search needs) returns)

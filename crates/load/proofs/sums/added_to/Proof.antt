@@ -1,14 +1,10 @@
--- `load::sums::added_to` meets its contract: by cases on V.
--- Assumes nothing.
+-- `load::sums::added_to` meets its contract: by cases on V. Assumes nothing.
 use Prim.Native.Nat.{_+_}
-use native.Mathlib.Nat.{add-zero}
-use native.Mathlib.Omega.{arith}
-use borrow.Author.Tests.{eq-eqb, ne-eqb}
-use Rattle.load_rules.specs.Factors.{known, unknown}
-use Rattle.load_rules.specs.Load.{scaledEnergy}
+use native.Mathlib.{Nat.add-zero, Omega.arith}
+use borrow.Author.{Tests.eq-eqb, Tests.ne-eqb, Needs.needs}
+use Rattle.load_rules.specs.{Factors.known, Factors.unknown, Load.scaledEnergy}
 use Rattle.load.specs.InnerSteps.{Scalable, addedTo}
 use Rattle.load.proofs.BoundLaws.{scaled-by-le}
-use borrow.Author.Needs.{needs}
 use Rattle.load.proofs.sums.added_to.Statement.{statement}
 use Rattle.load.proofs.sums.added_to.Tie as tie
 

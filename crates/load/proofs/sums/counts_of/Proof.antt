@@ -1,9 +1,7 @@
--- `load::sums::counts_of` meets its contract: the invariant is the list filled so far.
--- Assumes nothing.
+-- `load::sums::counts_of` meets its contract: the invariant is the list filled so far. Assumes nothing.
 use mathlib.Core.Path.{_≡_, refl, ap, _∙_}
 use Prim.Native.Nat.{_-_, _≤_}
-use native.Mathlib.Numerals.{add-one}
-use native.Mathlib.Omega.{arith}
+use native.Mathlib.{Numerals.add-one, Omega.arith}
 use borrow.Author.Needs.{needs}
 use Rattle.load_rules.specs.Load.{countsOf}
 use Rattle.load.specs.InnerSteps.{groupAt}
@@ -17,14 +15,6 @@ Inv-loop groups flat₀ g₀ flat g = (g ≤ 18) × (flat ≡ filled (λ i. coun
 abbrev μ-loop : tie.MeasureT-loop
 μ-loop groups flat₀ g₀ flat g = 18 - g
 
-loop-holds : tie.Need-loop-holds Inv-loop μ-loop
-unfolding filled
-loop-holds c = (omega arith, refl)
-
-loop-again : tie.Need-loop-again Inv-loop μ-loop
-unfolding filled
-loop-again c = (omega arith, rw (add-one, ← c .group-at .ensures, c .before .before .loop .inv .1))
-
 returns : tie.Need-returns Inv-loop μ-loop
 unfolding filled
 returns c =
@@ -33,15 +23,7 @@ returns c =
 
 pub counts-of-spec : {M : Type 1} → statement M
 counts-of-spec =
-    tie.close
-    (tie.spec
-    Inv-loop
-    μ-loop
-    loop-holds
-    (λ c κs. search needs)
-    (λ c. search needs)
-    (λ c. search needs)
-    (λ c. search needs)
-    (λ c. search needs)
-    loop-again
+    tie.close (tie.spec Inv-loop μ-loop (λ c. unfold filled in (omega arith, refl)) (λ c κs. search needs)
+    (λ c. search needs) (λ c. search needs) (λ c. search needs) (λ c. search needs)
+    (λ c. unfold filled in (omega arith, rw (add-one, ← c .group-at .ensures, c .before .before .loop .inv .1)))
     returns)

@@ -1,5 +1,4 @@
--- `load::sums::scaled_by` meets its contract: by cases on the lower; the quotient fits.
--- Assumes nothing.
+-- `load::sums::scaled_by` meets its contract: by cases on the lower; the quotient fits. Assumes nothing.
 use mathlib.Core.Path.{sym}
 use native.Mathlib.Omega.{arith}
 use borrow.Author.Tests.{ne-eqb}
@@ -9,11 +8,6 @@ use Rattle.load_rules.specs.Factors.{ratio, scaledBy}
 use Rattle.load_rules.proofs.FactorLaws.{never-divided}
 use Rattle.load.proofs.sums.scaled_by.Statement.{statement}
 use Rattle.load.proofs.sums.scaled_by.Tie as tie
-
-returns : tie.Need-returns
-returns c =
-    let a = c .before .args in
-    sym (never-divided (ratio (a .upper) (a .lower)) (a .energy) (c .if1 .taken))
 
 scaled-requires : tie.Need-scaled-requires
 scaled-requires c κs =
@@ -26,9 +20,8 @@ scaled-requires c κs =
       ),
     )
 
-returns-2 : tie.Need-returns-2
-unfolding scaledBy
-returns-2 c = rw (ne-eqb _ _ (c .before .if1 .left)) (c .scaled .ensures)
-
 pub scaled-by-spec : {M : Type 1} → statement M
-scaled-by-spec = tie.close (tie.spec returns scaled-requires returns-2)
+scaled-by-spec =
+    tie.close (tie.spec
+    (λ c. let a = c .before .args in sym (never-divided (ratio (a .upper) (a .lower)) (a .energy) (c .if1 .taken)))
+    scaled-requires (λ c. unfold scaledBy in rw (ne-eqb _ _ (c .before .if1 .left)) (c .scaled .ensures)))

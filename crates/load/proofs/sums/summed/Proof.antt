@@ -1,9 +1,7 @@
--- `load::sums::summed` meets its contract: the invariant is the sums over the groups so far.
--- Assumes nothing.
+-- `load::sums::summed` meets its contract: the invariant is the sums over the groups so far. Assumes nothing.
 use mathlib.Core.Path.{_≡_, refl, ap, _∙_}
 use Prim.Native.Nat.{_-_, _≤_}
-use native.Mathlib.Numerals.{add-one}
-use native.Mathlib.Omega.{arith}
+use native.Mathlib.{Numerals.add-one, Omega.arith}
 use borrow.Author.Needs.{needs}
 use Rattle.load_rules.specs.Factors.{sumTo}
 use Rattle.load.specs.InnerSteps.{groupAt, sumsOf, addedTo}
@@ -16,10 +14,6 @@ Inv-loop groups s₀ g₀ s g = (g ≤ 18) × (s ≡ sumsOf (groupAt groups) g)
 
 abbrev μ-loop : tie.MeasureT-loop
 μ-loop groups s₀ g₀ s g = 18 - g
-
-loop-holds : tie.Need-loop-holds Inv-loop μ-loop
-unfolding sumsOf sumTo
-loop-holds c = (omega arith, refl)
 
 added-to-requires : tie.Need-added-to-requires Inv-loop μ-loop
 added-to-requires c κs =
@@ -42,14 +36,5 @@ returns c =
 
 pub summed-spec : {M : Type 1} → statement M
 summed-spec =
-    tie.close
-    (tie.spec
-    Inv-loop
-    μ-loop
-    loop-holds
-    (λ c κs. search needs)
-    added-to-requires
-    (λ c. search needs)
-    (λ c. search needs)
-    loop-again
-    returns)
+    tie.close (tie.spec Inv-loop μ-loop (λ c. unfold sumsOf sumTo in (omega arith, refl)) (λ c κs. search needs)
+    added-to-requires (λ c. search needs) (λ c. search needs) loop-again returns)

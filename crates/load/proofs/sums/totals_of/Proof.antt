@@ -1,24 +1,12 @@
--- `load::sums::totals_of` meets its contract: the total and its mean fit.
--- Assumes nothing.
+-- `load::sums::totals_of` meets its contract: the total and its mean fit. Assumes nothing.
 use mathlib.Core.Path.{refl}
 use Prim.Native.Nat.{_+_, _≤_}
 use native.Mathlib.Omega.{arith}
 use Rattle.level.specs.Limits.{maxTotal}
 use Rattle.load.specs.InnerSteps.{totalsOf}
-use Rattle.load.proofs.BoundLaws.{total-le, mean-le}
-use Rattle.load.proofs.SumsLaws.{some-days}
-use borrow.Author.Needs.{needs}
+use Rattle.load.proofs.{BoundLaws.total-le, BoundLaws.mean-le, SumsLaws.some-days}
 use Rattle.load.proofs.sums.totals_of.Statement.{statement}
 use Rattle.load.proofs.sums.totals_of.Tie as tie
-
-add-scaled-by : tie.Need-add-scaled-by
-add-scaled-by c = let s : tie.Start = search in omega (arith, s .pre .0 .movements)
-
-scaled-by-requires : tie.Need-scaled-by-requires
-scaled-by-requires c κs = let s : tie.Start = search in s .pre .0
-
-mean-requires : tie.Need-mean-requires
-mean-requires c κs = let s : tie.Start = search in omega (arith, some-days (s .args .days) (s .pre .1))
 
 level-of-requires : tie.Need-level-of-requires
 level-of-requires c κs =
@@ -37,10 +25,7 @@ returns c =
 
 pub totals-of-spec : {M : Type 1} → statement M
 totals-of-spec =
-    tie.close
-    (tie.spec
-    add-scaled-by
-    scaled-by-requires
-    mean-requires
-    level-of-requires
+    tie.close (tie.spec (λ c. let s : tie.Start = search in omega (arith, s .pre .0 .movements))
+    (λ c κs. let s : tie.Start = search in s .pre .0)
+    (λ c κs. let s : tie.Start = search in omega (arith, some-days (s .args .days) (s .pre .1))) level-of-requires
     returns)

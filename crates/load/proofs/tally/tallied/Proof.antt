@@ -1,14 +1,12 @@
 -- `load::tally::tallied` meets its contract: the invariant is the table of the first rows. A sound book says that the
--- next row fits.
--- Assumes nothing.
+-- next row fits. Assumes nothing.
 use mathlib.Core.Path.{_≡_, sym, ap, subst, _∙_}
 use Prim.Native.Nat.{_-_, _≤_}
 use native.Mathlib.Omega.{arith}
 use lib.ListN.{length, getD}
 use borrow.Author.Needs.{needs}
 use Rattle.book_rules.specs.Columns.{Book, bookOf, bookNow}
-use Rattle.load_rules.specs.Shares.{sharesTo, bookShares}
-use Rattle.load_rules.specs.Tally.{tally}
+use Rattle.load_rules.specs.{Shares.sharesTo, Shares.bookShares, Tally.tally}
 use Rattle.load.specs.InnerSteps.{table, groupAt, withGroup, RoomForOne}
 use Rattle.load.proofs.RowLaws.{Row, row-at, row-next}
 use Rattle.load.proofs.tally.tallied.Statement.{statement}
@@ -34,34 +32,6 @@ row : (c : tie.In-loop Inv-loop μ-loop)
 row c =
     row-at (entry c .args .points) (entry c .args .point) (book (entry c)) (entry c .pre .1 .0) (entry c .pre .1 .1)
     (c .before .loop .i) (c .loop-test .taken)
-
-loop-holds : tie.Need-loop-holds Inv-loop μ-loop
-unfolding sharesTo
-loop-holds c = (omega arith, c .before .before .before .before .pre .0 .0)
-
-shared-slice-read-group : tie.Need-shared-slice-read-group Inv-loop μ-loop
-shared-slice-read-group c = row (c .before) .in-groups
-
-mul-at : tie.Need-mul-at Inv-loop μ-loop
-mul-at c = omega (arith, row (c .before) .in-levels, entry (c .before) .good)
-
-add-at : tie.Need-add-at Inv-loop μ-loop
-add-at c = omega (arith, row (c .before) .in-levels, entry (c .before) .good)
-
-shared-slice-read-with-row-2 : tie.Need-shared-slice-read-with-row-2 Inv-loop μ-loop
-shared-slice-read-with-row-2 c =
-    let turn : tie.In-loop Inv-loop μ-loop = search in
-    row turn .in-marks
-
-mul-with-row-3 : tie.Need-mul-with-row-3 Inv-loop μ-loop
-mul-with-row-3 c =
-    let turn : tie.In-loop Inv-loop μ-loop = search in
-    omega (arith, row turn .in-levels, entry turn .good)
-
-shared-slice-read-with-row-3 : tie.Need-shared-slice-read-with-row-3 Inv-loop μ-loop
-shared-slice-read-with-row-3 c =
-    let turn : tie.In-loop Inv-loop μ-loop = search in
-    row turn .in-levels
 
 with-row-requires : tie.Need-with-row-requires Inv-loop μ-loop
 unfolding groupAt
@@ -100,36 +70,18 @@ returns c =
 
 pub tallied-spec : {M : Type 1} → statement M
 tallied-spec =
-    tie.close
-    (tie.spec
-    Inv-loop
-    μ-loop
-    loop-holds
-    (λ c. search needs)
-    shared-slice-read-group
-    mul-at
-    add-at
-    (λ c. omega (arith, row (c .before) .group<))
-    (λ c. omega (arith, row (c .before) .group<))
-    (λ c. omega (arith, row (c .before) .group<))
-    (λ c. omega (arith, row (c .before) .group<))
-    (λ c. omega (arith, row (c .before) .group<))
-    (λ c. omega (arith, row (c .before) .group<))
-    (λ c. omega (arith, row (c .before) .group<))
-    (λ c. search needs)
-    (λ c. search needs)
-    (λ c. search needs)
-    shared-slice-read-with-row-2
-    mul-with-row-3
-    shared-slice-read-with-row-3
-    with-row-requires
-    (λ c. omega (arith, row (turn c) .group<))
-    (λ c. omega (arith, row (turn c) .group<))
-    (λ c. omega (arith, row (turn c) .group<))
-    (λ c. omega (arith, row (turn c) .group<))
-    (λ c. omega (arith, row (turn c) .group<))
-    (λ c. omega (arith, row (turn c) .group<))
-    (λ c. search needs)
-    (λ c. search needs)
-    loop-again
-    returns)
+    tie.close (tie.spec Inv-loop μ-loop
+    (λ c. unfold sharesTo in (omega arith, c .before .before .before .before .pre .0 .0)) (λ c. search needs)
+    (λ c. row (c .before) .in-groups) (λ c. omega (arith, row (c .before) .in-levels, entry (c .before) .good))
+    (λ c. omega (arith, row (c .before) .in-levels, entry (c .before) .good))
+    (λ c. omega (arith, row (c .before) .group<)) (λ c. omega (arith, row (c .before) .group<))
+    (λ c. omega (arith, row (c .before) .group<)) (λ c. omega (arith, row (c .before) .group<))
+    (λ c. omega (arith, row (c .before) .group<)) (λ c. omega (arith, row (c .before) .group<))
+    (λ c. omega (arith, row (c .before) .group<)) (λ c. search needs) (λ c. search needs) (λ c. search needs)
+    (λ c. let turn : tie.In-loop Inv-loop μ-loop = search in row turn .in-marks)
+    (λ c. let turn : tie.In-loop Inv-loop μ-loop = search in omega (arith, row turn .in-levels, entry turn .good))
+    (λ c. let turn : tie.In-loop Inv-loop μ-loop = search in row turn .in-levels) with-row-requires
+    (λ c. omega (arith, row (turn c) .group<)) (λ c. omega (arith, row (turn c) .group<))
+    (λ c. omega (arith, row (turn c) .group<)) (λ c. omega (arith, row (turn c) .group<))
+    (λ c. omega (arith, row (turn c) .group<)) (λ c. omega (arith, row (turn c) .group<)) (λ c. search needs)
+    (λ c. search needs) loop-again returns)

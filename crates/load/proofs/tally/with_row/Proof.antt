@@ -1,11 +1,9 @@
 -- `load::tally::with_row` meets its contract: by cases on identity and mark; the energy of a level in range is at most
--- 10^13.
--- Assumes nothing.
+-- 10^13. Assumes nothing.
 use mathlib.Core.Path.{_≡_, ap, _∙_}
 use Prim.Native.Nat.{_+_, _≤_}
 use native.Mathlib.Omega.{arith}
-use Rattle.level.specs.Limits.{maxWeighted}
-use Rattle.level.specs.Energy.{energyOf}
+use Rattle.level.specs.{Limits.maxWeighted, Energy.energyOf}
 use Rattle.load_rules.specs.Shares.{energyIn}
 use Rattle.load.proofs.MoreRows.{row-unused, row-missing, row-computed}
 use Rattle.load.proofs.RowLaws.{weighted-le, energy-in-small}
@@ -30,12 +28,6 @@ weighted : (c : tie.After-group-weight)
 weighted c =
     let s = c .before .before .before in
     rw (c .group-weight .ensures) (weighted-le _ (s .args .level) (s .pre .0 .2))
-
-add-energy : tie.Need-add-energy
-add-energy c = omega (arith, weighted c)
-
-energy-requires : tie.Need-energy-requires
-energy-requires c κs = let t = c .before .before .before .pre .1 in (weighted c, t .table-a, t .powers-of-ten)
 
 known-energy : (c : tie.After-energy)
     → c .energy .result ≡ energyIn (c .before .before .before .before .args .group)
@@ -67,14 +59,7 @@ returns-3 c =
 
 pub with-row-spec : {M : Type 1} → statement M
 with-row-spec =
-    tie.close
-    (tie.spec
-    returns
-    (λ c. search needs)
-    returns-2
-    (λ c κs. search needs)
-    add-energy
-    energy-requires
-    (λ c. search needs)
-    add-t13
-    returns-3)
+    tie.close (tie.spec returns (λ c. search needs) returns-2 (λ c κs. search needs)
+    (λ c. omega (arith, weighted c))
+    (λ c κs. let t = c .before .before .before .pre .1 in (weighted c, t .table-a, t .powers-of-ten))
+    (λ c. search needs) add-t13 returns-3)

@@ -1,11 +1,9 @@
 -- `mapping::edge::along_edge` meets its contract. Assumes nothing.
-use mathlib.Core.Path.{_≡_, ap, subst, _∙_}
-use mathlib.Core.Bool.{true}
+use mathlib.Core.{Path._≡_, Path.ap, Path.subst, Path._∙_, Bool.true}
 use native.Mathlib.Omega.{arith}
 use denote.Ref.{now}
 use Rattle.network.specs.declared.Edge.{Edge}
-use Rattle.network.specs.Edges.{WithinEdge}
-use Rattle.network.specs.Crossed.{crossedEdge}
+use Rattle.network.specs.{Edges.WithinEdge, Crossed.crossedEdge}
 use Rattle.mapping.specs.declared.Crossing.the-variants.{AlongHorizontal, AlongVertical}
 use Rattle.network.proofs.Astride.{astride}
 use borrow.Author.Needs.{needs}
@@ -72,17 +70,5 @@ returns-2 c = rw (c .before .before .before .before .e2 .given .1)
 
 pub along-edge-spec : {M : Type 1} → statement M
 along-edge-spec =
-    tie.close
-    (tie.spec
-    (λ c. search needs)
-    level-requires
-    add-level
-    level-requires-2
-    along-requires
-    (λ c. search needs)
-    level-requires-3
-    add-level-2
-    level-requires-4
-    along-requires-2
-    returns
-    returns-2)
+    tie.close (tie.spec (λ c. search needs) level-requires add-level level-requires-2 along-requires
+    (λ c. search needs) level-requires-3 add-level-2 level-requires-4 along-requires-2 returns returns-2)

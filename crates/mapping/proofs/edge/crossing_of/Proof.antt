@@ -1,15 +1,12 @@
 -- `mapping::edge::crossing_of` meets its contract. Assumes nothing.
-use mathlib.Core.Path.{_≡_, sym, subst, _∙_}
-use mathlib.Core.Bool.{true}
+use mathlib.Core.{Path._≡_, Path.sym, Path.subst, Path._∙_, Bool.true}
 use Prim.Native.Nat.{_<_}
 use native.Mathlib.Omega.{arith}
-use borrow.Author.Tests.{lt-ltb, le-ltb}
+use borrow.Author.{Tests.lt-ltb, Tests.le-ltb, Needs.needs}
 use denote.Ref.{now}
 use Rattle.network.specs.declared.Edge.{Edge}
-use Rattle.network.specs.Edges.{edges, WithinEdge}
-use Rattle.network.specs.Crossed.{crossedEdge}
+use Rattle.network.specs.{Edges.edges, Edges.WithinEdge, Crossed.crossedEdge}
 use Rattle.network.proofs.Numbers.{edge-within}
-use borrow.Author.Needs.{needs}
 use Rattle.mapping.proofs.edge.crossing_of.Statement.{statement}
 use Rattle.mapping.proofs.edge.crossing_of.Tie as tie
 
@@ -42,9 +39,6 @@ returns c =
     )
     (c .along-edge .ensures ∙ rw (c .before .edge-at .ensures))
 
-returns-2 : tie.Need-returns-2
-returns-2 c = rw (lt-ltb _ _ (inside (c .before .before)), sym (c .before .crossed-at .ensures) ∙ c .if2 .left)
-
 returns-3 : tie.Need-returns-3
 returns-3 c =
     let a = start (c .before) .args in
@@ -53,14 +47,7 @@ returns-3 c =
 
 pub crossing-of-spec : {M : Type 1} → statement M
 crossing-of-spec =
-    tie.close
-    (tie.spec
-    (λ c. search needs)
-    (λ c. search needs)
-    (λ c κs. search needs)
-    (λ c κs. search needs)
-    (λ c κs. search needs)
-    along-edge-requires
-    returns
-    returns-2
+    tie.close (tie.spec (λ c. search needs) (λ c. search needs) (λ c κs. search needs) (λ c κs. search needs)
+    (λ c κs. search needs) along-edge-requires returns
+    (λ c. rw (lt-ltb _ _ (inside (c .before .before)), sym (c .before .crossed-at .ensures) ∙ c .if2 .left))
     returns-3)

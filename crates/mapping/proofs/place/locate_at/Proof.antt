@@ -2,13 +2,11 @@
 use mathlib.Core.Path.{sym, subst, _∙_}
 use Prim.Native.Nat.{_<_}
 use native.Mathlib.Omega.{arith}
-use borrow.Author.Tests.{le-ltb}
-use Rattle.network.specs.Limits.{maxSide}
-use Rattle.network.specs.Edges.{edges, WithinEdge}
+use borrow.Author.{Tests.le-ltb, Needs.needs}
+use Rattle.network.specs.{Limits.maxSide, Edges.edges, Edges.WithinEdge}
 use Rattle.network.proofs.Numbers.{edge-within}
 use Rattle.mapping.specs.Places.{rowOf, colOf}
 use Rattle.mapping.proofs.Ends.{ends-small}
-use borrow.Author.Needs.{needs}
 use Rattle.mapping.proofs.place.locate_at.Statement.{statement}
 use Rattle.mapping.proofs.place.locate_at.Tie as tie
 
@@ -23,12 +21,6 @@ small c =
     (subst (WithinEdge (f .columns) (f .rows)) (sym (c .edge-at .ensures))
     (edge-within (f .columns) (f .rows) (s .pre .sized .sides .wide) (s .args .n)
     (omega (arith, c .before .before .if1 .taken, c .before .before .before .edge-count .ensures))))
-
-cast-row : tie.Need-cast-row
-cast-row c = omega (arith, c .row-of .ensures, small (c .before) .0)
-
-cast-col : tie.Need-cast-col
-cast-col c = omega (arith, c .col-of .ensures, small (c .before .before) .1)
 
 locate-crossing-requires : tie.Need-locate-crossing-requires
 locate-crossing-requires c κs =
@@ -58,17 +50,7 @@ returns-2 c =
 
 pub locate-at-spec : {M : Type 1} → statement M
 locate-at-spec =
-    tie.close
-    (tie.spec
-    (λ c. search needs)
-    (λ c. search needs)
-    (λ c κs. search needs)
-    (λ c κs. search needs)
-    (λ c κs. search needs)
-    (λ c κs. search needs)
-    cast-row
-    (λ c κs. search needs)
-    cast-col
-    locate-crossing-requires
-    returns
-    returns-2)
+    tie.close (tie.spec (λ c. search needs) (λ c. search needs) (λ c κs. search needs) (λ c κs. search needs)
+    (λ c κs. search needs) (λ c κs. search needs) (λ c. omega (arith, c .row-of .ensures, small (c .before) .0))
+    (λ c κs. search needs) (λ c. omega (arith, c .col-of .ensures, small (c .before .before) .1))
+    locate-crossing-requires returns returns-2)

@@ -2,14 +2,11 @@
 -- Assumes nothing.
 use mathlib.Core.Path.{ap, _∙_}
 use borrow.Author.Needs.{needs}
-use Rattle.movement.specs.Period.{weightOf}
-use Rattle.movement.specs.Group.{groupPeriod}
+use Rattle.movement.specs.{Period.weightOf, Group.groupPeriod}
 use Rattle.movement.proofs.core.group_weight.Statement.{statement}
 use Rattle.movement.proofs.core.group_weight.Tie as tie
 
-returns : tie.Need-returns
-unfolding groupPeriod
-returns c = c .weight .ensures ∙ ap weightOf (c .before .numbered .ensures)
-
 pub group-weight-spec : {M : Type 1} → statement M
-group-weight-spec = tie.close (tie.spec (λ c κs. search needs) (λ c κs. search needs) returns)
+group-weight-spec =
+    tie.close (tie.spec (λ c κs. search needs) (λ c κs. search needs)
+    (λ c. unfold groupPeriod in c .weight .ensures ∙ ap weightOf (c .before .numbered .ensures)))

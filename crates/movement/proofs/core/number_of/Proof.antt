@@ -1,19 +1,10 @@
--- `movement::core::number_of` meets its contract: each number is below its count, so the sum fits.
--- Assumes nothing.
-use Prim.Native.Nat.{_<_}
+-- `movement::core::number_of` meets its contract: each number is below its count, so the sum fits. Assumes nothing.
 use native.Mathlib.Omega.{arith}
 use borrow.Author.Needs.{needs}
-use Rattle.movement.specs.Limits.{typeCount, kindCount}
 use Rattle.movement.specs.Group.{groupNumber}
 use Rattle.movement.proofs.Numbers.{aircraft-below, kind-below, period-below}
 use Rattle.movement.proofs.core.number_of.Statement.{statement}
 use Rattle.movement.proofs.core.number_of.Tie as tie
-
-mul-result : tie.Need-mul-result
-mul-result c = omega (arith, aircraft-below (c .before .args .aircraft))
-
-mul-result-2 : tie.Need-mul-result-2
-mul-result-2 c = omega (arith, kind-below (c .before .before .args .kind))
 
 add-result : tie.Need-add-result
 add-result c =
@@ -24,19 +15,8 @@ add-result-2 c =
     let a = c .before .before .before .args in
     omega (arith, aircraft-below (a .aircraft), kind-below (a .kind), period-below (a .period))
 
-returns : tie.Need-returns
-unfolding groupNumber
-returns c = omega arith
-
 pub number-of-spec : {M : Type 1} → statement M
 number-of-spec =
-    tie.close
-    (tie.spec
-    (λ c κs. search needs)
-    mul-result
-    (λ c κs. search needs)
-    mul-result-2
-    add-result
-    (λ c κs. search needs)
-    add-result-2
-    returns)
+    tie.close (tie.spec (λ c κs. search needs) (λ c. omega (arith, aircraft-below (c .before .args .aircraft)))
+    (λ c κs. search needs) (λ c. omega (arith, kind-below (c .before .before .args .kind))) add-result
+    (λ c κs. search needs) add-result-2 (λ c. unfold groupNumber in omega arith))

@@ -1,20 +1,10 @@
 -- `movement::rules::fields_fit` meets its contract: the tests that lead to each `return` are those of `fieldsFit`, in
--- its order.
--- Assumes nothing.
+-- its order. Assumes nothing.
 use mathlib.Core.Path.{_∙_}
-use borrow.Author.Needs.{needs}
-use borrow.Author.Tests.{lt-ltb, le-ltb, le-leb, lt-leb}
+use borrow.Author.{Needs.needs, Tests.lt-ltb, Tests.le-ltb, Tests.le-leb, Tests.lt-leb}
 use Rattle.movement.specs.Rules.{fieldsFit}
 use Rattle.movement.proofs.rules.fields_fit.Statement.{statement}
 use Rattle.movement.proofs.rules.fields_fit.Tie as tie
-
-returns : tie.Need-returns
-unfolding fieldsFit
-returns c = simp (le-ltb _ _ (c .if1 .taken))
-
-returns-2 : tie.Need-returns-2
-unfolding fieldsFit
-returns-2 c = simp (lt-ltb _ _ (c .before .if1 .left), le-ltb _ _ (c .if2 .taken))
 
 returns-3 : tie.Need-returns-3
 unfolding fieldsFit
@@ -46,5 +36,6 @@ returns-5 c =
 
 pub fields-fit-spec : {M : Type 1} → statement M
 fields-fit-spec =
-    tie.close
-    (tie.spec returns returns-2 returns-3 returns-4 (λ c κs. search needs) (λ c κs. search needs) returns-5)
+    tie.close (tie.spec (λ c. unfold fieldsFit in simp (le-ltb _ _ (c .if1 .taken)))
+    (λ c. unfold fieldsFit in simp (lt-ltb _ _ (c .before .if1 .left), le-ltb _ _ (c .if2 .taken))) returns-3
+    returns-4 (λ c κs. search needs) (λ c κs. search needs) returns-5)

@@ -1,6 +1,5 @@
 -- `network::core::crossed_at` meets its contract. Assumes nothing.
-use mathlib.Core.Path.{_≡_, refl, sym, ap, subst, _∙_}
-use native.Mathlib.Omega.{arith}
+use mathlib.Core.Path.{sym, subst, _∙_}
 use Rattle.network.specs.Edges.{WithinEdge}
 use Rattle.network.proofs.Numbers.{edge-within}
 use borrow.Author.Needs.{needs}
@@ -14,8 +13,7 @@ crossed-edge-requires c κs =
     (edge-within (s .args .nx) (s .args .ny) (s .pre .0 .sides .wide) (s .args .n) (s .pre .1)) in
     (s .pre .0, w)
 
-returns : tie.Need-returns
-returns c = c .crossed-edge .ensures ∙ rw (c .before .edge-at .ensures)
-
 pub crossed-at-spec : {M : Type 1} → statement M
-crossed-at-spec = tie.close (tie.spec (λ c κs. search needs) crossed-edge-requires returns)
+crossed-at-spec =
+    tie.close (tie.spec (λ c κs. search needs) crossed-edge-requires
+    (λ c. c .crossed-edge .ensures ∙ rw (c .before .edge-at .ensures)))

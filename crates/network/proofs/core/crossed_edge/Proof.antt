@@ -50,17 +50,5 @@ returns-2 c = rw (c .before .before .before .before .e2 .given .1) (c .differ2 .
 
 pub crossed-edge-spec : {M : Type 1} → statement M
 crossed-edge-spec =
-    tie.close
-    (tie.spec
-    (λ c. search needs)
-    inside-requires
-    add-inside
-    inside-requires-2
-    (λ c κs. search needs)
-    (λ c. search needs)
-    inside-requires-3
-    add-inside-2
-    inside-requires-4
-    (λ c κs. search needs)
-    returns
-    returns-2)
+    tie.close (tie.spec (λ c. search needs) inside-requires add-inside inside-requires-2 (λ c κs. search needs)
+    (λ c. search needs) inside-requires-3 add-inside-2 inside-requires-4 (λ c κs. search needs) returns returns-2)

@@ -3,8 +3,5 @@ use borrow.Author.Needs.{needs}
 use Rattle.network.proofs.core.inside.Statement.{statement}
 use Rattle.network.proofs.core.inside.Tie as tie
 
-returns : tie.Need-returns
-returns c = cc
-
 pub inside-spec : {M : Type 1} → statement M
-inside-spec = tie.close (tie.spec (λ c κs. search needs) returns)
+inside-spec = tie.close (tie.spec (λ c κs. search needs) (λ c. cc))

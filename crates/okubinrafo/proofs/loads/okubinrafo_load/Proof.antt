@@ -29,21 +29,6 @@ long s = length-load (s .args .points) (s .args .point)
 fine : (c : tie.Else1) → the-load (start (c .before)) .refused ≡ 0
 fine c = ap (λ (l : Load). l .refused) (sym (c .before .load-at .ensures)) ∙ c .if1 .left
 
-load-at-requires : tie.Need-load-at-requires
-load-at-requires c κs = search needs
-
-returns : tie.Need-returns
-returns c = refuse (ap (λ (l : Load). l .refused) (sym (c .before .load-at .ensures))) (c .if1 .taken)
-
-returns-2 : tie.Need-returns-2
-returns-2 c = lack (fine (c .before)) (omega (arith, long (start (c .before .before)), c .if2 .taken))
-
-put-numbers-requires : tie.Need-put-numbers-requires
-put-numbers-requires c κs = search needs
-
-same-length : tie.Need-same-length
-same-length c = search needs
-
 returns-3 : tie.Need-returns-3
 returns-3 c =
     let put = c .before .before in
@@ -55,11 +40,7 @@ returns-3 c =
 
 pub okubinrafo-load-spec : {M : Type 1} → statement M
 okubinrafo-load-spec =
-    tie.close
-    (tie.spec
-    load-at-requires
-    returns
-    returns-2
-    put-numbers-requires
-    same-length
-    returns-3)
+    tie.close (tie.spec (λ c κs. search needs)
+    (λ c. refuse (ap (λ (l : Load). l .refused) (sym (c .before .load-at .ensures))) (c .if1 .taken))
+    (λ c. lack (fine (c .before)) (omega (arith, long (start (c .before .before)), c .if2 .taken)))
+    (λ c κs. search needs) (λ c. search needs) returns-3)

@@ -16,28 +16,10 @@ verdict c =
     (bookNow (s .args .identities) (s .args .groups) (s .args .marks) (s .args .levels)) (s .args .days)
     (s .args .limit)
 
-verdict-at-requires : tie.Need-verdict-at-requires
-verdict-at-requires c κs = search needs
-
-enum-known-judged : tie.Need-enum-known-judged
-enum-known-judged c = search needs
-
-enum-known-judged-2 : tie.Need-enum-known-judged-2
-enum-known-judged-2 c = search needs
-
-number-requires : tie.Need-number-requires
-number-requires c κs = search needs
-
-put-number-requires : tie.Need-put-number-requires
-put-number-requires c κs = search needs
-
 returns : tie.Need-returns
 returns c =
     let judged = c .before .before .before in
     judged-refused (verdict judged) _ (sym (judged .verdict-at .ensures .answer) ∙ c .before .judged .given .1)
-
-same-length : tie.Need-same-length
-same-length c = search needs
 
 returns-2 : tie.Need-returns-2
 returns-2 c =
@@ -50,13 +32,5 @@ returns-2 c =
 
 pub okubinrafo-verdict-spec : {M : Type 1} → statement M
 okubinrafo-verdict-spec =
-    tie.close
-    (tie.spec
-    verdict-at-requires
-    enum-known-judged
-    enum-known-judged-2
-    number-requires
-    put-number-requires
-    returns
-    same-length
-    returns-2)
+    tie.close (tie.spec (λ c κs. search needs) (λ c. search needs) (λ c. search needs) (λ c κs. search needs)
+    (λ c κs. search needs) returns (λ c. search needs) returns-2)

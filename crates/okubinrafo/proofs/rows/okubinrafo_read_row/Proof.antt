@@ -6,37 +6,10 @@ use borrow.Author.Needs.{needs}
 use Rattle.okubinrafo.proofs.rows.okubinrafo_read_row.Statement.{statement}
 use Rattle.okubinrafo.proofs.rows.okubinrafo_read_row.Tie as tie
 
-row-fault-requires : tie.Need-row-fault-requires
-row-fault-requires c κs = search needs
-
-returns : tie.Need-returns
-returns c = short-first (c .before .if1 .taken) (c .row-fault .ensures)
-
-read-row-requires : tie.Need-read-row-requires
-read-row-requires c κs = search needs
-
-enum-known-read : tie.Need-enum-known-read
-enum-known-read c = search needs
-
-enum-known-read-2 : tie.Need-enum-known-read-2
-enum-known-read-2 c = search needs
-
-put-fields-requires : tie.Need-put-fields-requires
-put-fields-requires c κs = search needs
-
-same-length : tie.Need-same-length
-same-length c = search needs
-
 returns-2 : tie.Need-returns-2
 returns-2 c =
     let read = c .before .before .before .before .before in
     row-refused _ _ _ (read .read-row .ensures) _ (read .before .before .if1 .left) (c .before .read .given .1)
-
-same-length-2 : tie.Need-same-length-2
-same-length-2 c = search needs
-
-same-length-3 : tie.Need-same-length-3
-same-length-3 c = search needs
 
 returns-3 : tie.Need-returns-3
 returns-3 c =
@@ -48,16 +21,6 @@ returns-3 c =
 
 pub okubinrafo-read-row-spec : {M : Type 1} → statement M
 okubinrafo-read-row-spec =
-    tie.close
-    (tie.spec
-    row-fault-requires
-    returns
-    read-row-requires
-    enum-known-read
-    enum-known-read-2
-    put-fields-requires
-    same-length
-    returns-2
-    same-length-2
-    same-length-3
-    returns-3)
+    tie.close (tie.spec (λ c κs. search needs) (λ c. short-first (c .before .if1 .taken) (c .row-fault .ensures))
+    (λ c κs. search needs) (λ c. search needs) (λ c. search needs) (λ c κs. search needs) (λ c. search needs)
+    returns-2 (λ c. search needs) (λ c. search needs) returns-3)

@@ -1,6 +1,5 @@
 -- `okubinrafo::rows::okubinrafo_write_row` meets its contract: not six fields, no room for the size, a refusal, or
--- a row.
--- Assumes nothing.
+-- a row. Assumes nothing.
 use native.Mathlib.Omega.{arith}
 use Rattle.room.proofs.Answers.{fault-two, short-second}
 use Rattle.okubinrafo.proofs.Written.{wrong-count, of-numbers, write-refused, write-done}
@@ -13,32 +12,11 @@ returns c =
     let a = c .before .before .before .before .before .args in
     fault-two (wrong-count (a .points) (a .fields .now) (a .levels .now) (c .if1 .taken)) (λ z. omega arith)
 
-fields-from-requires : tie.Need-fields-from-requires
-fields-from-requires c κs = search needs
-
-unwritten-requires : tie.Need-unwritten-requires
-unwritten-requires c κs = search needs
-
 returns-2 : tie.Need-returns-2
 returns-2 c =
     let made = c .before .before in
     of-numbers _ _ _ (made .before .if1 .left) (made .fields-from .ensures)
     (short-second (c .before .if2 .taken) (c .unwritten .ensures))
-
-write-row-requires : tie.Need-write-row-requires
-write-row-requires c κs = search needs
-
-enum-known-written : tie.Need-enum-known-written
-enum-known-written c = search needs
-
-enum-known-written-2 : tie.Need-enum-known-written-2
-enum-known-written-2 c = search needs
-
-slice-write-size : tie.Need-slice-write-size
-slice-write-size c = search needs
-
-same-length : tie.Need-same-length
-same-length c = search needs
 
 returns-3 : tie.Need-returns-3
 returns-3 c =
@@ -46,12 +24,6 @@ returns-3 c =
     let made = row .before .before .before in
     of-numbers _ _ _ (made .before .if1 .left) (made .fields-from .ensures)
     (write-refused _ _ _ _ (row .write-row .ensures) _ (row .before .before .if2 .left) (c .before .written .given .1))
-
-same-length-2 : tie.Need-same-length-2
-same-length-2 c = search needs
-
-same-length-3 : tie.Need-same-length-3
-same-length-3 c = search needs
 
 returns-4 : tie.Need-returns-4
 returns-4 c =
@@ -62,18 +34,6 @@ returns-4 c =
 
 pub okubinrafo-write-row-spec : {M : Type 1} → statement M
 okubinrafo-write-row-spec =
-    tie.close
-    (tie.spec
-    returns
-    fields-from-requires
-    unwritten-requires
-    returns-2
-    write-row-requires
-    enum-known-written
-    enum-known-written-2
-    slice-write-size
-    same-length
-    returns-3
-    same-length-2
-    same-length-3
-    returns-4)
+    tie.close (tie.spec returns (λ c κs. search needs) (λ c κs. search needs) returns-2 (λ c κs. search needs)
+    (λ c. search needs) (λ c. search needs) (λ c. search needs) (λ c. search needs) returns-3 (λ c. search needs)
+    (λ c. search needs) returns-4)

@@ -4,15 +4,6 @@ use borrow.Author.Needs.{needs}
 use Rattle.okubinrafo.proofs.rows.row_fault.Statement.{statement}
 use Rattle.okubinrafo.proofs.rows.row_fault.Tie as tie
 
-slice-aggregate-read-row : tie.Need-slice-aggregate-read-row
-slice-aggregate-read-row c = search needs
-
-read-row-requires : tie.Need-read-row-requires
-read-row-requires c κs = search needs
-
-enum-known-read : tie.Need-enum-known-read
-enum-known-read c = search needs
-
 enum-told : tie.Need-enum-told
 enum-told c = search needs
 
@@ -22,17 +13,8 @@ returns c =
     row-faulty _ _ _ (read .read-row .ensures) (c .before .read .given .1)
 
 returns-2 : tie.Need-returns-2
-returns-2 c =
-    let read = c .before .before .before in
-    row-fine _ _ _ (read .read-row .ensures) (c .enum-told .given .1)
+returns-2 c = let read = c .before .before .before in row-fine _ _ _ (read .read-row .ensures) (c .enum-told .given .1)
 
 pub row-fault-spec : {M : Type 1} → statement M
 row-fault-spec =
-    tie.close
-    (tie.spec
-    slice-aggregate-read-row
-    read-row-requires
-    enum-known-read
-    enum-told
-    returns
-    returns-2)
+    tie.close (tie.spec (λ c. search needs) (λ c κs. search needs) (λ c. search needs) enum-told returns returns-2)

@@ -4,15 +4,6 @@ use borrow.Author.Needs.{needs}
 use Rattle.okubinrafo.proofs.rows.unwritten.Statement.{statement}
 use Rattle.okubinrafo.proofs.rows.unwritten.Tie as tie
 
-slice-aggregate-write-row : tie.Need-slice-aggregate-write-row
-slice-aggregate-write-row c = search needs
-
-write-row-requires : tie.Need-write-row-requires
-write-row-requires c κs = search needs
-
-enum-known-written : tie.Need-enum-known-written
-enum-known-written c = search needs
-
 enum-told : tie.Need-enum-told
 enum-told c = search needs
 
@@ -28,11 +19,4 @@ returns-2 c =
 
 pub unwritten-spec : {M : Type 1} → statement M
 unwritten-spec =
-    tie.close
-    (tie.spec
-    slice-aggregate-write-row
-    write-row-requires
-    enum-known-written
-    enum-told
-    returns
-    returns-2)
+    tie.close (tie.spec (λ c. search needs) (λ c κs. search needs) (λ c. search needs) enum-told returns returns-2)

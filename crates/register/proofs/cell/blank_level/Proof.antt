@@ -4,9 +4,6 @@ use lib.ListN.{length}
 use Rattle.register.proofs.cell.blank_level.Statement.{statement}
 use Rattle.register.proofs.cell.blank_level.Tie as tie
 
-returns : tie.Need-returns
-returns c = rw (lt-leb 5 (c .before .args .k) (c .if1 .taken))
-
 returns-2 : tie.Need-returns-2
 returns-2 c = rw (
   le-leb 5 (c .before .before .args .k) (c .before .if1 .left),
@@ -20,9 +17,4 @@ returns-3 c = rw (
 )
 
 pub blank-level-spec : {M : Type 1} → statement M
-blank-level-spec =
-    tie.close
-    (tie.spec
-    returns
-    returns-2
-    returns-3)
+blank-level-spec = tie.close (tie.spec (λ c. rw (lt-leb 5 (c .before .args .k) (c .if1 .taken))) returns-2 returns-3)

@@ -2,13 +2,10 @@
 -- and the blank
 -- levels are noted, and here the next one starts. Assumes nothing.
 use Prim.Native.Nat.{_+_, _-_, _≤_, _<_}
-use mathlib.Core.Path.{_≡_, refl, sym, ap, _∙_}
-use mathlib.Core.List.{_++_}
-use mathlib.Core.Bool.{true, cond}
+use mathlib.Core.{Path._≡_, Path.refl, Path.sym, Path.ap, Path._∙_, List._++_, Bool.true, Bool.cond}
 use native.Mathlib.Omega.{arith}
 use lib.ListN.{length, drop, replicate, set, length-drop}
-use Rattle.text.specs.Field.{countOf, fieldOf}
-use Rattle.text.specs.Index.{every, many, listing}
+use Rattle.text.specs.{Field.countOf, Field.fieldOf, Index.every, Index.many, Index.listing}
 use Rattle.text.specs.Number.{isGot, valueOf}
 use Rattle.text.specs.declared.number.Number.the-variants.{Got, Off}
 use Rattle.text.proofs.Fields.{FieldAt, at-start, at-cut, at-next, at-last, up-length}
@@ -29,11 +26,6 @@ Inv-loop s table count values₀ blanks₀ at₀ k₀ values blanks at k =
 abbrev μ-loop : tie.MeasureT-loop
 μ-loop s table count values₀ blanks₀ at₀ k₀ values blanks at k = length s - at
 
-loop-holds : tie.Need-loop-holds Inv-loop μ-loop
-unfolding listing many
-loop-holds c =
-    (every-none _, at-start 44 _, refl, refl, omega (arith, c .before .pre .0))
-
 -- the field ends within the line
 within : (c : tie.After-field-end Inv-loop μ-loop)
     → c .field-end .result ≤ length (c .before .before .before .args .s .now)
@@ -46,9 +38,6 @@ within c =
       c .field-end .ensures,
       c .before .loop .inv .1 .within,
     )
-
-part-cell-end : tie.Need-part-cell-end Inv-loop μ-loop
-part-cell-end c = within c
 
 -- what was answered is the cell of this column
 read : (c : tie.After-cell Inv-loop μ-loop)
@@ -82,9 +71,6 @@ array-write-values c = omega (
   c .before .before .before .before .before .before .loop .inv .4,
   c .before .before .before .before .before .before .before .before .pre .1,
 )
-
-part-blank-level-end : tie.Need-part-blank-level-end Inv-loop μ-loop
-part-blank-level-end c = within (c .before .before .before .before .before)
 
 -- the value of this column, and whether it is a blank level
 got : (c : tie.After-blank-level Inv-loop μ-loop) → let at-loop =
@@ -169,9 +155,6 @@ returns-3 c =
     c .off-cells2 .ensures ∙ sym
     (cells-other (a .table) (a .s .now) (a .count) (λ e. omega (arith, next .count, c .before .if2 .taken)))
 
-add-at : tie.Need-add-at Inv-loop μ-loop
-add-at c = omega arith
-
 loop-less : tie.Need-loop-less Inv-loop μ-loop
 loop-less c =
     let at-if1 = c .before in
@@ -194,32 +177,10 @@ loop-again c =
 
 pub read-cells-spec : {M : Type 1} → statement M
 read-cells-spec =
-    tie.close
-    (tie.spec
-    Inv-loop
-    μ-loop
-    loop-holds
-    (λ c κs. search needs)
-    (λ c. search needs)
-    (λ c. search needs)
-    part-cell-end
-    (λ c κs. search needs)
-    (λ c. search needs)
-    (λ c. search needs)
-    (λ c κs. search needs)
-    returns
-    mul-values
-    array-write-values
-    (λ c. search needs)
-    (λ c. search needs)
-    part-blank-level-end
-    (λ c κs. search needs)
-    add-blanks
-    add-k
-    (λ c κs. search needs)
-    returns-2
-    (λ c κs. search needs)
-    returns-3
-    add-at
-    loop-less
-    loop-again)
+    tie.close (tie.spec Inv-loop μ-loop
+    (λ c. unfold listing many in (every-none _, at-start 44 _, refl, refl, omega (arith, c .before .pre .0)))
+    (λ c κs. search needs) (λ c. search needs) (λ c. search needs) (λ c. within c) (λ c κs. search needs)
+    (λ c. search needs) (λ c. search needs) (λ c κs. search needs) returns mul-values array-write-values
+    (λ c. search needs) (λ c. search needs) (λ c. within (c .before .before .before .before .before))
+    (λ c κs. search needs) add-blanks add-k (λ c κs. search needs) returns-2 (λ c κs. search needs) returns-3
+    (λ c. omega arith) loop-less loop-again)

@@ -2,18 +2,13 @@
 use Prim.Native.Nat.{_<_}
 use mathlib.Core.Path.{_≡_, sym, _∙_}
 use native.Mathlib.Omega.{arith}
-use borrow.Author.Tests.{eq-eqb, ne-eqb}
+use borrow.Author.{Tests.eq-eqb, Tests.ne-eqb, Needs.needs}
 use lib.ListN.{length, getD}
 use Rattle.register.specs.Clock.{timeOf, twoAt, clock}
 use Rattle.text.specs.declared.number.Number.the-variants.{Got, Off}
 use Rattle.register.proofs.Clocks.{two-under}
-use borrow.Author.Needs.{needs}
 use Rattle.register.proofs.clock.time.Statement.{statement}
 use Rattle.register.proofs.clock.time.Tie as tie
-
-returns : tie.Need-returns
-unfolding timeOf
-returns c = simp (ne-eqb (length (c .before .before .args .s .now)) 8 (c .if1 .taken))
 
 returns-2 : tie.Need-returns-2
 unfolding timeOf
@@ -86,18 +81,6 @@ small : (c : tie.After-known-told3) → let at-minute = c .before .before .befor
     (at-hour .hour .given .0 .0 < 24) × (at-minute .minute .given .0 .0 < 60) × (c .before .second .given .0 .0 < 60)
 small c = (two-under _ 0 24 _ (three c .0), two-under _ 3 60 _ (three c .1), two-under _ 6 60 _ (three c .2))
 
-mul-t13 : tie.Need-mul-t13
-mul-t13 c = omega (arith, small c .0, small c .1, small c .2)
-
-mul-t14 : tie.Need-mul-t14
-mul-t14 c = omega (arith, small c .0, small c .1, small c .2)
-
-add-t15 : tie.Need-add-t15
-add-t15 c = omega (arith, small c .0, small c .1, small c .2)
-
-add-t16 : tie.Need-add-t16
-add-t16 c = omega (arith, small c .0, small c .1, small c .2)
-
 returns-7 : tie.Need-returns-7
 returns-7 c =
     let earlier = c .before .before .before .before in
@@ -106,27 +89,11 @@ returns-7 c =
 
 pub time-spec : {M : Type 1} → statement M
 time-spec =
-    tie.close
-    (tie.spec
-    returns
-    (λ c. search needs)
-    returns-2
-    (λ c. search needs)
-    returns-3
-    (λ c κs. search needs)
-    (λ c. search needs)
-    (λ c. search needs)
-    returns-4
-    (λ c κs. search needs)
-    (λ c. search needs)
-    (λ c. search needs)
-    returns-5
-    (λ c κs. search needs)
-    (λ c. search needs)
-    (λ c. search needs)
-    returns-6
-    mul-t13
-    mul-t14
-    add-t15
-    add-t16
+    tie.close (tie.spec
+    (λ c. unfold timeOf in simp (ne-eqb (length (c .before .before .args .s .now)) 8 (c .if1 .taken)))
+    (λ c. search needs) returns-2 (λ c. search needs) returns-3 (λ c κs. search needs) (λ c. search needs)
+    (λ c. search needs) returns-4 (λ c κs. search needs) (λ c. search needs) (λ c. search needs) returns-5
+    (λ c κs. search needs) (λ c. search needs) (λ c. search needs) returns-6
+    (λ c. omega (arith, small c .0, small c .1, small c .2)) (λ c. omega (arith, small c .0, small c .1, small c .2))
+    (λ c. omega (arith, small c .0, small c .1, small c .2)) (λ c. omega (arith, small c .0, small c .1, small c .2))
     returns-7)

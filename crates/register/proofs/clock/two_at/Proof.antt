@@ -2,11 +2,10 @@
 use Prim.Native.Nat.{_+_, _-_}
 use mathlib.Core.Path.{_≡_, sym, _∙_}
 use native.Mathlib.Omega.{arith}
-use borrow.Author.Tests.{lt-ltb, le-ltb}
+use borrow.Author.{Tests.lt-ltb, Tests.le-ltb, Needs.needs}
 use lib.ListN.{take, drop}
 use Rattle.text.specs.Number.{digitsOf}
 use Rattle.register.specs.Clock.{twoAt}
-use borrow.Author.Needs.{needs}
 use Rattle.register.proofs.clock.two_at.Statement.{statement}
 use Rattle.register.proofs.clock.two_at.Tie as tie
 
@@ -17,10 +16,6 @@ two-of : (c : tie.After-digits)
 two-of c = let a = c .before .before .before .args in
     let e : a .at + 2 - a .at ≡ 2 = omega arith in
     c .digits .ensures ∙ rw e
-
-returns : tie.Need-returns
-unfolding twoAt
-returns c = let e = sym (two-of (c .before .before)) ∙ c .enum-told .given .1 in rw e
 
 returns-2 : tie.Need-returns-2
 unfolding twoAt
@@ -44,15 +39,7 @@ returns-3 c =
 
 pub two-at-spec : {M : Type 1} → statement M
 two-at-spec =
-    tie.close
-    (tie.spec
-    (λ c. search needs)
-    (λ c. search needs)
-    (λ c. search needs)
-    (λ c. search needs)
-    (λ c κs. search needs)
-    (λ c. search needs)
-    (λ c. search needs)
-    returns
-    returns-2
+    tie.close (tie.spec (λ c. search needs) (λ c. search needs) (λ c. search needs) (λ c. search needs)
+    (λ c κs. search needs) (λ c. search needs) (λ c. search needs)
+    (λ c. unfold twoAt in let e = sym (two-of (c .before .before)) ∙ c .enum-told .given .1 in rw e) returns-2
     returns-3)

@@ -2,11 +2,9 @@
 -- nothing.
 use Prim.Native.Nat.{_-_, _/_, _%_}
 use mathlib.Core.Path.{sym, _∙_}
-use borrow.Author.Tests.{lt-ltb, le-ltb, le-leb, lt-leb, eq-eqb, ne-eqb}
-use lib.ListN.{length}
-use lib.Seq.{length-take-le}
+use borrow.Author.{Tests.lt-ltb, Tests.le-ltb, Tests.le-leb, Tests.lt-leb, Tests.eq-eqb, Tests.ne-eqb, Needs.needs}
+use lib.{ListN.length, Seq.length-take-le}
 use Rattle.register.specs.Header.{headerOf}
-use borrow.Author.Needs.{needs}
 use Rattle.register.proofs.header.header_points.Statement.{statement}
 use Rattle.register.proofs.header.header_points.Tie as tie
 
@@ -22,10 +20,7 @@ unfolding headerOf
 returns-2 c =
     let a = c .before .before .before .before .args in
     let n = length (a .s .now) in
-    rw (
-      lt-ltb (a .lead) n (c .before .if1 .left),
-      lt-leb n (length (a .full .now)) (c .if2 .taken),
-    )
+    rw (lt-ltb (a .lead) n (c .before .if1 .left), lt-leb n (length (a .full .now)) (c .if2 .taken))
 
 returns-3 : tie.Need-returns-3
 unfolding headerOf
@@ -49,9 +44,6 @@ returns-4 c =
       eq-eqb ((n - a .lead) % 3) 0 (c .before .if3 .left),
       lt-leb ((n - a .lead) / 3) 8 (c .if4 .taken),
     )
-
-slice-aggregate-same-text : tie.Need-slice-aggregate-same-text
-slice-aggregate-same-text c = sym (length-take-le _ _ (c .before .before .before .if2 .left))
 
 returns-5 : tie.Need-returns-5
 unfolding headerOf
@@ -87,16 +79,6 @@ returns-6 c =
 
 pub header-points-spec : {M : Type 1} → statement M
 header-points-spec =
-    tie.close
-    (tie.spec
-    returns
-    returns-2
-    (λ c. search needs)
-    returns-3
-    (λ c. search needs)
-    returns-4
-    slice-aggregate-same-text
-    (λ c κs. search needs)
-    (λ c. search needs)
-    returns-5
-    returns-6)
+    tie.close (tie.spec returns returns-2 (λ c. search needs) returns-3 (λ c. search needs) returns-4
+    (λ c. sym (length-take-le _ _ (c .before .before .before .if2 .left))) (λ c κs. search needs)
+    (λ c. search needs) returns-5 returns-6)

@@ -3,11 +3,10 @@
 use Prim.Native.Nat.{_-_, _≤_}
 use mathlib.Core.Path.{_≡_, sym, _∙_}
 use native.Mathlib.Omega.{arith}
-use borrow.Author.Tests.{eq-eqb, ne-eqb}
+use borrow.Author.{Tests.eq-eqb, Tests.ne-eqb, Needs.needs}
 use lib.ListN.{length, drop}
 use Rattle.register.specs.Letter.{placeOf, letterOf}
 use Rattle.register.proofs.Letters.{moved, moved-none, place-hit, place-miss, place-end}
-use borrow.Author.Needs.{needs}
 use Rattle.register.proofs.letter.letter.Statement.{statement}
 use Rattle.register.proofs.letter.letter.Tie as tie
 
@@ -16,11 +15,6 @@ Inv-loop t letters c i₀ i = (letterOf letters t ≡ moved i (placeOf c (drop i
 
 abbrev μ-loop : tie.MeasureT-loop
 μ-loop t letters c i₀ i = length letters - i
-
-returns : tie.Need-returns Inv-loop μ-loop
-unfolding letterOf
-returns c =
-    rw (ne-eqb (length (c .before .args .t .now)) 1 (c .if1 .taken))
 
 loop-holds : tie.Need-loop-holds Inv-loop μ-loop
 unfolding letterOf
@@ -38,22 +32,9 @@ loop-again c = (
   omega arith,
 )
 
-returns-3 : tie.Need-returns-3 Inv-loop μ-loop
-returns-3 c = sym (c .before .loop .inv .0 ∙ place-end _ _ _ (c .loop-test .left))
-
 pub letter-spec : {M : Type 1} → statement M
 letter-spec =
-    tie.close
-    (tie.spec
-    Inv-loop
-    μ-loop
-    returns
-    (λ c. search needs)
-    loop-holds
-    (λ c. search needs)
-    (λ c. search needs)
-    returns-2
-    (λ c. search needs)
-    (λ c. search needs)
-    loop-again
-    returns-3)
+    tie.close (tie.spec Inv-loop μ-loop
+    (λ c. unfold letterOf in rw (ne-eqb (length (c .before .args .t .now)) 1 (c .if1 .taken))) (λ c. search needs)
+    loop-holds (λ c. search needs) (λ c. search needs) returns-2 (λ c. search needs) (λ c. search needs) loop-again
+    (λ c. sym (c .before .loop .inv .0 ∙ place-end _ _ _ (c .loop-test .left))))

@@ -1,20 +1,17 @@
 -- `register::limits_csv::judged_limits` meets its contract: each test settles one of `judgedLimits`'. Assumes nothing.
 use mathlib.Core.Path.{_≡_, ap, _∙_}
 use native.Mathlib.Omega.{arith}
-use borrow.Author.Tests.{le-leb, lt-leb}
+use borrow.Author.{Tests.le-leb, Tests.lt-leb, Needs.needs}
 use lib.ListN.{getD}
 use Rattle.refusal.specs.Range.{allWithin}
 use Rattle.refusal.proofs.Laws.{passed, failed}
-use Rattle.register.specs.Row.{eightFrom}
-use Rattle.register.specs.LimitsFile.{judgedLimits}
-use borrow.Author.Needs.{needs}
+use Rattle.register.specs.{Row.eightFrom, LimitsFile.judgedLimits}
 use Rattle.register.proofs.limits_csv.judged_limits.Statement.{statement}
 use Rattle.register.proofs.limits_csv.judged_limits.Tie as tie
 
 returns : tie.Need-returns
 unfolding judgedLimits
-returns c =
-    c .refused-limits .ensures ∙ rw (lt-leb 1 (getD (c .before .before .args .t1) 0 0) (omega arith))
+returns c = c .refused-limits .ensures ∙ rw (lt-leb 1 (getD (c .before .before .args .t1) 0 0) (omega arith))
 
 returns-2 : tie.Need-returns-2
 unfolding judgedLimits
@@ -52,16 +49,5 @@ returns-4 c =
 
 pub judged-limits-spec : {M : Type 1} → statement M
 judged-limits-spec =
-    tie.close
-    (tie.spec
-    (λ c. search needs)
-    (λ c κs. search needs)
-    returns
-    (λ c κs. search needs)
-    returns-2
-    (λ c κs. search needs)
-    (λ c. search needs)
-    (λ c κs. search needs)
-    (λ c κs. search needs)
-    returns-3
-    returns-4)
+    tie.close (tie.spec (λ c. search needs) (λ c κs. search needs) returns (λ c κs. search needs) returns-2
+    (λ c κs. search needs) (λ c. search needs) (λ c κs. search needs) (λ c κs. search needs) returns-3 returns-4)

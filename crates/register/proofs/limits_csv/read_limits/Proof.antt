@@ -1,15 +1,12 @@
 -- `register::limits_csv::read_limits` meets its contract: the first line, and what follows its CRLF. Assumes nothing.
 use Prim.Native.Nat.{_+_, _-_, _≤_}
-use mathlib.Core.Path.{_≡_, sym, ap, _∙_}
-use mathlib.Core.List.{[]}
+use mathlib.Core.{Path._≡_, Path.sym, Path.ap, Path._∙_, List.[]}
 use native.Mathlib.Omega.{arith}
-use lib.ListN.{length, take, drop, getD}
-use lib.Seq.{length-take-le}
+use lib.{ListN.length, ListN.take, ListN.drop, ListN.getD, Seq.length-take-le}
 use Rattle.text.specs.Line.{firstLine, linesOf}
 use Rattle.text.specs.declared.number.Number.the-variants.{Got}
 use Rattle.text.proofs.Lines.{line-take, line-length, line-none, lines-first, lines-next, lines-rest}
-use Rattle.register.specs.Header.{headerOf, limitsHeader}
-use Rattle.register.specs.LimitsFile.{limitsOf, secondLimits}
+use Rattle.register.specs.{Header.headerOf, Header.limitsHeader, LimitsFile.limitsOf, LimitsFile.secondLimits}
 use Rattle.register.specs.declared.cell.Table.the-variants.{LimitsFile}
 use Rattle.register.proofs.Rows.{header-range, cells-empty}
 use borrow.Author.Needs.{needs}
@@ -22,9 +19,6 @@ end c = omega (arith, c .line-end .ensures)
 
 within : (c : tie.After-line-end) → c .line-end .result ≤ length (c .before .before .args .s .now)
 within c = omega (arith, end c, line-length (c .before .before .args .s .now))
-
-slice-aggregate-limits-points : tie.Need-slice-aggregate-limits-points
-slice-aggregate-limits-points c = sym (length-take-le _ _ (within (c .before)))
 
 -- its points are those of the first line's header
 points : (c : tie.After-limits-points)
@@ -40,9 +34,6 @@ returns : tie.Need-returns
 unfolding limitsOf
 returns c =
     c .refused-limits .ensures ∙ rw (sym (points (c .before .before .before)) ∙ c .before .enum-told .given .1)
-
-sub-if1 : tie.Need-sub-if1
-sub-if1 c = within (c .before .before .before .before .before)
 
 -- the header was read, so there is a line
 headed : (c : tie.After-known-told)
@@ -102,18 +93,7 @@ returns-3 c =
 
 pub read-limits-spec : {M : Type 1} → statement M
 read-limits-spec =
-    tie.close
-    (tie.spec
-    (λ c κs. search needs)
-    slice-aggregate-limits-points
-    (λ c κs. search needs)
-    (λ c. search needs)
-    (λ c. search needs)
-    (λ c κs. search needs)
-    returns
-    sub-if1
-    (λ c κs. search needs)
-    returns-2
-    (λ c. search needs)
-    second-limits-requires
-    returns-3)
+    tie.close (tie.spec (λ c κs. search needs) (λ c. sym (length-take-le _ _ (within (c .before))))
+    (λ c κs. search needs) (λ c. search needs) (λ c. search needs) (λ c κs. search needs) returns
+    (λ c. within (c .before .before .before .before .before)) (λ c κs. search needs) returns-2 (λ c. search needs)
+    second-limits-requires returns-3)

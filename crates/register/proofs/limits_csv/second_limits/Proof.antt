@@ -2,14 +2,12 @@
 use Prim.Native.Nat.{_+_, _-_, _≤_}
 use mathlib.Core.Path.{_≡_, ap, _∙_}
 use native.Mathlib.Omega.{arith}
-use borrow.Author.Tests.{le-leb, lt-leb, not-true, not-false}
+use borrow.Author.{Tests.le-leb, Tests.lt-leb, Tests.not-true, Tests.not-false, Needs.needs}
 use lib.ListN.{length, take, drop, length-drop}
 use Rattle.text.specs.Line.{firstLine}
 use Rattle.text.proofs.Lines.{line-take, line-length, lines-one}
-use Rattle.register.specs.Cell.{cellsOf}
-use Rattle.register.specs.LimitsFile.{secondLimits}
+use Rattle.register.specs.{Cell.cellsOf, LimitsFile.secondLimits}
 use Rattle.register.specs.declared.cell.Table.the-variants.{LimitsFile}
-use borrow.Author.Needs.{needs}
 use Rattle.register.proofs.limits_csv.second_limits.Statement.{statement}
 use Rattle.register.proofs.limits_csv.second_limits.Tie as tie
 
@@ -24,9 +22,6 @@ within c =
       c .line-end .ensures,
       c .before .before .pre .0,
     )
-
-part-read-cells-end : tie.Need-part-read-cells-end
-part-read-cells-end c = within c
 
 -- the cells are those of the second line
 second : (c : tie.After-read-cells) → let a = c .before .before .before .before .args in
@@ -46,9 +41,6 @@ returns c =
       ← second (c .before .before .before .before),
       not-true (c .before .before .before .before .read-cells .result .read) (c .before .if1 .taken),
     )
-
-sub-if2 : tie.Need-sub-if2
-sub-if2 c = within (c .before .before .before .before .before)
 
 returns-2 : tie.Need-returns-2
 unfolding secondLimits
@@ -94,18 +86,7 @@ returns-3 c =
 
 pub second-limits-spec : {M : Type 1} → statement M
 second-limits-spec =
-    tie.close
-    (tie.spec
-    (λ c κs. search needs)
-    (λ c. search needs)
-    (λ c. search needs)
-    part-read-cells-end
-    (λ c. search needs)
-    (λ c κs. search needs)
-    (λ c κs. search needs)
-    returns
-    sub-if2
-    (λ c κs. search needs)
-    returns-2
-    (λ c κs. search needs)
-    returns-3)
+    tie.close (tie.spec (λ c κs. search needs) (λ c. search needs) (λ c. search needs) (λ c. within c)
+    (λ c. search needs) (λ c κs. search needs) (λ c κs. search needs) returns
+    (λ c. within (c .before .before .before .before .before)) (λ c κs. search needs) returns-2
+    (λ c κs. search needs) returns-3)

@@ -1,8 +1,7 @@
 -- `register::row::cells_layout` meets its contract: each test settles one of `cellsLayout`'s. Assumes nothing.
 use mathlib.Core.Path.{_∙_}
-use borrow.Author.Tests.{eq-eqb, ne-eqb, not-true, not-false}
+use borrow.Author.{Tests.eq-eqb, Tests.ne-eqb, Tests.not-true, Tests.not-false, Needs.needs}
 use Rattle.register.specs.Row.{cellsLayout}
-use borrow.Author.Needs.{needs}
 use Rattle.register.proofs.row.cells_layout.Statement.{statement}
 use Rattle.register.proofs.row.cells_layout.Tie as tie
 
@@ -47,13 +46,5 @@ returns-4 c =
 
 pub cells-layout-spec : {M : Type 1} → statement M
 cells-layout-spec =
-    tie.close
-    (tie.spec
-    (λ c κs. search needs)
-    returns
-    (λ c κs. search needs)
-    returns-2
-    (λ c κs. search needs)
-    returns-3
-    (λ c κs. search needs)
-    returns-4)
+    tie.close (tie.spec (λ c κs. search needs) returns (λ c κs. search needs) returns-2 (λ c κs. search needs)
+    returns-3 (λ c κs. search needs) returns-4)

@@ -1,7 +1,6 @@
 -- `register::row::eight_from` meets its contract. The invariant: so many values are copied. Assumes nothing.
 use Prim.Native.Nat.{_+_, _-_, _≤_}
-use mathlib.Core.Path.{_≡_, refl, _∙_}
-use mathlib.Core.List.{_++_, append-nil}
+use mathlib.Core.{Path._≡_, Path.refl, Path._∙_, List._++_, List.append-nil}
 use native.Mathlib.Omega.{arith}
 use lib.ListN.{getD, replicate}
 use Rattle.text.specs.Index.{listing}
@@ -18,11 +17,6 @@ Inv-loop k values eight₀ i₀ eight i = (eight ≡ listing (λ j. getD values 
 abbrev μ-loop : tie.MeasureT-loop
 μ-loop k values eight₀ i₀ eight i = 8 - i
 
-loop-holds : tie.Need-loop-holds Inv-loop μ-loop
-unfolding listing
-loop-holds c =
-    (refl, omega arith)
-
 loop-again : tie.Need-loop-again Inv-loop μ-loop
 loop-again c = (
   rw (c .before .loop .inv .0)
@@ -33,23 +27,10 @@ loop-again c = (
 
 returns : tie.Need-returns Inv-loop μ-loop
 unfolding eightFrom
-returns c =
-    let e : c .before .loop .i ≡ 8 = omega arith in
-    rw e at (c .before .loop .inv .0) ∙ append-nil _
+returns c = let e : c .before .loop .i ≡ 8 = omega arith in rw e at (c .before .loop .inv .0) ∙ append-nil _
 
 pub eight-from-spec : {M : Type 1} → statement M
 eight-from-spec =
-    tie.close
-    (tie.spec
-    Inv-loop
-    μ-loop
-    loop-holds
-    (λ c. search needs)
-    (λ c. search needs)
-    (λ c. search needs)
-    (λ c. search needs)
-    (λ c. search needs)
-    (λ c. search needs)
-    (λ c. search needs)
-    loop-again
-    returns)
+    tie.close (tie.spec Inv-loop μ-loop (λ c. unfold listing in (refl, omega arith)) (λ c. search needs)
+    (λ c. search needs) (λ c. search needs) (λ c. search needs) (λ c. search needs) (λ c. search needs)
+    (λ c. search needs) loop-again returns)

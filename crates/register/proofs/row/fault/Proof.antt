@@ -5,11 +5,6 @@ use borrow.Author.Needs.{needs}
 use Rattle.register.proofs.row.fault.Statement.{statement}
 use Rattle.register.proofs.row.fault.Tie as tie
 
-returns : tie.Need-returns
-unfolding faultOf
-returns c =
-    rw (failed (c .before .fields-fit .ensures) (c .if1 .taken))
-
 returns-2 : tie.Need-returns-2
 unfolding faultOf
 returns-2 c =
@@ -38,11 +33,6 @@ returns-4 c =
 
 pub fault-spec : {M : Type 1} → statement M
 fault-spec =
-    tie.close
-    (tie.spec
-    (λ c κs. search needs)
-    returns
-    (λ c κs. search needs)
-    returns-2
-    returns-3
-    returns-4)
+    tie.close (tie.spec (λ c κs. search needs)
+    (λ c. unfold faultOf in rw (failed (c .before .fields-fit .ensures) (c .if1 .taken))) (λ c κs. search needs)
+    returns-2 returns-3 returns-4)

@@ -4,8 +4,7 @@ use mathlib.Core.Path.{_≡_, refl, _∙_}
 use native.Mathlib.Omega.{arith}
 use lib.ListN.{length, take, length-set}
 use Rattle.room.specs.Room.{put}
-use Rattle.room.proofs.Laws.{put-step, wrote-none}
-use Rattle.room.proofs.Answers.{front-put}
+use Rattle.room.proofs.{Laws.put-step, Laws.wrote-none, Answers.front-put}
 use borrow.Author.Needs.{needs}
 use Rattle.register.proofs.row.put_levels.Statement.{statement}
 use Rattle.register.proofs.row.put_levels.Tie as tie
@@ -16,9 +15,6 @@ Inv-loop out₀ n levels i₀ out i =
 
 abbrev μ-loop : tie.MeasureT-loop
 μ-loop out₀ n levels i₀ out i = n - i
-
-loop-holds : tie.Need-loop-holds Inv-loop μ-loop
-loop-holds c = (wrote-none _ 0 .bytes, omega arith, refl)
 
 loop-again : tie.Need-loop-again Inv-loop μ-loop
 loop-again c =
@@ -37,17 +33,6 @@ returns c =
 
 pub put-levels-spec : {M : Type 1} → statement M
 put-levels-spec =
-    tie.close
-    (tie.spec
-    Inv-loop
-    μ-loop
-    loop-holds
-    (λ c. search needs)
-    (λ c. search needs)
-    (λ c. search needs)
-    (λ c. search needs)
-    (λ c. search needs)
-    (λ c. search needs)
-    loop-again
-    (λ c. search needs)
-    returns)
+    tie.close (tie.spec Inv-loop μ-loop (λ c. (wrote-none _ 0 .bytes, omega arith, refl)) (λ c. search needs)
+    (λ c. search needs) (λ c. search needs) (λ c. search needs) (λ c. search needs) (λ c. search needs) loop-again
+    (λ c. search needs) returns)

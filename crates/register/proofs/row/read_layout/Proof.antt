@@ -2,22 +2,18 @@
 use Prim.Native.Nat.{_+_, _≤_}
 use mathlib.Core.Path.{_≡_, sym, ap, _∙_}
 use native.Mathlib.Omega.{arith}
-use borrow.Author.Tests.{le-leb, lt-leb}
-use lib.ListN.{length, take}
-use lib.Seq.{length-take-le}
+use borrow.Author.{Tests.le-leb, Tests.lt-leb, Needs.needs}
+use lib.{ListN.length, ListN.take, Seq.length-take-le}
 use Rattle.text.specs.Line.{bareLine}
 use Rattle.text.proofs.Lines.{bare-take, bare-most}
-use Rattle.register.specs.Cell.{cellsOf}
-use Rattle.register.specs.Row.{layoutOf, cellsLayout}
+use Rattle.register.specs.{Cell.cellsOf, Row.layoutOf, Row.cellsLayout}
 use Rattle.register.specs.declared.cell.Table.the-variants.{Register}
-use borrow.Author.Needs.{needs}
 use Rattle.register.proofs.row.read_layout.Statement.{statement}
 use Rattle.register.proofs.row.read_layout.Tie as tie
 
 returns : tie.Need-returns
 unfolding layoutOf
-returns c =
-    c .off-layout .ensures ∙ rw (lt-leb 1 (c .before .before .before .args .points) (omega arith))
+returns c = c .off-layout .ensures ∙ rw (lt-leb 1 (c .before .before .before .args .points) (omega arith))
 
 returns-2 : tie.Need-returns-2
 unfolding layoutOf
@@ -38,9 +34,6 @@ line : (c : tie.After-bare-length)
 line c = ap (λ n. take n (c .before .before .before .before .args .s .now)) (c .bare-length .ensures)
     ∙ bare-take (c .before .before .before .before .args .s .now)
 
-slice-aggregate-read-cells : tie.Need-slice-aggregate-read-cells
-slice-aggregate-read-cells c = sym (length-take-le _ _ (within (c .before)))
-
 returns-3 : tie.Need-returns-3
 unfolding layoutOf
 returns-3 c =
@@ -52,15 +45,6 @@ returns-3 c =
 
 pub read-layout-spec : {M : Type 1} → statement M
 read-layout-spec =
-    tie.close
-    (tie.spec
-    (λ c κs. search needs)
-    returns
-    (λ c κs. search needs)
-    returns-2
-    (λ c κs. search needs)
-    slice-aggregate-read-cells
-    (λ c. search needs)
-    (λ c κs. search needs)
-    (λ c κs. search needs)
-    returns-3)
+    tie.close (tie.spec (λ c κs. search needs) returns (λ c κs. search needs) returns-2 (λ c κs. search needs)
+    (λ c. sym (length-take-le _ _ (within (c .before)))) (λ c. search needs) (λ c κs. search needs)
+    (λ c κs. search needs) returns-3)

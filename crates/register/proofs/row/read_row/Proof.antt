@@ -1,12 +1,11 @@
 -- `register::row::read_row` meets its contract: the layout, then the rules and the room, and then the levels.
 -- Assumes nothing.
 use mathlib.Core.Path.{_≡_, sym, ap, _∙_}
-use borrow.Author.Tests.{eq-eqb, ne-eqb}
+use borrow.Author.{Tests.eq-eqb, Tests.ne-eqb, Needs.needs}
 use lib.ListN.{length, take}
 use Rattle.room.specs.Room.{front}
 use Rattle.register.specs.Row.{layoutOf, rowRefusal, fieldList}
 use Rattle.register.proofs.Rows.{row-none, layout-points}
-use borrow.Author.Needs.{needs}
 use Rattle.register.proofs.row.read_row.Statement.{statement}
 use Rattle.register.proofs.row.read_row.Tie as tie
 
@@ -48,11 +47,5 @@ returns-2 c =
 
 pub read-row-spec : {M : Type 1} → statement M
 read-row-spec =
-    tie.close
-    (tie.spec
-    (λ c κs. search needs)
-    (λ c κs. search needs)
-    returns
-    put-levels-requires
-    (λ c. search needs)
-    returns-2)
+    tie.close (tie.spec (λ c κs. search needs) (λ c κs. search needs) returns put-levels-requires
+    (λ c. search needs) returns-2)

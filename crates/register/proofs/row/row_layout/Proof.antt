@@ -4,19 +4,7 @@ use borrow.Author.Needs.{needs}
 use Rattle.register.proofs.row.row_layout.Statement.{statement}
 use Rattle.register.proofs.row.row_layout.Tie as tie
 
-returns : tie.Need-returns
-unfolding rowLayout
-returns c =
-    rw (c .eight-from .ensures)
-
 pub row-layout-spec : {M : Type 1} → statement M
 row-layout-spec =
-    tie.close
-    (tie.spec
-    (λ c κs. search needs)
-    (λ c. search needs)
-    (λ c. search needs)
-    (λ c. search needs)
-    (λ c. search needs)
-    (λ c. search needs)
-    returns)
+    tie.close (tie.spec (λ c κs. search needs) (λ c. search needs) (λ c. search needs) (λ c. search needs)
+    (λ c. search needs) (λ c. search needs) (λ c. unfold rowLayout in rw (c .eight-from .ensures)))

@@ -1,16 +1,10 @@
 -- `register::row::row_refusal` meets its contract: each test settles one of `rowRefusal`'s. Assumes nothing.
 use mathlib.Core.Path.{_≡_, ap, _∙_}
-use borrow.Author.Tests.{le-leb, lt-leb, eq-eqb, ne-eqb}
+use borrow.Author.{Tests.le-leb, Tests.lt-leb, Tests.eq-eqb, Tests.ne-eqb, Needs.needs}
 use Rattle.refusal.specs.Range.{allWithin}
 use Rattle.register.specs.Row.{faultOf, rowRefusal}
-use borrow.Author.Needs.{needs}
 use Rattle.register.proofs.row.row_refusal.Statement.{statement}
 use Rattle.register.proofs.row.row_refusal.Tie as tie
-
-returns : tie.Need-returns
-unfolding rowRefusal
-returns c =
-    rw (ne-eqb (c .before .before .args .l .refusal) 0 (c .if1 .taken))
 
 -- the rule that was found
 fault-of : (c : tie.After-fault)
@@ -56,12 +50,6 @@ returns-4 c =
 
 pub row-refusal-spec : {M : Type 1} → statement M
 row-refusal-spec =
-    tie.close
-    (tie.spec
-    returns
-    (λ c. search needs)
-    (λ c κs. search needs)
-    (λ c κs. search needs)
-    returns-2
-    returns-3
-    returns-4)
+    tie.close (tie.spec
+    (λ c. unfold rowRefusal in rw (ne-eqb (c .before .before .args .l .refusal) 0 (c .if1 .taken)))
+    (λ c. search needs) (λ c κs. search needs) (λ c κs. search needs) returns-2 returns-3 returns-4)

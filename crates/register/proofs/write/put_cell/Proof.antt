@@ -3,8 +3,7 @@ use Prim.Native.Nat.{_<_}
 use native.Mathlib.Omega.{arith}
 use Rattle.room.proofs.Laws.{wrote-none}
 use Rattle.text.proofs.Shown.{level-most, shown-width}
-use Rattle.register.specs.Cell.{shownCell}
-use Rattle.register.specs.InnerCell.{topOf}
+use Rattle.register.specs.{Cell.shownCell, InnerCell.topOf}
 use Rattle.register.proofs.Columns.{text-blank, text-marked, text-head, shown-level, top-level}
 use Rattle.register.proofs.Writes.{whole-column}
 use borrow.Author.Needs.{needs}
@@ -108,23 +107,6 @@ returns-6 c =
 
 pub put-cell-spec : {M : Type 1} → statement M
 put-cell-spec =
-    tie.close
-    (tie.spec
-    returns
-    put-level-requires
-    (λ c. search needs)
-    returns-2
-    (λ c. search needs)
-    put-letter-requires
-    (λ c. search needs)
-    returns-3
-    (λ c. search needs)
-    put-letter-requires-2
-    (λ c. search needs)
-    returns-4
-    put-time-requires
-    (λ c. search needs)
-    returns-5
-    put-whole-requires
-    (λ c. search needs)
-    returns-6)
+    tie.close (tie.spec returns put-level-requires (λ c. search needs) returns-2 (λ c. search needs)
+    put-letter-requires (λ c. search needs) returns-3 (λ c. search needs) put-letter-requires-2 (λ c. search needs)
+    returns-4 put-time-requires (λ c. search needs) returns-5 put-whole-requires (λ c. search needs) returns-6)

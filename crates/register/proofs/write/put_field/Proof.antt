@@ -1,9 +1,8 @@
 -- `register::write::put_field` meets its contract: the comma, and past it the column. Assumes nothing.
 use native.Mathlib.Omega.{arith}
-use borrow.Author.Tests.{eq-eqb, ne-eqb}
+use borrow.Author.{Tests.eq-eqb, Tests.ne-eqb, Needs.needs}
 use Rattle.room.proofs.Laws.{wrote-then}
 use Rattle.register.proofs.Columns.{text-most}
-use borrow.Author.Needs.{needs}
 use Rattle.register.proofs.write.put_field.Statement.{statement}
 use Rattle.register.proofs.write.put_field.Tie as tie
 
@@ -24,12 +23,5 @@ returns-2 c =
 
 pub put-field-spec : {M : Type 1} → statement M
 put-field-spec =
-    tie.close
-    (tie.spec
-    (λ c κs. search needs)
-    (λ c. search needs)
-    returns
-    (λ c κs. search needs)
-    (λ c κs. search needs)
-    (λ c. search needs)
-    returns-2)
+    tie.close (tie.spec (λ c κs. search needs) (λ c. search needs) returns (λ c κs. search needs)
+    (λ c κs. search needs) (λ c. search needs) returns-2)

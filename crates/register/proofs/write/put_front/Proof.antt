@@ -7,22 +7,12 @@ use Rattle.room.proofs.Writing.{wrote-leaves}
 use Rattle.register.proofs.write.put_front.Statement.{statement}
 use Rattle.register.proofs.write.put_front.Tie as tie
 
-slice-aggregate-put-text : tie.Need-slice-aggregate-put-text
-slice-aggregate-put-text c = sym (length-take-le _ _ (c .before .before .before .before .pre .0))
-
 put-text-requires : tie.Need-put-text-requires
 put-text-requires c κs = rw (length-take-le (c .before .before .before .before .args .n)
     (c .before .before .before .before .args .text .now) (c .before .before .before .before .pre .0))
     (omega (arith, c .before .before .before .before .pre .1))
 
-returns : tie.Need-returns
-returns c = wrote-leaves (c .before .before .put-text .ensures)
-
 pub put-front-spec : {M : Type 1} → statement M
 put-front-spec =
-    tie.close
-    (tie.spec
-    slice-aggregate-put-text
-    put-text-requires
-    (λ c. search needs)
-    returns)
+    tie.close (tie.spec (λ c. sym (length-take-le _ _ (c .before .before .before .before .pre .0))) put-text-requires
+    (λ c. search needs) (λ c. wrote-leaves (c .before .before .put-text .ensures)))

@@ -1,20 +1,14 @@
 -- `register::write::put_line` meets its contract. The invariant: the columns passed stand at the front. Assumes
 -- nothing.
 use Prim.Native.Nat.{_+_, _-_, _*_, _≤_, _<_}
-use mathlib.Core.Path.{_≡_, refl, _∙_}
-use mathlib.Core.List.{_++_}
+use mathlib.Core.{Path._≡_, Path.refl, Path._∙_, List._++_}
 use native.Mathlib.Omega.{arith}
 use lib.ListN.{length, length-append}
-use Rattle.text.specs.Field.{joinedBy}
-use Rattle.text.specs.Index.{listing}
+use Rattle.text.specs.{Field.joinedBy, Index.listing}
 use Rattle.room.specs.Room.{Wrote}
 use Rattle.room.proofs.Laws.{wrote-then, wrote-none}
-use Rattle.register.specs.Cell.{cellText}
-use Rattle.register.specs.InnerCell.{topOf}
-use Rattle.register.specs.Write.{textAt, showLine}
-use Rattle.register.specs.InnerCell.{commaAt}
-use Rattle.register.proofs.Columns.{text-most}
-use Rattle.register.proofs.Writes.{joined-more, comma-most}
+use Rattle.register.specs.{Cell.cellText, InnerCell.topOf, Write.textAt, Write.showLine, InnerCell.commaAt}
+use Rattle.register.proofs.{Columns.text-most, Writes.joined-more, Writes.comma-most}
 use borrow.Author.Needs.{needs}
 use Rattle.register.proofs.write.put_line.Statement.{statement}
 use Rattle.register.proofs.write.put_line.Tie as tie
@@ -26,11 +20,6 @@ Inv-loop out₀ f levels mark at₀ k₀ out at k =
 
 abbrev μ-loop : tie.MeasureT-loop
 μ-loop out₀ f levels mark at₀ k₀ out at k = 5 + length levels - k
-
-loop-holds : tie.Need-loop-holds Inv-loop μ-loop
-unfolding listing joinedBy
-loop-holds c =
-    (wrote-none _ 0, omega arith, omega arith, refl)
 
 -- the value of this column has a text
 below : (c : tie.After-value-at Inv-loop μ-loop) → c .value-at .result < topOf (c .before .before .loop .k)
@@ -87,16 +76,7 @@ returns c =
 
 pub put-line-spec : {M : Type 1} → statement M
 put-line-spec =
-    tie.close
-    (tie.spec
-    Inv-loop
-    μ-loop
-    loop-holds
-    (λ c. search needs)
-    (λ c κs. search needs)
-    put-field-requires
-    (λ c. search needs)
-    (λ c. search needs)
-    loop-again
-    (λ c. search needs)
-    returns)
+    tie.close (tie.spec Inv-loop μ-loop
+    (λ c. unfold listing joinedBy in (wrote-none _ 0, omega arith, omega arith, refl)) (λ c. search needs)
+    (λ c κs. search needs) put-field-requires (λ c. search needs) (λ c. search needs) loop-again
+    (λ c. search needs) returns)

@@ -1,16 +1,12 @@
 -- `register::write::put_row` meets its contract: the line, and past it the CRLF. Assumes nothing.
 use Prim.Native.Nat.{_+_}
-use mathlib.Core.Path.{_∙_}
-use mathlib.Core.List.{[], _∷_, _++_, append-assoc}
+use mathlib.Core.{Path._∙_, List.[], List._∷_, List._++_, List.append-assoc}
 use native.Mathlib.Omega.{arith}
 use lib.ListN.{length-append}
 use Rattle.room.proofs.Laws.{wrote-then}
 use Rattle.register.specs.Write.{showLine}
 use Rattle.register.proofs.write.put_row.Statement.{statement}
 use Rattle.register.proofs.write.put_row.Tie as tie
-
-put-line-requires : tie.Need-put-line-requires
-put-line-requires c κs = (c .before .before .before .pre .0, omega (arith, c .before .before .before .pre .1))
 
 put-byte-requires : tie.Need-put-byte-requires
 put-byte-requires c κs = omega (
@@ -59,10 +55,6 @@ returns c =
 
 pub put-row-spec : {M : Type 1} → statement M
 put-row-spec =
-    tie.close
-    (tie.spec
-    put-line-requires
-    put-byte-requires
-    put-byte-requires-2
-    same-length
-    returns)
+    tie.close (tie.spec
+    (λ c κs. (c .before .before .before .pre .0, omega (arith, c .before .before .before .pre .1))) put-byte-requires
+    put-byte-requires-2 same-length returns)

@@ -1,16 +1,10 @@
 -- `register::write::row_levels_fit` meets its contract. Assumes nothing.
 use mathlib.Core.Path.{_∙_}
-use borrow.Author.Tests.{eq-eqb, ne-eqb}
+use borrow.Author.{Tests.eq-eqb, Tests.ne-eqb, Needs.needs}
 use Rattle.refusal.proofs.Laws.{passed, failed}
 use Rattle.register.specs.Write.{rowLevelsFit}
-use borrow.Author.Needs.{needs}
 use Rattle.register.proofs.write.row_levels_fit.Statement.{statement}
 use Rattle.register.proofs.write.row_levels_fit.Tie as tie
-
-returns : tie.Need-returns
-unfolding rowLevelsFit
-returns c =
-    rw (failed (c .before .levels-fit .ensures) (c .if1 .taken))
 
 returns-2 : tie.Need-returns-2
 unfolding rowLevelsFit
@@ -32,10 +26,6 @@ returns-3 c =
 
 pub row-levels-fit-spec : {M : Type 1} → statement M
 row-levels-fit-spec =
-    tie.close
-    (tie.spec
-    (λ c κs. search needs)
-    returns
-    (λ c κs. search needs)
-    returns-2
-    returns-3)
+    tie.close (tie.spec (λ c κs. search needs)
+    (λ c. unfold rowLevelsFit in rw (failed (c .before .levels-fit .ensures) (c .if1 .taken)))
+    (λ c κs. search needs) returns-2 returns-3)

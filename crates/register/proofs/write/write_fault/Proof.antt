@@ -1,16 +1,10 @@
 -- `register::write::write_fault` meets its contract: each test settles one of `writeFault`'s. Assumes nothing.
 use mathlib.Core.Path.{_∙_}
 use native.Mathlib.Omega.{arith}
-use borrow.Author.Tests.{le-leb, lt-leb}
+use borrow.Author.{Tests.le-leb, Tests.lt-leb, Needs.needs}
 use Rattle.register.specs.Write.{writeFault}
-use borrow.Author.Needs.{needs}
 use Rattle.register.proofs.write.write_fault.Statement.{statement}
 use Rattle.register.proofs.write.write_fault.Tie as tie
-
-returns : tie.Need-returns
-unfolding writeFault
-returns c =
-    rw (lt-leb 1 (c .before .before .args .points) (omega arith))
 
 returns-2 : tie.Need-returns-2
 unfolding writeFault
@@ -39,11 +33,5 @@ returns-4 c =
 
 pub write-fault-spec : {M : Type 1} → statement M
 write-fault-spec =
-    tie.close
-    (tie.spec
-    returns
-    returns-2
-    returns-3
-    (λ c κs. search needs)
-    (λ c κs. search needs)
-    returns-4)
+    tie.close (tie.spec (λ c. unfold writeFault in rw (lt-leb 1 (c .before .before .args .points) (omega arith)))
+    returns-2 returns-3 (λ c κs. search needs) (λ c κs. search needs) returns-4)

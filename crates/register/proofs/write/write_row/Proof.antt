@@ -1,15 +1,13 @@
 -- `register::write::write_row` meets its contract: a fault, too little room, or the text that was put together.
 -- Assumes nothing.
-use mathlib.Core.Path.{_≡_, sym, ap, _∙_}
-use mathlib.Core.List.{[], _∷_}
+use mathlib.Core.{Path._≡_, Path.sym, Path.ap, Path._∙_, List.[], List._∷_}
 use native.Mathlib.Omega.{arith}
-use borrow.Author.Tests.{le-leb, lt-leb, eq-eqb, ne-eqb}
+use borrow.Author.{Tests.le-leb, Tests.lt-leb, Tests.eq-eqb, Tests.ne-eqb, Needs.needs}
 use lib.ListN.{length}
 use Rattle.room.specs.Room.{front}
 use Rattle.room.proofs.Laws.{wrote-front, wrote-fits}
 use Rattle.register.specs.Write.{showRow, writeFault, writeRefusal}
 use Rattle.register.proofs.Writes.{fault-fine, fine-writable}
-use borrow.Author.Needs.{needs}
 use Rattle.register.proofs.write.write_row.Statement.{statement}
 use Rattle.register.proofs.write.write_row.Tie as tie
 
@@ -30,9 +28,6 @@ fine : (c : tie.Else1) → let a = c .before .before .before .before .args in
     writeFault (a .points) (a .f) (a .levels .now) ≡ 0
 fine c = sym (c .before .write-fault .ensures) ∙ c .if1 .left
 
-put-row-requires : tie.Need-put-row-requires
-put-row-requires c κs = (fine-writable (fault-fine _ _ _ (fine (c .before))), omega arith)
-
 returns-2 : tie.Need-returns-2
 unfolding writeRefusal
 returns-2 c =
@@ -41,13 +36,6 @@ returns-2 c =
     let short = lt-leb (length (showRow (a .f) (a .levels .now))) (length (a .out .now))
     (omega (arith, c .before .before .put-row .ensures .0 .place, c .if2 .taken)) in
     record { number = rw (none, short); values = rw (none, short); bytes = rw (none, short) }
-
-put-front-requires : tie.Need-put-front-requires
-put-front-requires c κs =
-    (wrote-fits (c .before .before .before .before .put-row .ensures .0), c .before .before .if2 .left)
-
-cast-t17 : tie.Need-cast-t17
-cast-t17 c = omega (arith, c .before .before .before .before .before .before .before .put-row .ensures .1)
 
 returns-3 : tie.Need-returns-3
 unfolding writeRefusal
@@ -71,15 +59,8 @@ returns-3 c =
 
 pub write-row-spec : {M : Type 1} → statement M
 write-row-spec =
-    tie.close
-    (tie.spec
-    (λ c κs. search needs)
-    returns
-    (λ c. search needs)
-    put-row-requires
-    returns-2
-    (λ c. search needs)
-    put-front-requires
-    cast-t17
-    (λ c. search needs)
-    returns-3)
+    tie.close (tie.spec (λ c κs. search needs) returns (λ c. search needs)
+    (λ c κs. (fine-writable (fault-fine _ _ _ (fine (c .before))), omega arith)) returns-2 (λ c. search needs)
+    (λ c κs. (wrote-fits (c .before .before .before .before .put-row .ensures .0), c .before .before .if2 .left))
+    (λ c. omega (arith, c .before .before .before .before .before .before .before .put-row .ensures .1))
+    (λ c. search needs) returns-3)

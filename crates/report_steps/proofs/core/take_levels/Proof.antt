@@ -1,5 +1,4 @@
--- `report_steps::core::take_levels` meets its contract: *supply* with the row's levels.
--- Assumes nothing.
+-- `report_steps::core::take_levels` meets its contract: *supply* with the row's levels. Assumes nothing.
 use mathlib.Core.Path.{sym}
 use native.Mathlib.Omega.{arith}
 use lib.Seq.{length-take-le}
@@ -7,9 +6,6 @@ use borrow.Author.Needs.{needs}
 use Rattle.report_steps.proofs.Intakes.{levels-refused, levels-entered}
 use Rattle.report_steps.proofs.core.take_levels.Statement.{statement}
 use Rattle.report_steps.proofs.core.take_levels.Tie as tie
-
-slice-aggregate-supply : tie.Need-slice-aggregate-supply
-slice-aggregate-supply c = sym (length-take-le _ _ (omega arith))
 
 refused : tie.Need-returns
 refused c =
@@ -25,14 +21,5 @@ entered c =
 
 pub take-levels-spec : {M : Type 1} → statement M
 take-levels-spec =
-    tie.close
-    (tie.spec
-    (λ c. search needs)
-    slice-aggregate-supply
-    (λ c κs. search needs)
-    (λ c. search needs)
-    (λ c. search needs)
-    refused
-    (λ c. search needs)
-    (λ c. search needs)
-    entered)
+    tie.close (tie.spec (λ c. search needs) (λ c. sym (length-take-le _ _ (omega arith))) (λ c κs. search needs)
+    (λ c. search needs) (λ c. search needs) refused (λ c. search needs) (λ c. search needs) entered)

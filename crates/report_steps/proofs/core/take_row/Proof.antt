@@ -1,14 +1,10 @@
--- `report_steps::core::take_row` meets its contract: the layout, *enter* and *supply*, case by case.
--- Assumes nothing.
-use mathlib.Core.Path.{_≡_}
-use mathlib.Core.Bool.{true}
+-- `report_steps::core::take_row` meets its contract: the layout, *enter* and *supply*, case by case. Assumes nothing.
 use Prim.Native.Nat.{_≤_}
 use native.Mathlib.Omega.{arith}
 use borrow.Author.Needs.{needs}
 use Rattle.movement.specs.Limits.{maxPoints}
-use Rattle.book_rules.specs.Columns.{bookOf, sound}
-use Rattle.book_rules.proofs.Shapes.{sound-fits}
-use Rattle.book_rules.proofs.Kept.{called-sound}
+use Rattle.book_rules.specs.Columns.{bookOf}
+use Rattle.book_rules.proofs.{Shapes.sound-fits, Kept.called-sound}
 use Rattle.report_steps.proofs.Intakes.{row-off, row-passed, row-refused, row-entered, row-supplied}
 use Rattle.report_steps.proofs.core.take_row.Statement.{statement}
 use Rattle.report_steps.proofs.core.take_row.Tie as tie
@@ -31,9 +27,6 @@ few : (c : tie.Start) → c .args .points ≤ maxPoints
 few c =
     let a = c .args in
     sound-fits (a .points) (bookOf (a .ids .now) (a .groups .now) (a .marks .now) (a .levels .now)) (c .pre) .points
-
-cast-read-layout : tie.Need-cast-read-layout
-cast-read-layout c = let levels = c .before in omega (arith, few (levels .before .before .before .before))
 
 off : tie.Need-returns
 off c =
@@ -83,30 +76,9 @@ supplied c =
 
 pub take-row-spec : {M : Type 1} → statement M
 take-row-spec =
-    tie.close
-    (tie.spec
-    cast-read-layout
-    (λ c κs. search needs)
-    off
-    (λ c κs. search needs)
-    (λ c. search needs)
-    (λ c. search needs)
-    (λ c. search needs)
-    (λ c. search needs)
-    passed
-    (λ c. search needs)
-    (λ c. search needs)
-    (λ c. search needs)
-    (λ c. search needs)
-    refused
-    (λ c. search needs)
-    (λ c. search needs)
-    (λ c. search needs)
-    (λ c. search needs)
-    blank
-    take-levels-requires
-    (λ c. search needs)
-    (λ c. search needs)
-    (λ c. search needs)
-    (λ c. search needs)
+    tie.close (tie.spec (λ c. let levels = c .before in omega (arith, few (levels .before .before .before .before)))
+    (λ c κs. search needs) off (λ c κs. search needs) (λ c. search needs) (λ c. search needs)
+    (λ c. search needs) (λ c. search needs) passed (λ c. search needs) (λ c. search needs) (λ c. search needs)
+    (λ c. search needs) refused (λ c. search needs) (λ c. search needs) (λ c. search needs) (λ c. search needs)
+    blank take-levels-requires (λ c. search needs) (λ c. search needs) (λ c. search needs) (λ c. search needs)
     supplied)

@@ -14,10 +14,4 @@ returns c =
     (within {m = 1} (omega arith) (second .put-byte2 .ensures))
 
 pub put-end-spec : {M : Type 1} → statement M
-put-end-spec =
-    tie.close
-    (tie.spec
-    (λ c κs. search needs)
-    (λ c κs. search needs)
-    (λ c. search needs)
-    returns)
+put-end-spec = tie.close (tie.spec (λ c κs. search needs) (λ c κs. search needs) (λ c. search needs) returns)

@@ -26,10 +26,4 @@ returns c =
     (within (number-most (s .args .n) (s .fits .n .fits)) (number .put-number .ensures))
 
 pub put-field-spec : {M : Type 1} → statement M
-put-field-spec =
-    tie.close
-    (tie.spec
-    (λ c κs. search needs)
-    put-number-requires
-    (λ c. search needs)
-    returns)
+put-field-spec = tie.close (tie.spec (λ c κs. search needs) put-number-requires (λ c. search needs) returns)

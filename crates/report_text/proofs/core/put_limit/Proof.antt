@@ -29,10 +29,4 @@ returns c =
     (within (level-most (s .args .limit) (s .pre .0)) (level .put-level .ensures))
 
 pub put-limit-spec : {M : Type 1} → statement M
-put-limit-spec =
-    tie.close
-    (tie.spec
-    (λ c κs. search needs)
-    put-level-requires
-    (λ c. search needs)
-    returns)
+put-limit-spec = tie.close (tie.spec (λ c κs. search needs) put-level-requires (λ c. search needs) returns)

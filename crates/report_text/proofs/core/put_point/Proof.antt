@@ -58,11 +58,5 @@ returns c =
 
 pub put-point-spec : {M : Type 1} → statement M
 put-point-spec =
-    tie.close
-    (tie.spec
-    (λ c. search needs)
-    put-number-requires
-    put-judged-requires
-    put-totals-requires
-    (λ c. search needs)
-    returns)
+    tie.close (tie.spec (λ c. search needs) put-number-requires put-judged-requires put-totals-requires
+    (λ c. search needs) returns)

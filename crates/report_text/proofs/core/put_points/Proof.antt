@@ -1,14 +1,11 @@
 -- `report_text::core::put_points` meets its contract. The loop's invariant: the lines of the points passed stand
--- behind the header.
--- Assumes nothing.
-use mathlib.Core.Path.{_≡_, refl, sym, ap, _∙_}
-use mathlib.Core.List.{List}
-use Prim.Native.Nat.{ℕ, _+_, _-_, _*_, _≤_, _<_}
+-- behind the header. Assumes nothing.
+use mathlib.Core.Path.{_≡_, refl, _∙_}
+use Prim.Native.Nat.{_+_, _-_, _*_, _≤_, _<_}
 use native.Mathlib.Omega.{arith}
-use lib.ListN.{length, getD}
+use lib.ListN.{length}
 use borrow.Author.Needs.{needs}
-use Rattle.book_rules.specs.Columns.{Book, bookOf}
-use Rattle.room.specs.Room.{Wrote}
+use Rattle.book_rules.specs.Columns.{bookOf}
 use Rattle.report_text.specs.InnerRoom.{longestPoint}
 use Rattle.report_text.proofs.Points.{Passed, points-none, points-more, points-all}
 use Rattle.report_text.proofs.Levels.{load-level}
@@ -28,9 +25,6 @@ abbrev start : tie.After-put-header Inv-loop μ-loop → tie.Start Inv-loop μ-l
 start c =
     let limits = c .before .before .before .before in
     let columns = limits .before .before .before in columns .before .before
-
-loop-holds : tie.Need-loop-holds Inv-loop μ-loop
-loop-holds c = (points-none, omega arith, omega arith, refl)
 
 put-point-requires : tie.Need-put-point-requires Inv-loop μ-loop
 put-point-requires c κs =
@@ -74,19 +68,7 @@ returns c =
 
 pub put-points-spec : {M : Type 1} → statement M
 put-points-spec =
-    tie.close
-    (tie.spec
-    Inv-loop
-    μ-loop
-    (λ c. search needs)
-    (λ c κs. search needs)
-    loop-holds
-    (λ c κs. search needs)
-    (λ c. search needs)
-    (λ c. search needs)
-    put-point-requires
-    (λ c. search needs)
-    (λ c. search needs)
-    loop-again
-    (λ c. search needs)
+    tie.close (tie.spec Inv-loop μ-loop (λ c. search needs) (λ c κs. search needs)
+    (λ c. (points-none, omega arith, omega arith, refl)) (λ c κs. search needs) (λ c. search needs)
+    (λ c. search needs) put-point-requires (λ c. search needs) (λ c. search needs) loop-again (λ c. search needs)
     returns)

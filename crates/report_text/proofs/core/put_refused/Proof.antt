@@ -1,8 +1,7 @@
 -- `report_text::core::put_refused` meets its contract: a word, two numbers and the end of the line, each past the
 -- other. Assumes nothing.
 use native.Mathlib.Omega.{arith}
-use Rattle.report_text.proofs.Writes.{within, within-then, within-is}
-use Rattle.report_text.proofs.Lines.{refused-is}
+use Rattle.report_text.proofs.{Writes.within, Writes.within-then, Writes.within-is, Lines.refused-is}
 use borrow.Author.Needs.{needs}
 use Rattle.report_text.proofs.core.put_refused.Statement.{statement}
 use Rattle.report_text.proofs.core.put_refused.Tie as tie
@@ -29,12 +28,5 @@ returns c =
 
 pub put-refused-spec : {M : Type 1} → statement M
 put-refused-spec =
-    tie.close
-    (tie.spec
-    (λ c. search needs)
-    (λ c κs. search needs)
-    (λ c κs. search needs)
-    (λ c κs. search needs)
-    (λ c κs. search needs)
-    (λ c. search needs)
-    returns)
+    tie.close (tie.spec (λ c. search needs) (λ c κs. search needs) (λ c κs. search needs) (λ c κs. search needs)
+    (λ c κs. search needs) (λ c. search needs) returns)

@@ -1,7 +1,6 @@
 -- `report_text::core::put_rounded` meets its contract: a comma, and past it the level or `below`. Assumes nothing.
 use native.Mathlib.Omega.{arith}
 use Rattle.text.proofs.Shown.{level-most}
-use Rattle.level.specs.Level.{levelValue}
 use Rattle.report_text.proofs.Writes.{within, within-then}
 use borrow.Author.Needs.{needs}
 use Rattle.report_text.proofs.core.put_rounded.Statement.{statement}
@@ -49,15 +48,5 @@ returns-2 c =
 
 pub put-rounded-spec : {M : Type 1} → statement M
 put-rounded-spec =
-    tie.close
-    (tie.spec
-    (λ c κs. search needs)
-    enum-told
-    (λ c. search needs)
-    (λ c κs. search needs)
-    (λ c. search needs)
-    put-level-requires
-    (λ c. search needs)
-    returns
-    (λ c. search needs)
-    returns-2)
+    tie.close (tie.spec (λ c κs. search needs) enum-told (λ c. search needs) (λ c κs. search needs)
+    (λ c. search needs) put-level-requires (λ c. search needs) returns (λ c. search needs) returns-2)

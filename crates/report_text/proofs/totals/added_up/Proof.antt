@@ -1,11 +1,8 @@
 -- `report_text::totals::added_up` meets its contract. The loop's invariant: both sums are those of the groups passed,
--- each of which adds less than 2^32.
--- Assumes nothing.
-use mathlib.Core.Path.{_≡_, refl, sym, ap, _∙_}
-use mathlib.Core.List.{List}
-use Prim.Native.Nat.{ℕ, suc, _+_, _-_, _*_, _^_, _≤_, _<_}
-use native.Mathlib.Numerals.{add-one}
-use native.Mathlib.Omega.{arith}
+-- each of which adds less than 2^32. Assumes nothing.
+use mathlib.Core.{Path._≡_, Path.ap, Path._∙_, List.List}
+use Prim.Native.Nat.{ℕ, _+_, _-_, _*_, _^_, _≤_}
+use native.Mathlib.{Numerals.add-one, Omega.arith}
 use borrow.Author.Needs.{needs}
 use Rattle.movement.specs.Limits.{groupCount}
 use Rattle.load_rules.specs.declared.Counts.{Counts}
@@ -30,10 +27,6 @@ Inv-loop counts computed₀ missing₀ g₀ computed missing g =
 
 abbrev μ-loop : tie.MeasureT-loop
 μ-loop counts computed₀ missing₀ g₀ computed missing g = groupCount - g
-
-loop-holds : tie.Need-loop-holds Inv-loop μ-loop
-unfolding sumTo
-loop-holds c = search needs
 
 loop-again : tie.Need-loop-again Inv-loop μ-loop
 loop-again c =
@@ -61,16 +54,5 @@ returns c =
 
 pub added-up-spec : {M : Type 1} → statement M
 added-up-spec =
-    tie.close
-    (tie.spec
-    Inv-loop
-    μ-loop
-    loop-holds
-    (λ c. search needs)
-    (λ c. search needs)
-    (λ c κs. search needs)
-    (λ c κs. search needs)
-    (λ c. search needs)
-    (λ c. search needs)
-    loop-again
-    returns)
+    tie.close (tie.spec Inv-loop μ-loop (λ c. unfold sumTo in search needs) (λ c. search needs) (λ c. search needs)
+    (λ c κs. search needs) (λ c κs. search needs) (λ c. search needs) (λ c. search needs) loop-again returns)

@@ -1,6 +1,6 @@
 -- `said::core::column_end` meets its contract: a field is no longer than the text that it stands in. Assumes nothing.
 use Rattle.text.proofs.Fields.{up-length}
-use lib.ListN.{length, drop, length-drop}
+use lib.ListN.{drop, length-drop}
 use native.Mathlib.Omega.{arith}
 use borrow.Author.Needs.{needs}
 use Rattle.said.proofs.core.column_end.Statement.{statement}
@@ -14,8 +14,4 @@ returns c =
     omega (arith, c .field-end .ensures, up-length (a .d) rest, length-drop (a .from) (a .s .now))
 
 pub column-end-spec : {M : Type 1} → statement M
-column-end-spec =
-    tie.close
-    (tie.spec
-    (λ c κs. search needs)
-    returns)
+column-end-spec = tie.close (tie.spec (λ c κs. search needs) returns)

@@ -6,10 +6,6 @@ use borrow.Author.Needs.{needs}
 use Rattle.said.proofs.note.general.Statement.{statement}
 use Rattle.said.proofs.note.general.Tie as tie
 
-array-share-prefix-room : tie.Need-array-share-prefix-room
-array-share-prefix-room c =
-    let put : tie.After-put-sentence = search in wrote-fits (put .put-sentence .ensures .0)
-
 slice-aggregate-words : tie.Need-slice-aggregate-words
 slice-aggregate-words c =
     let put : tie.After-put-sentence = search in
@@ -17,10 +13,6 @@ slice-aggregate-words c =
 
 pub general-spec : {M : Type 1} → statement M
 general-spec =
-    tie.close
-    (tie.spec
-    (λ c κs. search needs)
-    array-share-prefix-room
-    slice-aggregate-words
-    (λ c κs. search needs)
-    (λ c. search needs))
+    tie.close (tie.spec (λ c κs. search needs)
+    (λ c. let put : tie.After-put-sentence = search in wrote-fits (put .put-sentence .ensures .0))
+    slice-aggregate-words (λ c κs. search needs) (λ c. search needs))

@@ -2,8 +2,7 @@
 use mathlib.Core.Path.{sym}
 use Prim.Native.Nat.{_≤_}
 use native.Mathlib.Omega.{arith}
-use lib.ListN.{length}
-use lib.Seq.{length-take-le}
+use lib.{ListN.length, Seq.length-take-le}
 use borrow.Author.Needs.{needs}
 use Rattle.room.proofs.Laws.{wrote-fits}
 use Rattle.text.specs.Number.{showNumber}
@@ -13,9 +12,6 @@ use Rattle.said.proofs.note.number.Tie as tie
 
 few : (s : tie.Start) → length (showNumber (s .args .n)) ≤ 20
 few s = number-short (s .args .n)
-
-put-number-requires : tie.Need-put-number-requires
-put-number-requires c κs = let s : tie.Start = search in omega (arith, few s)
 
 array-share-prefix : tie.Need-array-share-prefix-digits
 array-share-prefix c =
@@ -30,11 +26,5 @@ slice-aggregate c =
 
 pub number-spec : {M : Type 1} → statement M
 number-spec =
-    tie.close
-    (tie.spec
-    (λ c. search needs)
-    put-number-requires
-    array-share-prefix
-    slice-aggregate
-    (λ c κs. search needs)
-    (λ c. search needs))
+    tie.close (tie.spec (λ c. search needs) (λ c κs. let s : tie.Start = search in omega (arith, few s))
+    array-share-prefix slice-aggregate (λ c κs. search needs) (λ c. search needs))

@@ -13,20 +13,8 @@ Inv-loop closed count₀ i₀ count i = (count ≤ i) × (i ≤ length closed)
 abbrev μ-loop : tie.MeasureT-loop
 μ-loop closed count₀ i₀ count i = length closed - i
 
-loop-again : tie.Need-loop-again Inv-loop μ-loop
-loop-again c = ⊎-elim (λ w. omega arith) (λ w. omega arith) (c .if1 .came)
-
 pub open-lines-spec : {M : Type 1} → statement M
 open-lines-spec =
-    tie.close
-    (tie.spec
-    Inv-loop
-    μ-loop
-    (λ c. search needs)
-    (λ c. search needs)
-    (λ c. search needs)
-    (λ c. search needs)
-    (λ c. search needs)
-    (λ c. search needs)
-    loop-again
-    (λ c. search needs))
+    tie.close (tie.spec Inv-loop μ-loop (λ c. search needs) (λ c. search needs) (λ c. search needs)
+    (λ c. search needs) (λ c. search needs) (λ c. search needs)
+    (λ c. ⊎-elim (λ w. omega arith) (λ w. omega arith) (c .if1 .came)) (λ c. search needs))

@@ -1,7 +1,6 @@
 -- `said_contours::shape::product` is safe: the product of two numbers of 32 bits has 64. Assumes nothing.
 use Prim.Native.Nat.{_≤_}
-use native.Mathlib.Nat.{mul-le-mul}
-use native.Mathlib.Omega.{arith}
+use native.Mathlib.{Nat.mul-le-mul, Omega.arith}
 use borrow.Author.Needs.{needs}
 use Rattle.said_contours.proofs.shape.product.Statement.{statement}
 use Rattle.said_contours.proofs.shape.product.Tie as tie

@@ -1,9 +1,7 @@
 -- `sentence::core::of_file` meets its contract: each number has its own text. Assumes nothing.
-use native.Mathlib.Omega.{arith}
 use Rattle.room.proofs.Laws.{wrote-none}
 use Rattle.sentence.specs.Sentence.{sentences, sentenceOf}
-use Rattle.sentence.proofs.Says.{past-all}
-use Rattle.sentence.proofs.Spelled.{of-number, above}
+use Rattle.sentence.proofs.{Says.past-all, Spelled.of-number, Spelled.above}
 use borrow.Author.Needs.{needs}
 use Rattle.sentence.proofs.core.of_file.Statement.{statement}
 use Rattle.sentence.proofs.core.of_file.Tie as tie
@@ -55,30 +53,8 @@ returns-7 c =
 
 pub of-file-spec : {M : Type 1} → statement M
 of-file-spec =
-    tie.close
-    (tie.spec
-    (λ c. search needs)
-    (λ c κs. search needs)
-    (λ c. search needs)
-    (λ c κs. search needs)
-    (λ c. search needs)
-    (λ c κs. search needs)
-    (λ c. search needs)
-    (λ c κs. search needs)
-    (λ c. search needs)
-    (λ c κs. search needs)
-    (λ c. search needs)
-    (λ c κs. search needs)
-    (λ c. search needs)
-    returns
-    (λ c. search needs)
-    returns-2
-    (λ c. search needs)
-    returns-3
-    (λ c. search needs)
-    returns-4
-    (λ c. search needs)
-    returns-5
-    (λ c. search needs)
-    returns-6
-    returns-7)
+    tie.close (tie.spec (λ c. search needs) (λ c κs. search needs) (λ c. search needs) (λ c κs. search needs)
+    (λ c. search needs) (λ c κs. search needs) (λ c. search needs) (λ c κs. search needs) (λ c. search needs)
+    (λ c κs. search needs) (λ c. search needs) (λ c κs. search needs) (λ c. search needs) returns
+    (λ c. search needs) returns-2 (λ c. search needs) returns-3 (λ c. search needs) returns-4 (λ c. search needs)
+    returns-5 (λ c. search needs) returns-6 returns-7)

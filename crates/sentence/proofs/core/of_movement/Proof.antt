@@ -1,7 +1,6 @@
 -- `sentence::core::of_movement` meets its contract: each number has its own text. Assumes nothing.
 use mathlib.Core.Path.{_≡_}
 use Rattle.room.proofs.Laws.{wrote-none}
-use native.Mathlib.Omega.{arith}
 use Rattle.sentence.specs.Sentence.{sentences, sentenceOf}
 use Rattle.sentence.proofs.Spelled.{of-number, below, no-less}
 use borrow.Author.Needs.{needs}
@@ -57,30 +56,8 @@ returns-7 c =
 
 pub of-movement-spec : {M : Type 1} → statement M
 of-movement-spec =
-    tie.close
-    (tie.spec
-    (λ c. search needs)
-    (λ c κs. search needs)
-    (λ c. search needs)
-    (λ c κs. search needs)
-    (λ c. search needs)
-    (λ c κs. search needs)
-    (λ c. search needs)
-    (λ c κs. search needs)
-    (λ c. search needs)
-    (λ c κs. search needs)
-    (λ c. search needs)
-    (λ c κs. search needs)
-    (λ c. search needs)
-    returns
-    (λ c. search needs)
-    returns-2
-    (λ c. search needs)
-    returns-3
-    (λ c. search needs)
-    returns-4
-    (λ c. search needs)
-    returns-5
-    (λ c. search needs)
-    returns-6
-    returns-7)
+    tie.close (tie.spec (λ c. search needs) (λ c κs. search needs) (λ c. search needs) (λ c κs. search needs)
+    (λ c. search needs) (λ c κs. search needs) (λ c. search needs) (λ c κs. search needs) (λ c. search needs)
+    (λ c κs. search needs) (λ c. search needs) (λ c κs. search needs) (λ c. search needs) returns
+    (λ c. search needs) returns-2 (λ c. search needs) returns-3 (λ c. search needs) returns-4 (λ c. search needs)
+    returns-5 (λ c. search needs) returns-6 returns-7)

@@ -1,13 +1,11 @@
 -- `text::core::put_number` meets its contract; its measure is the number. Assumes nothing.
-use Prim.Native.Nat.{_+_}
+use Prim.Native.{Nat._+_, Nat.ℕ, Nat._^_, Nat._<_}
 use mathlib.Core.Path.{ap, _∙_}
 use native.Mathlib.Omega.{arith}
 use lib.ListN.{length}
 use Rattle.text.proofs.Shown.{shown-last, shown-tenth, shown-longer}
 use Rattle.room.proofs.Laws.{wrote-then}
-use Prim.Native.Nat.{ℕ, _^_, _<_}
-use borrow.Fn.Kinds.{In}
-use borrow.Fn.PlainCycle.{Measures, is, falls, and}
+use borrow.Fn.{Kinds.In, PlainCycle.Measures, PlainCycle.is, PlainCycle.falls, PlainCycle.and}
 use Rattle.text.proofs.core.put_number.Reads as put-number
 use Rattle.text.proofs.core.put_number.Kinds as put-number-kinds
 use Rattle.text.proofs.core.+put_number.Lts-put_number as put-number-lts
@@ -26,8 +24,7 @@ abbrev put-number-at : ℕ → In 1 put-number-kinds.ps
 put-number-at t = and 1 put-number-kinds.ps (is 1 put-number-kinds.ps μ-put-number t) put-number.Pre
 
 abbrev put-number-below : ℕ → In 1 put-number-kinds.ps
-put-number-below t =
-    and 1 put-number-kinds.ps (falls 1 put-number-kinds.ps _<_ μ-put-number t) put-number.Pre
+put-number-below t = and 1 put-number-kinds.ps (falls 1 put-number-kinds.ps _<_ μ-put-number t) put-number.Pre
 
 put-number-cast-digit : (t : ℕ) → put-number-lts.Need-cast-digit (
   put-byte-reads.Asked,

@@ -1,16 +1,12 @@
 -- `text::core::decimal` meets its contract: each test on the way settles one of `decimalOf`'s. Assumes nothing.
 use Prim.Native.Nat.{ℕ, _<_, _≤_, _-_, _+_, _*_, _^_}
-use mathlib.Core.Path.{_≡_, sym, _∙_}
-use mathlib.Core.List.{List}
-use native.Mathlib.Nat.{pow-le-pow-right, mul-le-mul}
-use native.Mathlib.Omega.{arith}
-use borrow.Author.Tests.{le-leb, lt-leb, eq-eqb, ne-eqb}
-use lib.ListN.{length, getD, take, drop, length-drop}
-use lib.Seq.{length-take-le}
+use mathlib.Core.{Path._≡_, Path.sym, Path._∙_, List.List}
+use native.Mathlib.{Nat.pow-le-pow-right, Nat.mul-le-mul, Omega.arith}
+use borrow.Author.{Tests.le-leb, Tests.lt-leb, Tests.eq-eqb, Tests.ne-eqb, Needs.needs}
+use lib.{ListN.length, ListN.getD, ListN.take, ListN.drop, ListN.length-drop, Seq.length-take-le}
 use Rattle.text.specs.Number.{decimalOf, wholeOf, digitsOf, joined}
 use Rattle.text.specs.declared.number.Number.the-variants.{Got, Off}
 use Rattle.text.proofs.Digits.{digits-small, whole-below, part-rest}
-use borrow.Author.Needs.{needs}
 use Rattle.text.proofs.core.decimal.Statement.{statement}
 use Rattle.text.proofs.core.decimal.Tie as tie
 
@@ -62,11 +58,6 @@ opened c =
       eq-eqb (getD s (length s - (d + 1)) 0) 46 (c .if3 .left),
     )
 
-slice-aggregate-whole : tie.Need-slice-aggregate-whole
-slice-aggregate-whole c =
-    let s = text (c .before) in
-    sym (length-take-le (length s - (decimals (c .before) + 1)) s (omega arith))
-
 returns-4 : tie.Need-returns-4
 returns-4 c =
     let at-tests = c .before .before .before .before in
@@ -108,12 +99,6 @@ small c =
     let less : read at-parts .before .units .given .0 .0 ≤ 999 = omega arith in
     (mul-le-mul less most, digits-small (drop (point + 1) s) _ (simp length-drop (omega arith)) (parts at-parts))
 
-mul-t20 : tie.Need-mul-t20
-mul-t20 c = omega (arith, small c .0)
-
-add-t21 : tie.Need-add-t21
-add-t21 c = omega (arith, small c .0, small c .1)
-
 returns-6 : tie.Need-returns-6
 returns-6 c =
     let at-parts = c .before in
@@ -121,30 +106,10 @@ returns-6 c =
 
 pub decimal-spec : {M : Type 1} → statement M
 decimal-spec =
-    tie.close
-    (tie.spec
-    (λ c. search needs)
-    returns
-    (λ c. search needs)
-    returns-2
-    (λ c. search needs)
-    (λ c. search needs)
-    (λ c. search needs)
-    returns-3
-    slice-aggregate-whole
-    (λ c κs. search needs)
-    (λ c. search needs)
-    (λ c. search needs)
-    returns-4
-    (λ c. search needs)
-    (λ c. search needs)
-    (λ c. search needs)
-    (λ c. search needs)
-    (λ c κs. search needs)
-    (λ c. search needs)
-    (λ c. search needs)
-    returns-5
-    (λ c κs. search needs)
-    mul-t20
-    add-t21
-    returns-6)
+    tie.close (tie.spec (λ c. search needs) returns (λ c. search needs) returns-2 (λ c. search needs)
+    (λ c. search needs) (λ c. search needs) returns-3
+    (λ c. let s = text (c .before) in sym (length-take-le (length s - (decimals (c .before) + 1)) s (omega arith)))
+    (λ c κs. search needs) (λ c. search needs) (λ c. search needs) returns-4 (λ c. search needs)
+    (λ c. search needs) (λ c. search needs) (λ c. search needs) (λ c κs. search needs) (λ c. search needs)
+    (λ c. search needs) returns-5 (λ c κs. search needs) (λ c. omega (arith, small c .0))
+    (λ c. omega (arith, small c .0, small c .1)) returns-6)

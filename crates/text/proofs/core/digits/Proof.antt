@@ -19,9 +19,6 @@ Inv-loop s value₀ i₀ value i = (digitsOf 0 s ≡ digitsOf value (drop i s)) 
 abbrev μ-loop : tie.MeasureT-loop
 μ-loop s value₀ i₀ value i = length s - i
 
-loop-holds : tie.Need-loop-holds Inv-loop μ-loop
-loop-holds c = (refl, omega arith, omega arith)
-
 -- under the loop's test the value has at most six digits
 small : (c : tie.In-loop Inv-loop μ-loop) → c .before .loop .value < 1000000
 small c = million (c .before .loop .value) (c .before .loop .i) (c .before .loop .inv .2)
@@ -36,12 +33,6 @@ returns-2 : tie.Need-returns-2 Inv-loop μ-loop
 returns-2 c =
     let d = c .before .before .before in
     sym (d .before .loop .inv .0 ∙ digits-stop _ _ _ (d .loop-test .taken) (digit-high _ (c .if2 .taken)))
-
-mul-value : tie.Need-mul-value Inv-loop μ-loop
-mul-value c = omega (arith, small (c .before .before .before))
-
-add-value : tie.Need-add-value Inv-loop μ-loop
-add-value c = omega (arith, small (c .before .before .before))
 
 loop-again : tie.Need-loop-again Inv-loop μ-loop
 loop-again c =
@@ -61,18 +52,7 @@ returns-3 c =
 
 pub digits-spec : {M : Type 1} → statement M
 digits-spec =
-    tie.close
-    (tie.spec
-    Inv-loop
-    μ-loop
-    loop-holds
-    (λ c. search needs)
-    returns
-    returns-2
-    mul-value
-    (λ c. search needs)
-    add-value
-    (λ c. search needs)
-    (λ c. search needs)
-    loop-again
+    tie.close (tie.spec Inv-loop μ-loop (λ c. (refl, omega arith, omega arith)) (λ c. search needs) returns
+    returns-2 (λ c. omega (arith, small (c .before .before .before))) (λ c. search needs)
+    (λ c. omega (arith, small (c .before .before .before))) (λ c. search needs) (λ c. search needs) loop-again
     returns-3)

@@ -1,9 +1,7 @@
 -- `text::core::power` meets its contract. The invariant: the parts of so many decimals. Assumes nothing.
 use Prim.Native.Nat.{_+_, _-_, _*_, _^_, _≤_}
 use mathlib.Core.Path.{_≡_, refl, sym, ap, _∙_}
-use native.Mathlib.Nat.{pow-suc, pow-le-pow-right}
-use native.Mathlib.Numerals.{add-one}
-use native.Mathlib.Omega.{arith}
+use native.Mathlib.{Nat.pow-suc, Nat.pow-le-pow-right, Numerals.add-one, Omega.arith}
 use borrow.Author.Needs.{needs}
 use Rattle.text.proofs.core.power.Statement.{statement}
 use Rattle.text.proofs.core.power.Tie as tie
@@ -35,13 +33,5 @@ returns c =
 
 pub power-spec : {M : Type 1} → statement M
 power-spec =
-    tie.close
-    (tie.spec
-    Inv-loop
-    μ-loop
-    (λ c. (refl, omega arith))
-    mul-parts
-    (λ c. search needs)
-    (λ c. search needs)
-    loop-again
-    returns)
+    tie.close (tie.spec Inv-loop μ-loop (λ c. (refl, omega arith)) mul-parts (λ c. search needs)
+    (λ c. search needs) loop-again returns)

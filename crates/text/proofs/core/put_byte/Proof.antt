@@ -7,14 +7,7 @@ use Rattle.text.proofs.core.put_byte.Tie as tie
 use Rattle.text.proofs.core.put_byte.Reads as reads
 use Rattle.text.proofs.core.put_byte.Lts as lts
 
-returns : tie.Need-returns
-returns c = record { place = refl; bytes = put-one _ _ _ (c .pre) }
-
 pub put-byte-spec : {M : Type 1} → statement M
 put-byte-spec =
-    tie.close
-    (tie.spec
-    (λ c. search needs)
-    (λ c. search needs)
-    (λ c. search needs)
-    returns)
+    tie.close (tie.spec (λ c. search needs) (λ c. search needs) (λ c. search needs)
+    (λ c. record { place = refl; bytes = put-one _ _ _ (c .pre) }))

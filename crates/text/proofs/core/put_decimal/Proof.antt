@@ -1,12 +1,10 @@
 -- `text::core::put_decimal` meets its contract: the units, a point and the decimals, each past the other.
 -- Assumes nothing.
-use Prim.Native.Nat.{_+_, _*_, _/_, _%_, _^_, _≤_, _<_}
-use mathlib.Core.Path.{_≡_}
-use native.Mathlib.Nat.{div-lt-iff-lt-mul, mod-lt}
-use native.Mathlib.Omega.{arith}
+use Prim.Native.Nat.{_+_, _/_, _%_, _^_, _≤_, _<_}
+use native.Mathlib.{Nat.div-lt-iff-lt-mul, Nat.mod-lt, Omega.arith}
 use lib.ListN.{length}
 use Rattle.room.proofs.Laws.{wrote-then}
-use Rattle.text.specs.Number.{showWhole, showDigits}
+use Rattle.text.specs.Number.{showWhole}
 use Rattle.text.proofs.Shown.{parts-some, digits-long, decimal-long}
 use borrow.Author.Needs.{needs}
 use Rattle.text.proofs.core.put_decimal.Statement.{statement}
@@ -25,9 +23,6 @@ room : (c : tie.After-power) → let a = c .before .before .args in
 room c =
     let s = c .before .before in
     rw (c .power .ensures) (omega (arith, s .pre .2, decimal-long (s .args .d) (s .args .n)))
-
-put-whole-requires : tie.Need-put-whole-requires
-put-whole-requires c κs = (units (c .before), omega (arith, room (c .before)))
 
 put-byte-requires : tie.Need-put-byte-requires
 put-byte-requires c κs =
@@ -64,13 +59,6 @@ returns c =
 
 pub put-decimal-spec : {M : Type 1} → statement M
 put-decimal-spec =
-    tie.close
-    (tie.spec
-    (λ c κs. search needs)
-    (λ c. search needs)
-    put-whole-requires
-    put-byte-requires
-    (λ c. search needs)
-    put-digits-requires
-    (λ c. search needs)
-    returns)
+    tie.close (tie.spec (λ c κs. search needs) (λ c. search needs)
+    (λ c κs. (units (c .before), omega (arith, room (c .before)))) put-byte-requires (λ c. search needs)
+    put-digits-requires (λ c. search needs) returns)

@@ -1,8 +1,7 @@
 -- `text::core::put_digits` meets its contract. The invariant: what is written, and the digits that are left.
 -- Assumes nothing.
 use Prim.Native.Nat.{_+_, _-_, _/_, _%_, _^_, _≤_, _<_}
-use mathlib.Core.Path.{_≡_, refl, ap, _∙_}
-use mathlib.Core.List.{[], _∷_}
+use mathlib.Core.{Path._≡_, Path.refl, Path._∙_, List.[], List._∷_}
 use native.Mathlib.Omega.{arith}
 use lib.ListN.{length}
 use Rattle.room.proofs.Writing.{Writing, writing-start, writing-room, writing-more, writing-end}
@@ -19,9 +18,6 @@ Inv-loop out₀ at n d parts₀ left₀ next₀ k₀ out parts left next k =
 
 abbrev μ-loop : tie.MeasureT-loop
 μ-loop out₀ at n d parts₀ left₀ next₀ k₀ out parts left next k = k
-
-loop-holds : tie.Need-loop-holds Inv-loop μ-loop
-loop-holds c = (writing-start _ _ _, c .power .ensures, c .before .before .pre .1, refl)
 
 -- the digit that comes
 digit : (c : tie.In-loop Inv-loop μ-loop) → let l = c .before .loop in Lead (l .k) (l .left) (l .parts)
@@ -60,19 +56,9 @@ returns c =
 
 pub put-digits-spec : {M : Type 1} → statement M
 put-digits-spec =
-    tie.close
-    (tie.spec
-    Inv-loop
-    μ-loop
-    (λ c κs. search needs)
-    loop-holds
-    (λ c. omega (arith, digit (c .before) .some))
-    (λ c. omega (arith, digit (c .before) .small))
-    (λ c. omega (arith, digit (c .before) .small))
-    put-byte-requires
-    (λ c. omega (arith, digit (c .before .before .before .before) .some))
-    (λ c. search needs)
-    (λ c. search needs)
-    loop-again
-    (λ c. c .before .loop .inv .3)
-    returns)
+    tie.close (tie.spec Inv-loop μ-loop (λ c κs. search needs)
+    (λ c. (writing-start _ _ _, c .power .ensures, c .before .before .pre .1, refl))
+    (λ c. omega (arith, digit (c .before) .some)) (λ c. omega (arith, digit (c .before) .small))
+    (λ c. omega (arith, digit (c .before) .small)) put-byte-requires
+    (λ c. omega (arith, digit (c .before .before .before .before) .some)) (λ c. search needs) (λ c. search needs)
+    loop-again (λ c. c .before .loop .inv .3) returns)

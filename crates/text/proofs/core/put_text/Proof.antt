@@ -2,8 +2,7 @@
 use Prim.Native.Nat.{_-_, _≤_}
 use mathlib.Core.Path.{_≡_, refl, _∙_}
 use native.Mathlib.Omega.{arith}
-use lib.ListN.{length, take, length-set}
-use lib.Seq.{take-length}
+use lib.{ListN.length, ListN.take, ListN.length-set, Seq.take-length}
 use Rattle.room.specs.Room.{put}
 use Rattle.room.proofs.Laws.{put-step, wrote-none}
 use borrow.Author.Needs.{needs}
@@ -16,9 +15,6 @@ Inv-loop out₀ at text i₀ out i =
 
 abbrev μ-loop : tie.MeasureT-loop
 μ-loop out₀ at text i₀ out i = length text - i
-
-loop-holds : tie.Need-loop-holds Inv-loop μ-loop
-loop-holds c = (wrote-none _ _ .bytes, omega arith, refl)
 
 loop-again : tie.Need-loop-again Inv-loop μ-loop
 loop-again c =
@@ -38,17 +34,6 @@ returns c =
 
 pub put-text-spec : {M : Type 1} → statement M
 put-text-spec =
-    tie.close
-    (tie.spec
-    Inv-loop
-    μ-loop
-    loop-holds
-    (λ c. search needs)
-    (λ c. search needs)
-    (λ c. search needs)
-    (λ c. search needs)
-    (λ c. search needs)
-    loop-again
-    (λ c. search needs)
-    (λ c. search needs)
-    returns)
+    tie.close (tie.spec Inv-loop μ-loop (λ c. (wrote-none _ _ .bytes, omega arith, refl)) (λ c. search needs)
+    (λ c. search needs) (λ c. search needs) (λ c. search needs) (λ c. search needs) loop-again (λ c. search needs)
+    (λ c. search needs) returns)

@@ -2,19 +2,11 @@
 use Prim.Native.Nat.{_+_, _-_}
 use mathlib.Core.Path.{_≡_, sym}
 use native.Mathlib.Omega.{arith}
-use borrow.Author.Tests.{le-leb, lt-leb, eq-eqb, ne-eqb}
-use lib.ListN.{length, getD}
-use lib.Seq.{length-take-le}
+use borrow.Author.{Tests.le-leb, Tests.lt-leb, Tests.eq-eqb, Tests.ne-eqb, Needs.needs}
+use lib.{ListN.length, ListN.getD, Seq.length-take-le}
 use Rattle.text.specs.Line.{bareLine}
-use borrow.Author.Needs.{needs}
 use Rattle.text.proofs.line.bare_length.Statement.{statement}
 use Rattle.text.proofs.line.bare_length.Tie as tie
-
-returns : tie.Need-returns
-unfolding bareLine
-returns c =
-    let s = c .before .args .s .now in
-    rw (lt-leb 2 (length s) (omega arith))
 
 returns-2 : tie.Need-returns-2
 unfolding bareLine
@@ -48,12 +40,6 @@ returns-4 c =
 
 pub bare-length-spec : {M : Type 1} → statement M
 bare-length-spec =
-    tie.close
-    (tie.spec
-    returns
-    (λ c. search needs)
-    returns-2
-    (λ c. search needs)
-    (λ c. search needs)
-    returns-3
-    returns-4)
+    tie.close (tie.spec
+    (λ c. unfold bareLine in let s = c .before .args .s .now in rw (lt-leb 2 (length s) (omega arith)))
+    (λ c. search needs) returns-2 (λ c. search needs) (λ c. search needs) returns-3 returns-4)

@@ -1,20 +1,14 @@
 -- `text::number::whole` meets its contract: each test on the way settles one of `wholeOf`'s. Assumes nothing.
-use mathlib.Core.Path.{_∙_}
-use mathlib.Core.Logic.{⊎-elim}
+use mathlib.Core.{Path._∙_, Logic.⊎-elim}
 use native.Mathlib.Omega.{arith}
-use borrow.Author.Tests.{le-leb, lt-leb, lt-ltb, le-ltb, eq-eqb, ne-eqb}
+use borrow.Author.{Tests.le-leb, Tests.lt-leb, Tests.lt-ltb, Tests.le-ltb, Tests.eq-eqb, Tests.ne-eqb, Needs.needs}
 use lib.ListN.{length, getD}
 use Rattle.text.specs.Number.{wholeOf}
-use borrow.Author.Needs.{needs}
 use Rattle.text.proofs.number.whole.Statement.{statement}
 use Rattle.text.proofs.number.whole.Tie as tie
 use Rattle.text.proofs.number.whole.Reads as reads
 use Rattle.text.proofs.number.whole.Lts as lts
 use Rattle.text.proofs.core.digits.Reads as digits-reads
-
-returns : tie.Need-returns
-unfolding wholeOf
-returns c = let s = c .before .before .args .s .now in simp (lt-leb 1 (length s) (omega arith))
 
 returns-2 : tie.Need-returns-2
 unfolding wholeOf
@@ -54,11 +48,6 @@ returns-4 c =
 
 pub whole-spec : {M : Type 1} → statement M
 whole-spec =
-    tie.close
-    (tie.spec
-    returns
-    returns-2
-    (λ c. search needs)
-    returns-3
-    (λ c κs. search needs)
-    returns-4)
+    tie.close (tie.spec
+    (λ c. unfold wholeOf in let s = c .before .before .args .s .now in simp (lt-leb 1 (length s) (omega arith)))
+    returns-2 (λ c. search needs) returns-3 (λ c κs. search needs) returns-4)

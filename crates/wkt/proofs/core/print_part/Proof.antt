@@ -1,19 +1,15 @@
 -- `wkt::core::print_part` meets its contract. Assumes nothing.
-use mathlib.Core.Path.{_≡_, refl, sym, ap, subst, _∙_}
-use mathlib.Core.Logic.{inl, inr}
-use mathlib.Core.List.{List, _++_}
+use mathlib.Core.{Path._≡_, Path.sym, Path.ap, Path.subst, Path._∙_, Logic.inl, Logic.inr, List.List}
 use Prim.Native.Nat.{ℕ, _+_, _≤_}
 use native.Mathlib.Omega.{arith}
-use lib.ListN.{length}
-use lib.Seq.{length-take-le}
+use lib.{ListN.length, Seq.length-take-le}
 use denote.Ref.{now}
 use borrow.Author.Needs.{needs}
 use Rattle.room.specs.Room.{Wrote}
 use Rattle.room.proofs.Laws.{length-wrote, wrote-front, wrote-fits}
 use Rattle.wkt.specs.declared.Cursor.{Cursor}
-use Rattle.wkt.specs.InnerParts.{Reached, leftOf, pieceOf, nextOf}
-use Rattle.wkt.proofs.Lengths.{piece-short}
-use Rattle.wkt.proofs.Steps.{ahead, Goes, goes}
+use Rattle.wkt.specs.InnerParts.{pieceOf}
+use Rattle.wkt.proofs.{Lengths.piece-short, Steps.ahead, Steps.Goes, Steps.goes}
 use Rattle.wkt.proofs.Rooms.{Come, come-none, come-more}
 use Rattle.wkt.proofs.core.print_part.Statement.{statement}
 use Rattle.wkt.proofs.core.print_part.Tie as tie
@@ -93,21 +89,11 @@ returns c =
       joined = i .joined;
     }
 
-array-share-prefix-piece : tie.Need-array-share-prefix-piece Inv-loop μ-loop
-array-share-prefix-piece c = wrote-fits (c .before .before .before .put-step .ensures .1)
-
-slice-aggregate-put-text : tie.Need-slice-aggregate-put-text Inv-loop μ-loop
-slice-aggregate-put-text c = sym (length-take-le _ _
-    (wrote-fits (c .before .before .before .before .put-step .ensures .1)))
-
 put-text-requires : tie.Need-put-text-requires Inv-loop μ-loop
 put-text-requires c κs =
     let i = c .before .before .before .before .before .before .before .before .loop .inv in
     let w = c .before .before .before .before .put-step .ensures .1 in
     omega (arith, ap length (wrote-front w), w .place, c .before .before .if2 .left, i .fits, i .long)
-
-loop-less : tie.Need-loop-less Inv-loop μ-loop
-loop-less c = stepped (c .before .before .before .before .before .before .before .before) .nearer
 
 loop-again : tie.Need-loop-again Inv-loop μ-loop
 loop-again c =
@@ -150,20 +136,8 @@ returns-2 c =
 
 pub print-part-spec : {M : Type 1} → statement M
 print-part-spec =
-    tie.close
-    (tie.spec
-    Inv-loop
-    μ-loop
-    loop-holds
-    (λ c. search needs)
-    put-step-requires
-    sub-if2
-    (λ c. search needs)
-    returns
-    array-share-prefix-piece
-    slice-aggregate-put-text
-    put-text-requires
-    loop-less
-    loop-again
-    (λ c. search needs)
-    returns-2)
+    tie.close (tie.spec Inv-loop μ-loop loop-holds (λ c. search needs) put-step-requires sub-if2 (λ c. search needs)
+    returns (λ c. wrote-fits (c .before .before .before .put-step .ensures .1))
+    (λ c. sym (length-take-le _ _ (wrote-fits (c .before .before .before .before .put-step .ensures .1))))
+    put-text-requires (λ c. stepped (c .before .before .before .before .before .before .before .before) .nearer)
+    loop-again (λ c. search needs) returns-2)

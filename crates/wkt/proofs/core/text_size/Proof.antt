@@ -1,6 +1,6 @@
 -- `wkt::core::text_size` meets its contract. Assumes nothing.
 use mathlib.Core.Path.{_≡_, refl, sym, ap, subst, _∙_}
-use Prim.Native.Nat.{ℕ, _+_, _*_, _≤_}
+use Prim.Native.Nat.{_+_, _*_, _≤_}
 use native.Mathlib.Omega.{arith}
 use lib.ListN.{length, length-append}
 use denote.Ref.{now}
@@ -10,7 +10,7 @@ use Rattle.network.specs.Limits.{maxEdges}
 use Rattle.network.proofs.Numbers.{edges-le}
 use Rattle.wkt.specs.declared.Cursor.{Cursor}
 use Rattle.wkt.specs.Text.{textOf}
-use Rattle.wkt.specs.InnerParts.{Reached, linesFrom, leftOf, pieceOf, nextOf}
+use Rattle.wkt.specs.InnerParts.{Reached, linesFrom, leftOf, pieceOf}
 use Rattle.wkt.proofs.Lengths.{piece-short}
 use Rattle.wkt.proofs.Steps.{ahead, Goes, goes, left-first, left-end, reached-first, count-total}
 use Rattle.wkt.proofs.core.text_size.Statement.{statement}
@@ -116,9 +116,6 @@ add-size c =
     let start = at-loop .before .before .before .before .before .before in
     omega (arith, at-loop .loop .inv .1 .1 .1, short (c .before .before), few start .0, few start .1)
 
-loop-less : tie.Need-loop-less Inv-loop μ-loop
-loop-less c = stepped (c .before .before .before) .nearer
-
 loop-again : tie.Need-loop-again Inv-loop μ-loop
 loop-again c =
     let at-put-step = c .before .before .before in
@@ -158,15 +155,5 @@ returns c =
 
 pub text-size-spec : {M : Type 1} → statement M
 text-size-spec =
-    tie.close
-    (tie.spec
-    Inv-loop
-    μ-loop
-    (λ c κs. search needs)
-    loop-holds
-    (λ c. search needs)
-    put-step-requires
-    add-size
-    loop-less
-    loop-again
-    returns)
+    tie.close (tie.spec Inv-loop μ-loop (λ c κs. search needs) loop-holds (λ c. search needs) put-step-requires
+    add-size (λ c. stepped (c .before .before .before) .nearer) loop-again returns)

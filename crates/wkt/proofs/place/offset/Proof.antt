@@ -11,15 +11,6 @@ product : (c : tie.Start) → 1000 * c .args .spacing * c .args .num ≤ 2147483
 product c = let n : c .args .num ≤ 4294967295 = search needs in
     product-small (c .args .spacing) (c .args .num) (c .pre .0) n
 
-mul-result : tie.Need-mul-result
-mul-result c = omega (arith, product c)
-
-mul-result-2 : tie.Need-mul-result-2
-mul-result-2 c = omega (arith, product c)
-
-add-result : tie.Need-add-result
-add-result c = omega (arith, product c)
-
 cast-result : tie.Need-cast-result
 cast-result c =
     let small : offsetOf (c .args .spacing) (c .args .num) (c .args .den) ≤ 1000 * c .args .spacing =
@@ -28,14 +19,6 @@ cast-result c =
 
 pub offset-spec : {M : Type 1} → statement M
 offset-spec =
-    tie.close
-    (tie.spec
-    (λ c. search needs)
-    (λ c. search needs)
-    mul-result
-    mul-result-2
-    add-result
-    (λ c. search needs)
-    (λ c. search needs)
-    cast-result
-    (λ c. search needs))
+    tie.close (tie.spec (λ c. search needs) (λ c. search needs) (λ c. omega (arith, product c))
+    (λ c. omega (arith, product c)) (λ c. omega (arith, product c)) (λ c. search needs) (λ c. search needs)
+    cast-result (λ c. search needs))

@@ -13,8 +13,7 @@ offset-requires c κs =
           (num-den (s .args .v) (s .args .a) (s .args .b) (s .pre .0)),
     )
 
-returns : tie.Need-returns
-returns c = c .offset .ensures ∙ rw (c .before .before .apart .ensures, c .before .apart2 .ensures)
-
 pub slide-spec : {M : Type 1} → statement M
-slide-spec = tie.close (tie.spec (λ c κs. search needs) (λ c κs. search needs) offset-requires returns)
+slide-spec =
+    tie.close (tie.spec (λ c κs. search needs) (λ c κs. search needs) offset-requires
+    (λ c. c .offset .ensures ∙ rw (c .before .before .apart .ensures, c .before .apart2 .ensures)))

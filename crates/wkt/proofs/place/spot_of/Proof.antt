@@ -1,15 +1,12 @@
 -- `wkt::place::spot_of` meets its contract. Assumes nothing.
-use mathlib.Core.Path.{_≡_, subst, _∙_}
-use mathlib.Core.Bool.{true}
+use mathlib.Core.{Path._≡_, Path.subst, Bool.true}
 use Prim.Native.Nat.{_*_, _≤_}
 use native.Mathlib.Omega.{arith}
 use denote.Ref.{now}
 use Rattle.network.specs.declared.Edge.{Edge}
 use Rattle.network.specs.declared.Edge.the-variants.{Horizontal, Vertical}
-use Rattle.network.specs.Edges.{WithinEdge, levelAt}
-use Rattle.network.specs.Crossed.{crossedEdge, distance}
+use Rattle.network.specs.{Edges.WithinEdge, Crossed.crossedEdge}
 use Rattle.network.proofs.Astride.{astride, num-den}
-use Rattle.wkt.specs.Places.{slideOf, standOf}
 use Rattle.wkt.proofs.Nearest.{offset-small, metres-small}
 use borrow.Author.Needs.{needs}
 use Rattle.wkt.proofs.place.spot_of.Statement.{statement}
@@ -33,17 +30,6 @@ ready c = subst (Crossing (start c)) (c .before .e .given .1) (start c .pre .1)
 ready-2 : (c : tie.After-known-told2)
     → Crossing (start-2 c) (Vertical (c .before .e2 .given .0 .0) (c .before .e2 .given .0 .1 .0))
 ready-2 c = subst (Crossing (start-2 c)) (c .before .e2 .given .1) (start-2 c .pre .1)
-
-level-requires : tie.Need-level-requires
-level-requires c κs =
-    let w = ready c .0 in
-    (start c .pre .0 .sized, (w .0, omega (arith, w .1)))
-
-add-level : tie.Need-add-level
-add-level c = omega (arith, ready (c .before) .0 .1, start (c .before) .pre .0 .sized .sides .narrow)
-
-level-requires-2 : tie.Need-level-requires-2
-level-requires-2 c κs = (start (c .before) .pre .0 .sized, ready (c .before) .0)
 
 stand-requires : tie.Need-stand-requires
 stand-requires c κs =
@@ -84,17 +70,6 @@ stand-requires-2 c κs =
       omega (arith, ready (c .before .before .before .before) .0 .0, s .pre .0 .sized .sides .low),
       (s .pre .0 .near, s .pre .0 .south),
     )
-
-level-requires-3 : tie.Need-level-requires-3
-level-requires-3 c κs =
-    let w = ready-2 c .0 in
-    (start-2 c .pre .0 .sized, (omega (arith, w .0), w .1))
-
-add-level-2 : tie.Need-add-level-2
-add-level-2 c = omega (arith, ready-2 (c .before) .0 .0, start-2 (c .before) .pre .0 .sized .sides .low)
-
-level-requires-4 : tie.Need-level-requires-4
-level-requires-4 c κs = (start-2 (c .before) .pre .0 .sized, ready-2 (c .before) .0)
 
 stand-requires-3 : tie.Need-stand-requires-3
 stand-requires-3 c κs =
@@ -162,25 +137,12 @@ returns-2 c = rw (
 
 pub spot-of-spec : {M : Type 1} → statement M
 spot-of-spec =
-    tie.close
-    (tie.spec
-    (λ c. search needs)
-    (λ c. search needs)
-    (λ c. search needs)
-    level-requires
-    add-level
-    level-requires-2
-    stand-requires
-    slide-requires
-    add-t20
-    stand-requires-2
-    (λ c. search needs)
-    level-requires-3
-    add-level-2
-    level-requires-4
-    stand-requires-3
-    stand-requires-4
-    slide-requires-2
-    add-t26
-    returns
-    returns-2)
+    tie.close (tie.spec (λ c. search needs) (λ c. search needs) (λ c. search needs)
+    (λ c κs. let w = ready c .0 in (start c .pre .0 .sized, (w .0, omega (arith, w .1))))
+    (λ c. omega (arith, ready (c .before) .0 .1, start (c .before) .pre .0 .sized .sides .narrow))
+    (λ c κs. (start (c .before) .pre .0 .sized, ready (c .before) .0)) stand-requires slide-requires add-t20
+    stand-requires-2 (λ c. search needs)
+    (λ c κs. let w = ready-2 c .0 in (start-2 c .pre .0 .sized, (omega (arith, w .0), w .1)))
+    (λ c. omega (arith, ready-2 (c .before) .0 .0, start-2 (c .before) .pre .0 .sized .sides .low))
+    (λ c κs. (start-2 (c .before) .pre .0 .sized, ready-2 (c .before) .0)) stand-requires-3 stand-requires-4
+    slide-requires-2 add-t26 returns returns-2)

@@ -1,6 +1,5 @@
 -- `wkt::put::put_before` meets its contract. Assumes nothing.
-use borrow.Author.Tests.{eq-eqb, ne-eqb}
-use borrow.Author.Needs.{needs}
+use borrow.Author.{Tests.eq-eqb, Tests.ne-eqb, Needs.needs}
 use Rattle.wkt.proofs.put.put_before.Statement.{statement}
 use Rattle.wkt.proofs.put.put_before.Tie as tie
 
@@ -22,17 +21,6 @@ returns-3 c = rw (ne-eqb _ _ (c .before .before .before .before .before .if1 .le
 
 pub put-before-spec : {M : Type 1} → statement M
 put-before-spec =
-    tie.close
-    (tie.spec
-    (λ c. search needs)
-    (λ c κs. search needs)
-    (λ c. search needs)
-    returns
-    (λ c. search needs)
-    (λ c κs. search needs)
-    (λ c. search needs)
-    returns-2
-    (λ c. search needs)
-    (λ c κs. search needs)
-    (λ c. search needs)
-    returns-3)
+    tie.close (tie.spec (λ c. search needs) (λ c κs. search needs) (λ c. search needs) returns (λ c. search needs)
+    (λ c κs. search needs) (λ c. search needs) returns-2 (λ c. search needs) (λ c κs. search needs)
+    (λ c. search needs) returns-3)

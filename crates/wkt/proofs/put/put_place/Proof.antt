@@ -1,13 +1,10 @@
 -- `wkt::put::put_place` meets its contract. Assumes nothing.
-use mathlib.Core.Path.{_≡_, sym, ap, subst, _∙_}
-use mathlib.Core.Bool.{true}
+use mathlib.Core.{Path._≡_, Path.sym, Path.ap, Path.subst, Path._∙_, Bool.true}
 use denote.Ref.{now}
 use Rattle.network.specs.declared.Edge.{Edge}
-use Rattle.network.specs.Edges.{edgeAt, WithinEdge}
-use Rattle.network.specs.Crossed.{crossedEdge}
+use Rattle.network.specs.{Edges.WithinEdge, Crossed.crossedEdge}
 use Rattle.network.proofs.Numbers.{edge-within}
-use Rattle.wkt.specs.Places.{spotOf}
-use Rattle.wkt.specs.Text.{showSpot, placeText}
+use Rattle.wkt.specs.{Places.spotOf, Text.showSpot, Text.placeText}
 use borrow.Author.Needs.{needs}
 use Rattle.wkt.proofs.put.put_place.Statement.{statement}
 use Rattle.wkt.proofs.put.put_place.Tie as tie
@@ -36,20 +33,8 @@ spot-of-requires c κs =
           ),
     )
 
-put-spot-requires : tie.Need-put-spot-requires
-put-spot-requires c κs = rw (spot c) (start (c .before .before) .pre .1 .1)
-
-returns : tie.Need-returns
-returns c = rw (← spot (c .before .before .before)) (c .before .before .put-spot .ensures)
-
 pub put-place-spec : {M : Type 1} → statement M
 put-place-spec =
-    tie.close
-    (tie.spec
-    (λ c. search needs)
-    (λ c. search needs)
-    (λ c κs. search needs)
-    spot-of-requires
-    put-spot-requires
-    (λ c. search needs)
-    returns)
+    tie.close (tie.spec (λ c. search needs) (λ c. search needs) (λ c κs. search needs) spot-of-requires
+    (λ c κs. rw (spot c) (start (c .before .before) .pre .1 .1)) (λ c. search needs)
+    (λ c. rw (← spot (c .before .before .before)) (c .before .before .put-spot .ensures)))

@@ -15,9 +15,6 @@ room : (c : tie.Start)
     (c .args .out .now)
 room c = omega (arith, c .pre, length-append (showMetres (c .args .spot .x)) (32 ∷ showMetres (c .args .spot .y)))
 
-put-decimal-requires : tie.Need-put-decimal-requires
-put-decimal-requires c κs = (omega arith, omega arith, omega (arith, room (c .before .before)))
-
 put-byte-requires : tie.Need-put-byte-requires
 put-byte-requires c κs =
     let east = c .before .before .before .put-decimal in
@@ -31,18 +28,8 @@ put-decimal-requires-2 c κs =
     let start = after-east .before .before .before in (
       omega arith,
       omega arith,
-      omega (
-        arith,
-        room start,
-        east .ensures .place,
-        east .kept .0,
-        space .ensures .place,
-        space .kept .0,
-      ),
+      omega (arith, room start, east .ensures .place, east .kept .0, space .ensures .place, space .kept .0),
     )
-
-same-length : tie.Need-same-length
-same-length c = search needs
 
 returns : tie.Need-returns
 returns c =
@@ -56,5 +43,5 @@ returns c =
 
 pub put-spot-spec : {M : Type 1} → statement M
 put-spot-spec =
-    tie.close
-    (tie.spec put-decimal-requires put-byte-requires put-decimal-requires-2 same-length returns)
+    tie.close (tie.spec (λ c κs. (omega arith, omega arith, omega (arith, room (c .before .before))))
+    put-byte-requires put-decimal-requires-2 (λ c. search needs) returns)

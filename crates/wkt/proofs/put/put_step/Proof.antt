@@ -1,11 +1,10 @@
 -- `wkt::put::put_step` meets its contract. Assumes nothing.
 use Rattle.network.specs.Limits.{maxEdges}
 use Rattle.network.proofs.Numbers.{edges-le}
-use mathlib.Core.Path.{_≡_, refl, sym, ap, _∙_}
+use mathlib.Core.{Path._≡_, List.List, List._++_}
 use Prim.Native.Nat.{ℕ, _+_, _≤_, _<_}
-use mathlib.Core.List.{List, _++_}
 use native.Mathlib.Omega.{arith}
-use borrow.Author.Tests.{eq-eqb, ne-eqb}
+use borrow.Author.{Tests.eq-eqb, Tests.ne-eqb, Needs.needs}
 use denote.Ref.{now}
 use lib.ListN.{length, getD, length-append}
 use Rattle.room.specs.Room.{Wrote}
@@ -14,7 +13,6 @@ use Rattle.wkt.specs.Text.{placeText}
 use Rattle.wkt.specs.InnerParts.{lineAt, pointsAt, beforeText, pieceOf}
 use Rattle.wkt.proofs.Lengths.{before-short, place-short}
 use Rattle.wkt.proofs.Steps.{room, place-within, point-edge}
-use borrow.Author.Needs.{needs}
 use Rattle.wkt.proofs.put.put_step.Statement.{statement}
 use Rattle.wkt.proofs.put.put_step.Tie as tie
 
@@ -90,9 +88,6 @@ ended : (c : tie.After-slice-known2)
 unfolding pieceOf
 ended c = rw (eq-eqb _ _ (c .before .before .before .before .if1 .taken)) (c .before .before .put-end .ensures)
 
-returns : tie.Need-returns
-returns c = (rw (eq-eqb _ _ (c .before .before .before .before .if1 .taken)), ended c)
-
 cast-count : tie.Need-cast-count
 cast-count c = omega (
   arith,
@@ -116,9 +111,6 @@ add-if2 c = omega (
       (c .before .before .before .before .before .before .before .before .args .at .line),
 )
 
-add-t28 : tie.Need-add-t28
-add-t28 c = omega (arith, few (c .before .before .before), enough (c .before .before .before))
-
 line-ended : (c : tie.After-slice-known3)
     → let in-line = c .before .before .before .before .before .before .before in
     let s = begun in-line in
@@ -139,15 +131,6 @@ returns-2 c = (
   ),
   line-ended c,
 )
-
-add-n : tie.Need-add-n
-add-n c = omega (arith, few (c .before .before .before .before), within c)
-
-mul-n : tie.Need-mul-n
-mul-n c = omega (arith, few (c .before .before .before .before), within c)
-
-shared-slice-read-n : tie.Need-shared-slice-read-n
-shared-slice-read-n c = within (c .before)
 
 add-t15 : tie.Need-add-t15
 add-t15 c =
@@ -214,30 +197,11 @@ returns-3 c =
 
 pub put-step-spec : {M : Type 1} → statement M
 put-step-spec =
-    tie.close
-    (tie.spec
-    (λ c. search needs)
-    (λ c κs. search needs)
-    (λ c. search needs)
-    returns
-    (λ c. search needs)
-    (λ c. search needs)
-    cast-count
-    (λ c. search needs)
-    (λ c. search needs)
-    cast-if2
-    add-if2
-    (λ c. search needs)
-    add-t28
-    (λ c κs. search needs)
-    (λ c. search needs)
-    returns-2
-    (λ c κs. search needs)
-    add-n
-    mul-n
-    shared-slice-read-n
-    (λ c κs. search needs)
-    add-t15
-    put-place-requires
-    (λ c. search needs)
-    returns-3)
+    tie.close (tie.spec (λ c. search needs) (λ c κs. search needs) (λ c. search needs)
+    (λ c. (rw (eq-eqb _ _ (c .before .before .before .before .if1 .taken)), ended c)) (λ c. search needs)
+    (λ c. search needs) cast-count (λ c. search needs) (λ c. search needs) cast-if2 add-if2 (λ c. search needs)
+    (λ c. omega (arith, few (c .before .before .before), enough (c .before .before .before))) (λ c κs. search needs)
+    (λ c. search needs) returns-2 (λ c κs. search needs)
+    (λ c. omega (arith, few (c .before .before .before .before), within c))
+    (λ c. omega (arith, few (c .before .before .before .before), within c)) (λ c. within (c .before))
+    (λ c κs. search needs) add-t15 put-place-requires (λ c. search needs) returns-3)

@@ -3,7 +3,6 @@
 use Prim.Native.Nat.{_-_}
 use native.Mathlib.Omega.{arith}
 use lib.ListN.{length}
-use borrow.Author.Needs.{needs}
 use Rattle.contours_steps.proofs.Begun.{Counting, counting-none, counting-room, counting-next, counting-end}
 use Rattle.contours_steps.proofs.core.intake.line_begun.Statement.{statement}
 use Rattle.contours_steps.proofs.core.intake.line_begun.Tie as tie
@@ -14,43 +13,15 @@ Inv-loop text at₀ line₀ end₀ at line end = Counting text at line end
 abbrev μ-loop : tie.MeasureT-loop
 μ-loop text at₀ line₀ end₀ at line end = length text - at
 
-line-end-requires : tie.Need-line-end-requires Inv-loop μ-loop
-line-end-requires c κs = omega arith
-
-loop-holds : tie.Need-loop-holds Inv-loop μ-loop
-loop-holds c = counting-none (c .before .before .args .text .now) (c .line-end .result) (c .line-end .ensures)
-
-add-at : tie.Need-add-at Inv-loop μ-loop
-add-at c = omega (arith, counting-room (c .before .loop .inv) (omega arith))
-
-add-line : tie.Need-add-line Inv-loop μ-loop
-add-line c = omega (arith, c .before .loop .inv .few, c .before .loop .inv .within)
-
-line-end-requires-2 : tie.Need-line-end-requires-2 Inv-loop μ-loop
-line-end-requires-2 c κs = counting-room (c .before .loop .inv) (omega arith)
-
-loop-less : tie.Need-loop-less Inv-loop μ-loop
-loop-less c =
-    let l = c .before .before .loop in
-    omega (arith, counting-room (l .inv) (omega arith), l .inv .ended)
-
 loop-again : tie.Need-loop-again Inv-loop μ-loop
 loop-again c = counting-next (c .line-end2 .result) (c .before .before .loop .inv) (omega arith) (c .line-end2 .ensures)
 
-returns : tie.Need-returns Inv-loop μ-loop
-returns c = counting-end (c .before .loop .inv) (omega arith)
-
 pub line-begun-spec : {M : Type 1} → statement M
 line-begun-spec =
-    tie.close
-    (tie.spec
-    Inv-loop
-    μ-loop
-    line-end-requires
-    loop-holds
-    add-at
-    add-line
-    line-end-requires-2
-    loop-less
-    loop-again
-    returns)
+    tie.close (tie.spec Inv-loop μ-loop (λ c κs. omega arith)
+    (λ c. counting-none (c .before .before .args .text .now) (c .line-end .result) (c .line-end .ensures))
+    (λ c. omega (arith, counting-room (c .before .loop .inv) (omega arith)))
+    (λ c. omega (arith, c .before .loop .inv .few, c .before .loop .inv .within))
+    (λ c κs. counting-room (c .before .loop .inv) (omega arith))
+    (λ c. let l = c .before .before .loop in omega (arith, counting-room (l .inv) (omega arith), l .inv .ended))
+    loop-again (λ c. counting-end (c .before .loop .inv) (omega arith)))

@@ -6,14 +6,8 @@ use borrow.Author.Needs.{needs}
 use Rattle.contours_steps.proofs.core.intake.overlong_line.Statement.{statement}
 use Rattle.contours_steps.proofs.core.intake.overlong_line.Tie as tie
 
-fault-line-requires : tie.Need-fault-line-requires
-fault-line-requires c κs = search needs
-
 returns : tie.Need-returns
 returns c = overlong-head (c .before .before .before .args .text .now) (c .before .fault-line .ensures) (omega arith)
-
-line-begun-requires : tie.Need-line-begun-requires
-line-begun-requires c κs = search needs
 
 returns-2 : tie.Need-returns-2
 returns-2 c =
@@ -30,5 +24,4 @@ returns-3 c =
     (omega arith)
 
 pub overlong-line-spec : {M : Type 1} → statement M
-overlong-line-spec =
-    tie.close (tie.spec fault-line-requires returns line-begun-requires returns-2 returns-3)
+overlong-line-spec = tie.close (tie.spec (λ c κs. search needs) returns (λ c κs. search needs) returns-2 returns-3)

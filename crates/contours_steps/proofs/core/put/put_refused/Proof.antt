@@ -7,12 +7,6 @@ use borrow.Author.Needs.{needs}
 use Rattle.contours_steps.proofs.core.put.put_refused.Statement.{statement}
 use Rattle.contours_steps.proofs.core.put.put_refused.Tie as tie
 
-slice-aggregate-put-text : tie.Need-slice-aggregate-put-text
-slice-aggregate-put-text c = search needs
-
-put-text-requires : tie.Need-put-text-requires
-put-text-requires c κs = search needs
-
 put-number-requires : tie.Need-put-number-requires
 put-number-requires c κs =
     let word : tie.After-put-text = search in
@@ -50,9 +44,6 @@ put-number-requires-2 c κs =
       number-short (s .args .line),
     )
 
-slice-aggregate-put-text-2 : tie.Need-slice-aggregate-put-text-2
-slice-aggregate-put-text-2 c = search needs
-
 put-text-requires-2 : tie.Need-put-text-requires-2
 put-text-requires-2 c κs =
     let second = c .before .before .before .before in
@@ -79,9 +70,6 @@ put-text-requires-2 c κs =
       number-short (s .args .line),
     )
 
-same-length : tie.Need-same-length
-same-length c = search needs
-
 returns : tie.Need-returns
 unfolding refusedLine
 returns c =
@@ -100,14 +88,5 @@ returns c =
 
 pub put-refused-spec : {M : Type 1} → statement M
 put-refused-spec =
-    tie.close
-    (tie.spec
-    slice-aggregate-put-text
-    put-text-requires
-    put-number-requires
-    put-byte-requires
-    put-number-requires-2
-    slice-aggregate-put-text-2
-    put-text-requires-2
-    same-length
-    returns)
+    tie.close (tie.spec (λ c. search needs) (λ c κs. search needs) put-number-requires put-byte-requires
+    put-number-requires-2 (λ c. search needs) put-text-requires-2 (λ c. search needs) returns)

@@ -1,8 +1,7 @@
 -- `contours_steps::core::put::put_start` meets its contract: the level, and the semicolon past it. Assumes nothing.
 use native.Mathlib.Omega.{arith}
 use lib.ListN.{length-append}
-use Rattle.text.specs.Number.{showLevel}
-use Rattle.text.specs.Spelled.{bytes}
+use Rattle.text.specs.{Number.showLevel, Spelled.bytes}
 use Rattle.room.proofs.Laws.{wrote-then}
 use Rattle.text.proofs.Shown.{level-most}
 use borrow.Author.Needs.{needs}
@@ -21,9 +20,6 @@ put-byte-requires c κs =
     let l = level .put-level in
     omega (arith, s .pre .1, level-most (s .args .v) (s .pre .0), l .ensures .place, l .kept .0)
 
-same-length : tie.Need-same-length
-same-length c = search needs
-
 returns : tie.Need-returns
 returns c =
     let byte = c .before .before in
@@ -35,4 +31,4 @@ returns c =
     (byte .put-byte .ensures)
 
 pub put-start-spec : {M : Type 1} → statement M
-put-start-spec = tie.close (tie.spec put-level-requires put-byte-requires same-length returns)
+put-start-spec = tie.close (tie.spec put-level-requires put-byte-requires (λ c. search needs) returns)

@@ -4,12 +4,6 @@ use borrow.Author.Tests.{le-ltb, lt-ltb}
 use Rattle.movement.proofs.period.Period.at.Statement.{statement}
 use Rattle.movement.proofs.period.Period.at.Tie as tie
 
-returns : tie.Need-returns
-returns c = simp (lt-ltb _ _ (c .if1 .taken))
-
-returns-2 : tie.Need-returns-2
-returns-2 c = simp (le-ltb _ _ (c .before .if1 .left), lt-ltb _ _ (c .if2 .taken))
-
 returns-3 : tie.Need-returns-3
 returns-3 c =
     simp (le-ltb _ _ (c .before .before .if1 .left), le-ltb _ _ (c .before .if2 .left), lt-ltb _ _ (c .if3 .taken))
@@ -19,4 +13,6 @@ returns-4 c =
     simp (le-ltb _ _ (c .before .before .if1 .left), le-ltb _ _ (c .before .if2 .left), le-ltb _ _ (c .if3 .left))
 
 pub at-spec : {M : Type 1} → statement M
-at-spec = tie.close (tie.spec returns returns-2 returns-3 returns-4)
+at-spec =
+    tie.close (tie.spec (λ c. simp (lt-ltb _ _ (c .if1 .taken)))
+    (λ c. simp (le-ltb _ _ (c .before .if1 .left), lt-ltb _ _ (c .if2 .taken))) returns-3 returns-4)

@@ -1,6 +1,5 @@
 -- `report_steps::core::feeding::header_refusal` meets its contract: the header with as many levels as points, or
--- another.
--- Assumes nothing.
+-- another. Assumes nothing.
 use Rattle.report_steps.proofs.Takings.{header-fits, header-other, header-off}
 use borrow.Author.Needs.{needs}
 use Rattle.report_steps.proofs.core.feeding.header_refusal.Statement.{statement}
@@ -23,12 +22,5 @@ off c =
 
 pub header-refusal-spec : {M : Type 1} → statement M
 header-refusal-spec =
-    tie.close
-    (tie.spec
-    (λ c κs. search needs)
-    (λ c. search needs)
-    (λ c. search needs)
-    fits
-    (λ c. search needs)
-    other
-    off)
+    tie.close (tie.spec (λ c κs. search needs) (λ c. search needs) (λ c. search needs) fits (λ c. search needs)
+    other off)

@@ -1,5 +1,4 @@
--- `report_steps::core::feeding::take_last` meets its contract: the last line, or none.
--- Assumes nothing.
+-- `report_steps::core::feeding::take_last` meets its contract: the last line, or none. Assumes nothing.
 use Rattle.book_rules.specs.Columns.{Book, bookOf}
 use Rattle.report_steps.proofs.Takings.{last-headless, last-empty, last-refused, last-taken}
 use borrow.Author.Needs.{needs}
@@ -48,19 +47,6 @@ accepted c =
 
 pub take-last-spec : {M : Type 1} → statement M
 take-last-spec =
-    tie.close
-    (tie.spec
-    headless
-    empty
-    (λ c κs. search needs)
-    (λ c. search needs)
-    (λ c. search needs)
-    (λ c. search needs)
-    (λ c. search needs)
-    refused
-    (λ c. search needs)
-    (λ c. search needs)
-    (λ c. search needs)
-    (λ c. search needs)
-    (λ c. search needs)
-    accepted)
+    tie.close (tie.spec headless empty (λ c κs. search needs) (λ c. search needs) (λ c. search needs)
+    (λ c. search needs) (λ c. search needs) refused (λ c. search needs) (λ c. search needs) (λ c. search needs)
+    (λ c. search needs) (λ c. search needs) accepted)

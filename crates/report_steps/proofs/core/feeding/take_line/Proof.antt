@@ -1,5 +1,4 @@
--- `report_steps::core::feeding::take_line` meets its contract: the header, or a row.
--- Assumes nothing.
+-- `report_steps::core::feeding::take_line` meets its contract: the header, or a row. Assumes nothing.
 use Rattle.book_rules.specs.Columns.{bookOf}
 use Rattle.report_steps.proofs.Takings.{header-taken, row-taken}
 use borrow.Author.Needs.{needs}
@@ -26,14 +25,5 @@ row c =
 
 pub take-line-spec : {M : Type 1} → statement M
 take-line-spec =
-    tie.close
-    (tie.spec
-    (λ c κs. search needs)
-    header
-    (λ c κs. search needs)
-    (λ c κs. search needs)
-    (λ c. search needs)
-    (λ c. search needs)
-    (λ c. search needs)
-    (λ c. search needs)
-    row)
+    tie.close (tie.spec (λ c κs. search needs) header (λ c κs. search needs) (λ c κs. search needs)
+    (λ c. search needs) (λ c. search needs) (λ c. search needs) (λ c. search needs) row)

@@ -1,5 +1,4 @@
--- `report_steps::core::feeding::take_lines` meets its contract: the lines before `at` are taken.
--- Assumes nothing.
+-- `report_steps::core::feeding::take_lines` meets its contract: the lines before `at` are taken. Assumes nothing.
 use mathlib.Core.Path.{_≡_, refl}
 use Prim.Native.Nat.{_-_, _≤_}
 use native.Mathlib.Omega.{arith}
@@ -52,30 +51,15 @@ loop-holds c =
 line-starts : tie.Need-part-take-line-start Inv-loop μ-loop
 line-starts c = let entered = c .before .before .before .before in inside (entered .before) .0
 
-line-ends : tie.Need-part-take-line-end Inv-loop μ-loop
-line-ends c = let entered = c .before .before .before .before in inside (entered .before) .1
-
-take-line-requires : tie.Need-take-line-requires Inv-loop μ-loop
-take-line-requires c κs = let lent = c .before .before in lent .before .before .before .before .loop .inv .0 .kept
-
 refused : tie.Need-returns Inv-loop μ-loop
 refused c =
     let line = taken (c .before) in
     taking-refused (turn line .loop .inv .0) (omega arith) (line .take-line .ensures) (c .if1 .taken)
 
-add-at : tie.Need-add-at Inv-loop μ-loop
-add-at c = omega (arith, inside (turn (taken (c .before))) .1)
-
 add-number : tie.Need-add-number Inv-loop μ-loop
 add-number c =
     let l = turn (taken (c .before)) in
     omega (arith, inside l .0, inside l .1, l .loop .inv .0 .most, start (l .before) .pre .1)
-
-line-end-requires : tie.Need-line-end-requires-2 Inv-loop μ-loop
-line-end-requires c κs = omega (arith, inside (turn (taken (c .before))) .1)
-
-loop-less : tie.Need-loop-less Inv-loop μ-loop
-loop-less c = let l = turn (taken (c .before .before)) in omega (arith, inside l .0, inside l .1)
 
 loop-again : tie.Need-loop-again Inv-loop μ-loop
 loop-again c =
@@ -87,34 +71,14 @@ loop-again c =
     (c .line-end2 .ensures) in
     (one, search needs, search needs, search needs, search needs)
 
-done : tie.Need-returns-2 Inv-loop μ-loop
-done c = taking-done (c .before .loop .inv .0) (omega arith)
-
 pub take-lines-spec : {M : Type 1} → statement M
 take-lines-spec =
-    tie.close
-    (tie.spec
-    Inv-loop
-    μ-loop
-    (λ c κs. omega arith)
-    loop-holds
-    (λ c. inside c .1)
-    line-starts
-    line-starts
-    line-ends
-    take-line-requires
-    (λ c. search needs)
-    (λ c. search needs)
-    (λ c. search needs)
-    (λ c. search needs)
-    refused
-    add-at
-    add-number
-    line-end-requires
-    loop-less
-    loop-again
-    (λ c. search needs)
-    (λ c. search needs)
-    (λ c. search needs)
-    (λ c. search needs)
-    done)
+    tie.close (tie.spec Inv-loop μ-loop (λ c κs. omega arith) loop-holds (λ c. inside c .1) line-starts line-starts
+    (λ c. let entered = c .before .before .before .before in inside (entered .before) .1)
+    (λ c κs. let lent = c .before .before in lent .before .before .before .before .loop .inv .0 .kept)
+    (λ c. search needs) (λ c. search needs) (λ c. search needs) (λ c. search needs) refused
+    (λ c. omega (arith, inside (turn (taken (c .before))) .1)) add-number
+    (λ c κs. omega (arith, inside (turn (taken (c .before))) .1))
+    (λ c. let l = turn (taken (c .before .before)) in omega (arith, inside l .0, inside l .1)) loop-again
+    (λ c. search needs) (λ c. search needs) (λ c. search needs) (λ c. search needs)
+    (λ c. taking-done (c .before .loop .inv .0) (omega arith)))

@@ -1,11 +1,9 @@
 -- `report_steps::core::feeding::take_piece` meets its contract: the lines, a line that is too long, or the bytes that
--- wait.
--- Assumes nothing.
+-- wait. Assumes nothing.
 use mathlib.Core.Path.{_≡_, refl, sym, _∙_}
 use Prim.Native.Nat.{_-_, _≤_}
 use native.Mathlib.Omega.{arith}
-use lib.ListN.{length, take, drop, length-drop}
-use lib.Seq.{length-take-le}
+use lib.{ListN.length, ListN.take, ListN.drop, ListN.length-drop, Seq.length-take-le}
 use Rattle.report_steps.proofs.Pieces.{piece-refused, piece-long, piece-left, waiting}
 use borrow.Author.Needs.{needs}
 use Rattle.report_steps.proofs.core.feeding.take_piece.Statement.{statement}
@@ -47,12 +45,6 @@ take-lines-requires c κs =
     let s = levels .before .before .before .before in
     (s .pre .0, rw (whole s) (s .pre .1 .1))
 
-sub-left : tie.Need-sub-left
-sub-left c = begins (taken c)
-
-refused : tie.Need-returns
-refused c = piece-refused _ (taken (c .before) .take-lines .ensures) (c .if1 .taken)
-
 long : tie.Need-returns-2
 long c =
     let fine = c .before in
@@ -78,28 +70,8 @@ left c =
 
 pub take-piece-spec : {M : Type 1} → statement M
 take-piece-spec =
-    tie.close
-    (tie.spec
-    (λ c. search needs)
-    slice-aggregate
-    take-lines-requires
-    sub-left
-    (λ c. search needs)
-    (λ c. search needs)
-    (λ c. search needs)
-    (λ c. search needs)
-    (λ c. search needs)
-    refused
-    (λ c. search needs)
-    (λ c. search needs)
-    (λ c. search needs)
-    (λ c. search needs)
-    (λ c. search needs)
-    long
-    to-front-requires
-    (λ c. search needs)
-    (λ c. search needs)
-    (λ c. search needs)
-    (λ c. search needs)
-    (λ c. search needs)
-    left)
+    tie.close (tie.spec (λ c. search needs) slice-aggregate take-lines-requires (λ c. begins (taken c))
+    (λ c. search needs) (λ c. search needs) (λ c. search needs) (λ c. search needs) (λ c. search needs)
+    (λ c. piece-refused _ (taken (c .before) .take-lines .ensures) (c .if1 .taken)) (λ c. search needs)
+    (λ c. search needs) (λ c. search needs) (λ c. search needs) (λ c. search needs) long to-front-requires
+    (λ c. search needs) (λ c. search needs) (λ c. search needs) (λ c. search needs) (λ c. search needs) left)

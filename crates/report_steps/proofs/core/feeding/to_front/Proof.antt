@@ -1,10 +1,9 @@
 -- `report_steps::core::feeding::to_front` meets its contract: the bytes before `i` are those from `from` on, and the
--- others are as they were.
--- Assumes nothing.
-use mathlib.Core.Path.{_≡_, refl, _∙_}
-use Prim.Native.Nat.{_+_, _-_, _≤_}
+-- others are as they were. Assumes nothing.
+use mathlib.Core.Path.{_≡_, refl}
+use Prim.Native.Nat.{_-_, _≤_}
 use native.Mathlib.Omega.{arith}
-use lib.ListN.{length, take, drop, length-set}
+use lib.ListN.{length, take, drop}
 use borrow.Author.Needs.{needs}
 use Rattle.report_steps.proofs.Pieces.{front-next}
 use Rattle.report_steps.proofs.core.feeding.to_front.Statement.{statement}
@@ -29,22 +28,10 @@ loop-again c =
     (search needs, search needs, f .0, f .1)
 
 returns : tie.Need-returns Inv-loop μ-loop
-returns c =
-    let e : c .before .loop .i ≡ c .before .before .args .n = omega arith in
-    rw e at (c .before .loop .inv .2)
+returns c = let e : c .before .loop .i ≡ c .before .before .args .n = omega arith in rw e at (c .before .loop .inv .2)
 
 pub to-front-spec : {M : Type 1} → statement M
 to-front-spec =
-    tie.close
-    (tie.spec
-    Inv-loop
-    μ-loop
-    (λ c. (search needs, search needs, refl, refl))
-    (λ c. search needs)
-    (λ c. search needs)
-    (λ c. search needs)
-    (λ c. search needs)
-    (λ c. search needs)
-    loop-again
-    (λ c. search needs)
+    tie.close (tie.spec Inv-loop μ-loop (λ c. (search needs, search needs, refl, refl)) (λ c. search needs)
+    (λ c. search needs) (λ c. search needs) (λ c. search needs) (λ c. search needs) loop-again (λ c. search needs)
     returns)
