@@ -9,6 +9,7 @@ use lib.Seq.{take-append-add, take-append-le, length-take-le}
 use borrow.Rule.Slice.PartMut.{putMid, postOf, take-put}
 use Rattle.channel.specs.declared.input.Arrived.{Arrived}
 use Rattle.channel.specs.declared.input.Arrived.the-variants.{Bytes, End, Failed}
+use Rattle.channel.specs.System.{Origin}
 use Rattle.channel.specs.Input.{Came, Gave, Reads, Fills, full, complete, failed}
 
 -- the first bytes of a buffer once a part from n on is replaced: the n before it, and the part's
@@ -34,14 +35,14 @@ answered-count (pos k) room n e q h = let is : k ≡ n = omega (arith, q, h) in 
 answered-count (negsuc k) room n e q h = let never : _≡_ {A = ℕ} 0 1 = cc in absurd (omega arith)
 
 -- what a read gave, once its answer is known
-pub gave-as : {origin taken taken′ : ℕ} {r : Arrived} {room : List ℕ} → Reads origin taken r taken′ room
+pub gave-as : {origin : Origin} {taken taken′ : ℕ} {r : Arrived} {room : List ℕ} → Reads origin taken r taken′ room
     → (known : Arrived) → r ≡ known → Gave origin taken known taken′ room
 gave-as {origin} {taken} {taken′} {r} {room} reads known e =
     subst (λ a. Gave origin taken a taken′ room) e (reads .gave)
 
 -- What a read behind the first n bytes gave, said of the buffer
 
-module _ {origin taken taken′ : ℕ} {room : List ℕ} {r : Arrived} (reads : Reads origin taken r taken′ room)
+module _ {origin : Origin} {taken taken′ : ℕ} {room : List ℕ} {r : Arrived} (reads : Reads origin taken r taken′ room)
     (n m : ℕ) (text : List ℕ) (h : n ≤ length text) (came : Came origin taken (take n text)) where
   pub read-more : (k : ℕ) → r ≡ Bytes k → (1 ≤ k) × (n + k ≤ length (putMid n m text room))
       × Came origin taken′ (take (n + k) (putMid n m text room))
@@ -77,7 +78,7 @@ module _ {origin taken taken′ : ℕ} {room : List ℕ} {r : Arrived} (reads : 
       }
 
 -- the buffer is full
-pub filled-up : {origin taken : ℕ} (n : ℕ) (text : List ℕ) → n ≤ length text → length text ≤ n
+pub filled-up : {origin : Origin} {taken : ℕ} (n : ℕ) (text : List ℕ) → n ≤ length text → length text ≤ n
     → Came origin taken (take n text) → Fills origin (record { size = n; state = full }) text
 filled-up n text h f came =
     record {

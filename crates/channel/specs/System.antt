@@ -10,16 +10,21 @@ use lib.IntN.{ℤ, pos}
 use lib.Signed.{ltZ}
 use lib.ListN.{length, take}
 
+-- where bytes come from: standard input, or the file of a name
+pub data Origin : Type 0 where
+  input : Origin
+  file : (name : List ℕ) → Origin
+
 -- the first bytes that came from an origin are these
-pub First : (origin : ℕ) (bytes : List ℕ) → Type 0
+pub First : (origin : Origin) (bytes : List ℕ) → Type 0
 First origin bytes = Unit
 
 -- these are all
-pub Whole : (origin : ℕ) (bytes : List ℕ) → Type 0
+pub Whole : (origin : Origin) (bytes : List ℕ) → Type 0
 Whole origin bytes = Unit
 
 -- behind these the next read failed
-pub Broken : (origin : ℕ) (bytes : List ℕ) → Type 0
+pub Broken : (origin : Origin) (bytes : List ℕ) → Type 0
 Broken origin bytes = Unit
 
 -- the first bytes that went to standard output are these
@@ -38,7 +43,7 @@ pub Argument : (number size : ℕ) (bytes : List ℕ) → Type 0
 Argument number size bytes = Unit
 
 -- before any call nothing came and nothing went
-pub none-came : (origin : ℕ) → First origin []
+pub none-came : (origin : Origin) → First origin []
 unfolding First
 none-came origin = tt
 
@@ -47,25 +52,25 @@ unfolding Sent
 none-went = tt
 
 -- A read into some room answered n: the first n bytes of the room came behind those before
-pub system-gave : (origin n : ℕ) (answer : ℤ) (room old : List ℕ) → answer ≡ pos n → n ≤ length room
+pub system-gave : (origin : Origin) (n : ℕ) (answer : ℤ) (room old : List ℕ) → answer ≡ pos n → n ≤ length room
     → First origin old → First origin (old ++ take n room)
 unfolding First
 system-gave origin n answer room old e h f = tt
 
 -- It answered 0, though there was room: there are no more
-pub system-ended : (origin : ℕ) (answer : ℤ) (room old : List ℕ) → answer ≡ pos 0 → 1 ≤ length room
+pub system-ended : (origin : Origin) (answer : ℤ) (room old : List ℕ) → answer ≡ pos 0 → 1 ≤ length room
     → First origin old → Whole origin old
 unfolding Whole
 system-ended origin answer room old e h f = tt
 
 -- It answered less
-pub system-failed : (origin : ℕ) (answer : ℤ) (old : List ℕ) → ltZ answer (pos 0) ≡ true
+pub system-failed : (origin : Origin) (answer : ℤ) (old : List ℕ) → ltZ answer (pos 0) ≡ true
     → First origin old → Broken origin old
 unfolding Broken
 system-failed origin answer old e f = tt
 
 -- It was not made: what it gave could no longer be counted
-pub system-uncounted : (origin : ℕ) (room old : List ℕ) → 2 ^ 64 ≤ length old + length room + 1
+pub system-uncounted : (origin : Origin) (room old : List ℕ) → 2 ^ 64 ≤ length old + length room + 1
     → First origin old → Broken origin old
 unfolding Broken
 system-uncounted origin room old h f = tt

@@ -1,6 +1,7 @@
 // One read.
 use libc::STDIN_FILENO;
-ghost use Rattle.channel.specs.Input.{Reads, input};
+ghost use Rattle.channel.specs.System.Origin.{input};
+ghost use Rattle.channel.specs.Input.{Reads, originOf};
 
 // What a read answered: so many bytes, none is left to come, or it failed.
 pub enum Arrived {
@@ -9,15 +10,18 @@ pub enum Arrived {
     Failed,
 }
 
-// Where bytes come from: standard input, or the file that a program opens.
-pub(crate) const INPUT: u32 = 0;
-
-pub(crate) const FILE: u32 = 1;
-
 // Reads behind the `taken` bytes that came before, into the front of the room. Without room it fails: then nothing can
-// come, and that is no end, nor a read that failed.
-pub(crate) fn read_from(origin: u32, fd: i32, taken: &mut u64, room: &mut [u8]) -> Arrived
-    ensures { λ r. ⌜ Reads origin (now (taken .entry)) r (now (taken .exit)) (now (room .exit)) ⌝ }
+// come, and that is no end, nor a read that failed. The descriptor is that of the file that was opened under the name,
+// or else standard input's.
+pub(crate) fn read_from(
+    opened: bool,
+    name: &[u8],
+    fd: i32,
+    taken: &mut u64,
+    room: &mut [u8],
+) -> Arrived
+    ensures { λ r. ⌜ Reads (originOf opened (now (name .entry))) (now (taken .entry)) r (now (taken .exit))
+        (now (room .exit)) ⌝ }
 {
     if room.len() == 0 {
         return Arrived::Failed;
@@ -41,5 +45,5 @@ pub(crate) fn read_from(origin: u32, fd: i32, taken: &mut u64, room: &mut [u8]) 
 pub fn read_input(taken: &mut u64, room: &mut [u8]) -> Arrived
     ensures { λ r. ⌜ Reads input (now (taken .entry)) r (now (taken .exit)) (now (room .exit)) ⌝ }
 {
-    read_from(INPUT, STDIN_FILENO, taken, room)
+    read_from(false, b"", STDIN_FILENO, taken, room)
 }

@@ -1,10 +1,9 @@
 // All that comes, into one buffer.
 use crate::input::Arrived;
-use crate::input::FILE;
-use crate::input::INPUT;
 use crate::input::read_from;
 use libc::STDIN_FILENO;
-ghost use Rattle.channel.specs.Input.{Fills, input, file};
+ghost use Rattle.channel.specs.System.Origin.{input, file};
+ghost use Rattle.channel.specs.Input.{Fills, originOf};
 
 // How a buffer was filled: `size` bytes stand at its front, and `state` says why no more.
 pub struct Filled {
@@ -23,27 +22,27 @@ pub const FAILED: u32 = 2;
 pub fn read_all(text: &mut [u8]) -> Filled
     ensures { λ r. ⌜ Fills input r (now (text .exit)) ⌝ }
 {
-    fill(INPUT, STDIN_FILENO, text)
+    fill(false, b"", STDIN_FILENO, text)
 }
 
 // A file. One that can't be opened can't be read.
 pub fn read_file(path: &[u8], text: &mut [u8]) -> Filled
-    ensures { λ r. ⌜ Fills file r (now (text .exit)) ⌝ }
+    ensures { λ r. ⌜ Fills (file (now (path .entry))) r (now (text .exit)) ⌝ }
 {
     let fd = os::open_read(path);
-    let read = fill(FILE, fd, text);
+    let read = fill(true, path, fd, text);
     libc::close(fd);
     read
 }
 
 // A read that fails is never an end.
-fn fill(origin: u32, fd: i32, text: &mut [u8]) -> Filled
-    ensures { λ r. ⌜ Fills origin r (now (text .exit)) ⌝ }
+fn fill(opened: bool, name: &[u8], fd: i32, text: &mut [u8]) -> Filled
+    ensures { λ r. ⌜ Fills (originOf opened (now (name .entry))) r (now (text .exit)) ⌝ }
 {
     let mut taken = 0;
     let mut n = 0;
     while n < text.len() {
-        match read_from(origin, fd, &mut taken, &mut text[n..]) {
+        match read_from(opened, name, fd, &mut taken, &mut text[n..]) {
             Arrived::Bytes(k) => {
                 n += k;
             }

@@ -4,7 +4,8 @@ use mathlib.Core.{Path._鈮, Path.refl, Path.sym, Path.ap, Path.subst, Path._鈭
 use native.Mathlib.Omega.{arith}
 use borrow.Author.Tests.{eq-eqb, ne-eqb}
 use lib.{ListN.length, ListN.take, Seq.take-length}
-use Rattle路channel.specs.{System.First, System.none-went, Input.Fills, Input.input, Input.complete, Input.failed}
+use Rattle路channel.specs.{System.First, System.none-went, Input.Fills, Input.complete, Input.failed}
+use Rattle路channel.specs.System.Origin.{input}
 use Rattle路channel.specs.declared.whole.Filled.{Filled}
 use Rattle路network.specs.declared.Frame.{Frame}
 use Rattle路contours_steps路specs.specs.declared.words.Given.{Given}

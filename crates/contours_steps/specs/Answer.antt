@@ -6,7 +6,7 @@ use mathlib.Core.Bool.{Bool, true, false}
 use mathlib.Core.List.{List}
 use lib.ListN.{length}
 use Rattle.channel.specs.System.{First, Whole, Broken, Lost}
-use Rattle.channel.specs.Input.{input}
+use Rattle.channel.specs.System.Origin.{input}
 use Rattle.channel.specs.Output.{Went}
 use Rattle.contours_steps.specs.declared.words.Given.{Given}
 use Rattle.contours_steps.specs.Words.{Gathered}

@@ -6,12 +6,12 @@ use lib.{Dec.eqb, ListN.length, ListN.take, Seq.length-take-le}
 use borrow.Author.Tests.{eqb-true, eqb-false}
 use Rattle.text.proofs.Digits.{either}
 use Rattle.channel.specs.declared.whole.Filled.{Filled}
-use Rattle.channel.specs.Input.{file, complete, failed, Fills}
-use Rattle.report_rules.specs.Report.{limitsRoom, Opened}
+use Rattle.channel.specs.Input.{complete, failed, Fills}
+use Rattle.report_rules.specs.Report.{limitsRoom, limitsOrigin, Opened}
 use Rattle.report_rules.specs.Report.Opened.{all, cut}
 
 -- to its end, or as much as there was room for
-pub opened : {r : Filled} {text : List ℕ} → Fills file r text → (r .state ≡ failed → ⊥)
+pub opened : {r : Filled} {text : List ℕ} → Fills limitsOrigin r text → (r .state ≡ failed → ⊥)
     → length text ≡ limitsRoom
     → Opened (take (r .size) text)
 opened {r} {text} k ne room =

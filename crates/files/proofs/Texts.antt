@@ -12,7 +12,8 @@ use Rattle.register.specs.LimitsFile.{limitsOf}
 use Rattle.report_steps.specs.Reading.{readingAt, registered}
 use Rattle.report_text.specs.{Text.refusedText, Text.bookText, InnerRoom.longestRefused, InnerRoom.WroteWithin}
 use Rattle.explain_text.specs.Text.{explainText}
-use Rattle.channel.specs.{System.none-came, System.none-went, Output.Writes, Input.input}
+use Rattle.channel.specs.{System.none-came, System.none-went, Output.Writes}
+use Rattle.channel.specs.System.Origin.{input}
 use Rattle.report_rules.specs.Report.{bookRows, Telling, registerText, endless, Opened, Written, Run}
 use Rattle.report_rules.specs.Report.Came.{whole, stopped, failed}
 use Rattle.report_rules.proofs.Answers.{reading-refused, reading-reported, register-text, report-refused}

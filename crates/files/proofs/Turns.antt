@@ -8,7 +8,8 @@ use lib.Dec.{eqb}
 use lib.ListN.{length, take, length-take, replicate, length-replicate, replicate-append-replicate}
 use lib.Seq.{take-at}
 use borrow.Author.Tests.{eqb-true, eqb-false}
-use Rattle.channel.specs.{System.Whole, System.Broken, System.none-came, Input.input, Input.Came}
+use Rattle.channel.specs.{System.Whole, System.Broken, System.none-came, Input.Came}
+use Rattle.channel.specs.System.Origin.{input}
 use Rattle.text.proofs.Digits.{either}
 use Rattle.book_rules.specs.{Columns.Book, Columns.bookOf, Columns.sound, History.emptyBook}
 use Rattle.report_steps.specs.Stream.{longestLine}

@@ -6,7 +6,8 @@ use mathlib.Core.Bool.{true}
 use mathlib.Core.List.{List, _++_}
 use lib.ListN.{length, take}
 use Rattle.channel.specs.System.{First, Whole, Broken}
-use Rattle.channel.specs.Input.{input, Came}
+use Rattle.channel.specs.System.Origin.{input}
+use Rattle.channel.specs.Input.{Came}
 use Rattle.book_rules.specs.Columns.{Book, sound}
 use Rattle.report_steps.specs.Stream.{longestLine}
 use Rattle.report_steps.specs.Reading.{Reading, readingAt, offAt, closing, registered, readOn, Onward, Unended}

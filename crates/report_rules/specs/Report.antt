@@ -6,8 +6,8 @@ use mathlib.Core.Bool.{Bool, true, false, cond}
 use mathlib.Core.List.{List, [], _++_}
 use lib.ListN.{length, replicate}
 use lib.Dec.{eqb}
-use Rattle.channel.specs.System.{First, Whole, Broken, Lost}
-use Rattle.channel.specs.Input.{input, file}
+use Rattle.channel.specs.System.{Origin, First, Whole, Broken, Lost}
+use Rattle.channel.specs.System.Origin.{input, file}
 use Rattle.channel.specs.Output.{Went}
 use Rattle.book_rules.specs.Columns.{Book}
 use Rattle.book_rules.specs.History.{emptyBook}
@@ -15,6 +15,7 @@ use Rattle.register.specs.declared.limits_csv.LimitsFile.{LimitsFile}
 use Rattle.register.specs.LimitsFile.{limitsOf}
 use Rattle.report_steps.specs.Stream.{longestLine}
 use Rattle.report_steps.specs.Reading.{Reading, registered}
+use Rattle.text.specs.Spelled.{bytes}
 use Rattle.report_text.specs.Text.{refusedText, bookText}
 
 -- the report program's own book has 2,000 rows
@@ -75,11 +76,15 @@ Heard (whole bytes) = Whole input bytes
 Heard (stopped bytes) = First input bytes
 Heard (failed bytes) = Broken input bytes
 
+-- the file of that name in the current folder
+abbrev pub limitsOrigin : Origin
+limitsOrigin = file (bytes "limits.csv")
+
 -- limits.csv: all its bytes; as many as the program has room for; or none, where it can't be opened or read
 pub data Opened (limits : List ℕ) : Type 0 where
-  all : Whole file limits → Opened limits
-  cut : First file limits → length limits ≡ limitsRoom → Opened limits
-  unread : (bytes : List ℕ) → Broken file bytes → limits ≡ [] → Opened limits
+  all : Whole limitsOrigin limits → Opened limits
+  cut : First limitsOrigin limits → length limits ≡ limitsRoom → Opened limits
+  unread : (bytes : List ℕ) → Broken limitsOrigin bytes → limits ≡ [] → Opened limits
 
 -- a text that may be written: it is the program's of the bytes that came
 pub record Written (tell : Telling) (limits text : List ℕ) : Type 0 where

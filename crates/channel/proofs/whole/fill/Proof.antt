@@ -6,17 +6,17 @@ use native.Mathlib.Omega.{arith}
 use lib.ListN.{length, take}
 use borrow.Author.Needs.{needs}
 use borrow.Rule.Slice.PartMut.{putMid}
-use Rattle.channel.specs.{System.none-came, Input.Came}
+use Rattle.channel.specs.{System.Origin, System.none-came, Input.Came, Input.originOf}
 use Rattle.channel.proofs.Behind.{read-more, read-end, read-broken, filled-up}
 use Rattle.channel.proofs.whole.fill.Statement.{statement}
 use Rattle.channel.proofs.whole.fill.Tie as tie
 
 abbrev Inv-loop : tie.InvT-loop
-Inv-loop origin fd text₀ taken₀ n₀ text taken n =
-    (n ≤ length text) × (length text ≡ length text₀) × Came origin taken (take n text)
+Inv-loop opened name fd text₀ taken₀ n₀ text taken n =
+    (n ≤ length text) × (length text ≡ length text₀) × Came (originOf opened name) taken (take n text)
 
 abbrev μ-loop : tie.MeasureT-loop
-μ-loop origin fd text₀ taken₀ n₀ text taken n = length text - n
+μ-loop opened name fd text₀ taken₀ n₀ text taken n = length text - n
 
 -- places on the way, and the buffer once the read is done
 abbrev turn : tie.After-read-from Inv-loop μ-loop → tie.At-loop Inv-loop μ-loop
@@ -26,16 +26,20 @@ abbrev read : tie.After-k Inv-loop μ-loop → tie.After-read-from Inv-loop μ-l
 read c = c .before .before .before .before
 
 abbrev buffer : tie.After-read-from Inv-loop μ-loop → List ℕ
-buffer w = let l = turn w .loop in putMid (l .n) (length (l .text) - l .n) (l .text) (w .read-from .last .1 .1 .1 .0)
+buffer w = let l = turn w .loop in putMid (l .n) (length (l .text) - l .n) (l .text) (w .read-from .last .1 .1 .1 .1 .0)
 
 long : (c : tie.After-k Inv-loop μ-loop) → length (buffer (read c)) ≡ length (turn (read c) .loop .text)
 long c = let back : tie.After-text Inv-loop μ-loop = search in back .text .given .1
+
+-- where the bytes come from
+abbrev origin : tie.After-k Inv-loop μ-loop → Origin
+origin c = let start : tie.Start Inv-loop μ-loop = search in originOf (start .args .opened) (start .args .name .now)
 
 -- what the read gave
 more : (c : tie.After-k Inv-loop μ-loop) → let w = read c in
     let n = turn w .loop .n + c .k .given .0 .0 in
     (1 ≤ c .k .given .0 .0) × (n ≤ length (buffer w))
-    × Came (turn w .before .before .args .origin) (w .read-from .last .1 .1 .0) (take n (buffer w))
+    × Came (origin c) (w .read-from .last .1 .1 .1 .0) (take n (buffer w))
 more c =
     let w = read c in
     let l = turn w .loop in
@@ -46,7 +50,8 @@ add-n : tie.Need-add-n Inv-loop μ-loop
 add-n c =
     let m = more (c .before) in
     let w = read (c .before) in
-    let good = turn w .before .before .good in
+    let start : tie.Start Inv-loop μ-loop = search in
+    let good = start .good in
     record { fits = omega (arith, m .1, long (c .before), turn w .loop .inv .1) }
 
 loop-again : tie.Need-loop-again Inv-loop μ-loop
@@ -66,7 +71,7 @@ returns-2 : tie.Need-returns-2 Inv-loop μ-loop
 returns-2 c =
     let l : tie.At-loop Inv-loop μ-loop = search in
     let w : tie.After-read-from Inv-loop μ-loop = search in
-    let kept : length (w .read-from .last .1 .1 .1 .0) ≡ length (l .loop .text) - l .loop .n = search needs in
+    let kept : length (w .read-from .last .1 .1 .1 .1 .0) ≡ length (l .loop .text) - l .loop .n = search needs in
     read-broken (w .read-from .ensures) (l .loop .n) (length (l .loop .text) - l .loop .n) (l .loop .text)
     (l .loop .inv .0) (l .loop .inv .2) (omega (arith, kept)) search
 
