@@ -1,56 +1,90 @@
-// The cases of RULES for the calls on a book: each answer is printed beside what it should be. The calls stand in a
-// journal, in order, and are made by a replay; refusals of the whole, and each call made by itself for another number
-// of points, follow. The file stdin has the journal, a call a line, on a book of 3 rows and 2 points (1 enter:
-// identity, type, kind, time, mass; 2 supply: identity, how many levels, the levels; 3 take back; 4 withdraw); and past a `|`
-// what each is to be answered, and 99 where nothing is written.
-mod direct;
-mod printing;
-
+// The cases of RULES for the calls on a book, as the script in the file stdin has them. A line has a name, the number of
+// points, how many levels are lent, how many answers there is room for, and a journal, whose calls are made on an empty
+// book of 3 rows (1 enter: identity, type, kind, time, mass; 2 supply: identity, how many levels, the levels; 3 take
+// back; 4 withdraw). Then come the answers that each call should get, 99 where nothing is written, and the columns as
+// they should be. Shown is each of them beside what it should be.
+use cases::core::line_past;
 use cases::fields::numbers;
+use cases::fields::place;
+use cases::show::field;
 use cases::show::list;
 use cases::show::say;
 use libc::STDIN_FILENO;
 
-fn replayed(
-    ids: &mut [u32],
-    groups: &mut [u32],
-    marks: &mut [u32],
-    levels: &mut [u32],
-    script: &[u8],
-) {
-    let mut calls = [0u32; 143];
-    let mut answers = [99u32; 33];
-    let mut wanted = [0u32; 33];
-    numbers(script, 0, &mut calls);
-    numbers(script, 1, &mut wanted);
-    let got = journal::replay(ids, groups, marks, levels, 2, &calls, &mut answers);
-    printing::case(b"replay of 32 calls", got, 0);
-    printing::show_answers(b"call", &answers, &wanted);
+// What is got, in a line of its own; the field behind it in the script is what it should be.
+fn shown(name: &[u8], got: &[u32], line: &[u8], k: usize) {
+    say(name);
+    list(b" ", got, b"");
+    say(b", should be ");
+    field(line, k);
+    say(b"\n");
 }
 
-// A column, and then what it should be.
-fn show_column(column: &[u32], should: &[u8]) {
-    list(b"", column, b" ");
-    say(should);
+fn show_book(ids: &[u32], groups: &[u32], marks: &[u32], levels: &[u32], line: &[u8]) {
+    shown(b"  identities", ids, line, 7);
+    shown(b"  groups", groups, line, 8);
+    shown(b"  marks", marks, line, 9);
+    shown(b"  levels", levels, line, 10);
 }
 
-fn show_book(ids: &[u32], groups: &[u32], marks: &[u32], levels: &[u32]) {
-    show_column(ids, b"identities, should be 3 5 7\n");
-    show_column(groups, b"groups, should be 2 7 0\n");
-    show_column(marks, b"marks, should be 0 0 1\n");
-    show_column(levels, b"levels, should be 0 0 0 0 12000 0\n");
-}
-
-fn main() {
+fn replayed(levels: &mut [u32], points: usize, calls: &[u32], answers: &mut [u32], line: &[u8]) {
     let mut ids = [0u32; 3];
     let mut groups = [0u32; 3];
     let mut marks = [0u32; 3];
-    let mut levels = [0u32; 6];
+    let got = journal::replay(
+        &mut ids,
+        &mut groups,
+        &mut marks,
+        levels,
+        points,
+        calls,
+        answers,
+    );
+    shown(b"  replay", &[got], line, 5);
+    shown(b"  calls", answers, line, 6);
+    show_book(&ids, &groups, &marks, levels, line);
+}
+
+// The book has as many levels, and the answers as much room, as the line says.
+fn lent(levels: &mut [u32], answers: &mut [u32], calls: &[u32], line: &[u8]) {
+    let many = place(line, 2);
+    let room = place(line, 3);
+    if levels.len() < many {
+        return;
+    }
+    if answers.len() < room {
+        return;
+    }
+    replayed(
+        &mut levels[..many],
+        place(line, 1),
+        calls,
+        &mut answers[..room],
+        line,
+    );
+}
+
+fn case(line: &[u8]) {
+    let mut levels = [0u32; 27];
+    let mut answers = [99u32; 33];
+    let mut calls = [0u32; 150];
+    let n = numbers(line, 4, &mut calls);
+    field(line, 0);
+    say(b"\n");
+    lent(&mut levels, &mut answers, &calls[..n], line);
+}
+
+fn run(script: &[u8]) {
+    let mut at = 0;
+    while at < script.len() {
+        let next = line_past(script, at);
+        case(&script[at..next]);
+        at = next;
+    }
+}
+
+fn main() {
     let mut script = io::buffer();
     let n = io::read_full(STDIN_FILENO, &mut script);
-    replayed(&mut ids, &mut groups, &mut marks, &mut levels, &script[..n]);
-    show_book(&ids, &groups, &marks, &levels);
-    direct::calls();
-    direct::sizes();
-    direct::replays();
+    run(&script[..n]);
 }

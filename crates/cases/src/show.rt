@@ -9,7 +9,7 @@ pub fn say(text: &[u8]) {
 }
 
 // Field k of a line.
-fn field(line: &[u8], k: usize) {
+pub fn field(line: &[u8], k: usize) {
     let start = field_start(line, k);
     let end = field_end(line, start);
     say(&line[start..end]);
