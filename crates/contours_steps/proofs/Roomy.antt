@@ -9,6 +9,7 @@ use lib.Dec.{eqb, leb}
 use borrow.Author.Tests.{le-leb}
 use Rattle.refusal.specs.Range.{allWithin}
 use Rattle.text.specs.Line.{linesOf}
+use Rattle.text.proofs.Shown.{level-most}
 use Rattle.network.specs.declared.Frame.{Frame}
 use Rattle.network.specs.Limits.{maxNetworkLevel}
 use Rattle.network.specs.Refusals.{sided, placed, filled}
@@ -18,7 +19,7 @@ use Rattle.grid.specs.File.{frameOf, noDataOf, rowsOf, faultLine, rowsFit}
 use Rattle.grid.specs.Read.{headerSize, linesRefusal, readRefusal}
 use Rattle.grid.proofs.WriteLaws.{points-most}
 use Rattle.contours_steps.specs.Sheet.{maxPointsDrawn, textRefusal}
-use Rattle.contours_steps.specs.Told.{NeverShort}
+use Rattle.contours_steps.specs.Told.{NeverShort, WordsFit}
 
 -- a network that is right has at most 256 times 256 points
 enough : (levels : List ℕ) (f : Frame) → (sided f && placed f && filled levels f) ≡ true
@@ -84,6 +85,10 @@ same-in text headers room five many =
     alike true true false d g r r′ fit = refl
     alike true false c d g r r′ fit = refl
     alike false b c d g r r′ fit = refl
+
+-- a level has at most six bytes
+pub words-fit : WordsFit
+words-fit = record { word = λ w s. rw (s .spelled) (omega (arith, level-most (s .level) (omega (arith, s .most)))) }
 
 pub never-short : (text : List ℕ) → NeverShort text
 never-short text = record { network = not-short text; as-read = same-in text }

@@ -11,6 +11,7 @@ use Rattle.text.specs.Line.{linesOf}
 use Rattle.grid.specs.File.{faultLine}
 use Rattle.grid.specs.Read.{textFrame, textLevels, readRefusal}
 use Rattle.wkt.specs.Calls.{networkText}
+use Rattle.contours_steps.specs.Words.{maxWord}
 use Rattle.contours_steps.specs.Sheet.{textRefusal, refusalOf, refusedLine, writtenOf}
 use Rattle.contours_steps.specs.Sheet.{lineBegun, failedOf, overlongLine, overlongOf}
 
@@ -57,7 +58,12 @@ pub record Judged (text : List ℕ) (words : List (List ℕ)) : Type 0 where
 -- refused as the call that reads it refuses it, in any room for a header and for 256 times 256 points
 pub record NeverShort (text : List ℕ) : Type 0 where
   pub network : textRefusal text ≡ 14 → ⊥
-  pub as-read : (headers room : ℕ) → 5 ≤ headers → 65536 ≤ room → textRefusal text ≡ readRefusal text headers room
+  pub as-read : (headers room : ℕ) → 5 ≤ headers → 65536 ≤ room
+      → textRefusal text ≡ readRefusal text headers room
+
+-- Nor is its room for a word: one that spells a level is handed over as it is, and not as an empty one
+pub record WordsFit : Type 0 where
+  pub word : (w : List ℕ) → Spells w → length w ≤ maxWord
 
 -- The line of a refusal: `refused,`, the number, a comma and the line, each in as many digits as it needs, and a line
 -- end
