@@ -201,7 +201,7 @@ lines-at levels f (w ∷ words) h (suc i) l =
     (omega arith)
 
 pub each-word : (text : List ℕ) (words : List (List ℕ)) → refusalOf text words ≡ 0 → EachWord text words
-unfolding writtenOf
+unfolding writtenOf contour-spells
 each-word text words fine =
     let levels = textLevels text in
     let f = textFrame text in
@@ -215,6 +215,7 @@ each-word text words fine =
         length-map words wordLevel,
       );
       heading = ap (λ (ls : List (List ℕ)). getD ls 0 []) e;
+      spell = λ i l. contour-spells (getD words i []) (all-each words fits i l);
       line = λ i l. ap (λ (ls : List (List ℕ)). getD ls (suc i) []) e ∙ lines-at levels f words fits i l;
     }
 

@@ -9,9 +9,9 @@ use Rattle.text.specs.Number.{shown, showLevel}
 use Rattle.text.specs.Spelled.{bytes}
 use Rattle.text.specs.Line.{linesOf}
 use Rattle.grid.specs.File.{faultLine}
-use Rattle.grid.specs.Read.{textFrame, textLevels}
+use Rattle.grid.specs.Read.{textFrame, textLevels, readRefusal}
 use Rattle.wkt.specs.Calls.{networkText}
-use Rattle.contours_steps.specs.Words.{wordLevel}
+use Rattle.contours_steps.specs.Words.{maxWord}
 use Rattle.contours_steps.specs.Sheet.{textRefusal, refusalOf, refusedLine, writtenOf}
 use Rattle.contours_steps.specs.Sheet.{lineBegun, failedOf, overlongLine, overlongOf}
 
@@ -25,18 +25,19 @@ pub record Spells (w : List ℕ) : Type 0 where
   pub most : level ≤ 15000
   pub spelled : w ≡ showLevel level
 
--- Where nothing is refused, each word has one line, in the order given: the word as it is spelled, a semicolon, and the
--- text of the contours at its level
-pub record EachWord (text : List ℕ) (words : List (List ℕ)) : Type 0 where
-  pub many : length (linesOf (writtenOf text words)) ≡ 1 + length words
-  pub heading : getD (linesOf (writtenOf text words)) 0 [] ≡ headingText
-  pub line : (i : ℕ) → i < length words
-      → getD (linesOf (writtenOf text words)) (suc i) []
-      ≡ getD words i [] ++ (bytes ";" ++ networkText (textLevels text) (textFrame text) (wordLevel (getD words i [])))
-
 -- each word spells a level
 abbrev pub AllSpell : List (List ℕ) → Type 0
 AllSpell words = (i : ℕ) → i < length words → Spells (getD words i [])
+
+-- Where nothing is refused, each word has one line, in the order given: the word as it is spelled, a semicolon, and the
+-- text of the contours at the level that it spells
+pub record EachWord (text : List ℕ) (words : List (List ℕ)) : Type 0 where
+  pub many : length (linesOf (writtenOf text words)) ≡ 1 + length words
+  pub heading : getD (linesOf (writtenOf text words)) 0 [] ≡ headingText
+  pub spell : AllSpell words
+  pub line : (i : ℕ) (h : i < length words)
+      → getD (linesOf (writtenOf text words)) (suc i) []
+      ≡ getD words i [] ++ (bytes ";" ++ networkText (textLevels text) (textFrame text) (spell i h .level))
 
 -- What is refused is written as one line and nothing else: the network before the words, 17 with the first line at
 -- fault, the others with line 0; and nothing is refused exactly if the network is not and there are words, no more
@@ -53,9 +54,16 @@ pub record Judged (text : List ℕ) (words : List (List ℕ)) : Type 0 where
   pub drawn : textRefusal text ≡ 0 → AllSpell words → 1 ≤ length words → length words ≤ 15000
       → refusalOf text words ≡ 0
 
--- The program's own room is never too small for a network: what is right but for the room is drawn
+-- The program's own room is never too small for a network: what is right but for the room is drawn. And a network is
+-- refused as the call that reads it refuses it, in any room for a header and for 256 times 256 points
 pub record NeverShort (text : List ℕ) : Type 0 where
   pub network : textRefusal text ≡ 14 → ⊥
+  pub as-read : (headers room : ℕ) → 5 ≤ headers → 65536 ≤ room
+      → textRefusal text ≡ readRefusal text headers room
+
+-- Nor is its room for a word: one that spells a level is handed over as it is, and not as an empty one
+pub record WordsFit : Type 0 where
+  pub word : (w : List ℕ) → Spells w → length w ≤ maxWord
 
 -- The line of a refusal: `refused,`, the number, a comma and the line, each in as many digits as it needs, and a line
 -- end

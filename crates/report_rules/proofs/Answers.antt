@@ -13,7 +13,7 @@ use Rattle.register.proofs.LimitsFront.{limits-front}
 use Rattle.report_steps.specs.Reading.{Reading, registered}
 use Rattle.report_text.specs.Text.{refusedText, bookText}
 use Rattle.report_rules.specs.Report.{bookRows, Telling, readingText, registerText, answerText, answerOf, reportOf}
-use Rattle.report_rules.specs.Report.{Came, Answers}
+use Rattle.report_rules.specs.Report.{limitsRoom, Came, Answers}
 use Rattle.report_rules.specs.Report.Came.{whole, stopped, failed}
 
 pub reading-refused : (tell : Telling) (l : LimitsFile) (s : Reading) → (s .refusal ≡ 0 → ⊥)
@@ -57,11 +57,20 @@ unfolding booked sizesFit
 empty-sound p some few = history-sound p bookRows [] ∙ rw (le-leb 1 p some, le-leb p maxPoints few) refl
 
 -- limits.csv longer than its buffer: past its first 128 bytes nothing of it counts
+limits-same : (limits more : List ℕ) → 128 ≤ length limits → limitsOf (limits ++ more) ≡ limitsOf limits
+limits-same limits more h =
+    limits-front (limits ++ more) (omega (arith, length-append limits more))
+    ∙ ap limitsOf (take-append-le 128 limits more h) ∙ sym (limits-front limits h)
+
 pub limits-any : (limits more register : List ℕ) → 128 ≤ length limits
     → reportOf (limits ++ more) register ≡ reportOf limits register
 unfolding answerOf
 limits-any limits more register h =
-    let front : limitsOf (limits ++ more) ≡ limitsOf limits =
-    limits-front (limits ++ more) (omega (arith, length-append limits more))
-    ∙ ap limitsOf (take-append-le 128 limits more h) ∙ sym (limits-front limits h) in
-    ap (λ (l : LimitsFile). answerText bookText l register) front
+    ap (λ (l : LimitsFile). answerText bookText l register) (limits-same limits more h)
+
+-- and so nothing is lost where its bytes fill the room that the programs have for them
+pub limits-cut : (tell : Telling) (limits more register : List ℕ) → length limits ≡ limitsRoom
+    → answerOf tell (limits ++ more) register ≡ answerOf tell limits register
+unfolding answerOf
+limits-cut tell limits more register full =
+    ap (λ (l : LimitsFile). answerText tell l register) (limits-same limits more (omega (arith, full)))
