@@ -1,6 +1,6 @@
 -- Inner steps: no promise uses them. What the writers of the report ask and leave: room for the longest text, and
 -- numbers that have one. Assumes nothing.
-use Prim.Native.Nat.{ℕ, _+_, _≤_, _<_}
+use Prim.Native.Nat.{ℕ, _≤_, _<_}
 use mathlib.Core.Path.{_≡_}
 use mathlib.Core.List.{List}
 use lib.ListN.{getD}

@@ -9,7 +9,7 @@ use lib.Seq.{take-at, drop-at, drop-drop, length-take-le}
 use Rattle.room.specs.Room.{put, Wrote}
 use Rattle.room.proofs.Laws.{length-wrote}
 use Rattle.network.specs.declared.Frame.{Frame}
-use Rattle.wkt.specs.declared.{Cursor.Cursor, Part.Part}
+use Rattle.wkt.specs.declared.Cursor.{Cursor}
 use Rattle.wkt.specs.InnerParts.{Reached, leftOf, pieceOf, nextOf, walk, pieces, Printed}
 
 module _ (old room piece : List ℕ) (size : ℕ) (fits : size + length piece ≤ length room) where

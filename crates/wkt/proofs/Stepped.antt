@@ -1,6 +1,6 @@
 -- What `put_step` leaves, wherever printing calls it: the cursor went on, and its buffer is as long as before. Assumes
 -- nothing.
-use mathlib.Core.{Path._≡_, Path.sym, Path._∙_, List.List}
+use mathlib.Core.{Path._≡_, Path._∙_, List.List}
 use Prim.Native.Nat.{ℕ, _≤_}
 use native.Mathlib.Omega.{arith}
 use lib.ListN.{length}

@@ -1,5 +1,5 @@
 -- `wkt::core::print_part` meets its contract. Assumes nothing.
-use mathlib.Core.{Path._≡_, Path.sym, Path.ap, Path.subst, Path._∙_, Logic.inl, Logic.inr, List.List}
+use mathlib.Core.{Path.sym, Path.ap, Path.subst, Logic.inl, Logic.inr, List.List}
 use Prim.Native.Nat.{ℕ, _+_, _≤_}
 use native.Mathlib.Omega.{arith}
 use lib.{ListN.length, Seq.length-take-le}
