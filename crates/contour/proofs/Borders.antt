@@ -71,7 +71,8 @@ along-fits {nx} {ny} d =
 pub up-fits : {nx ny : ℕ} → Sides nx ny → (row : ℕ) → row + 1 < ny → row * nx ≤ 65280
 up-fits d row l = let r : row ≤ 255 = omega (arith, d .low) in mul-le-mul r (d .narrow)
 
-pub rows-swept : (g : Picture) → Sides (g .nx) (g .ny) → (d₀ d₁ d₂ : Desk) → Sweeps g false 0 (g .nx - 1) d₀ d₁
+pub rows-swept : (g : Picture) → Sides (g .nx) (g .ny) → (d₀ d₁ d₂ : Desk)
+    → Sweeps g false 0 (g .nx - 1) d₀ d₁
     → Sweeps g false ((g .ny - 1) * (g .nx - 1)) (g .ny * (g .nx - 1)) d₁ d₂
     → Sweeps g false 0 (numberOf (g .nx) (g .ny) (Vertical 0 0)) d₀ d₂
 rows-swept g s d₀ d₁ d₂ i j =

@@ -155,11 +155,13 @@ or-true true b h = refl
 or-true false b h = h
 
 -- a step out of the network, by which way its test went
-out-else : (row col : ℕ) (s : Side) (b : Bool) → isOutside (cond b (Square row col s) Outside) ≡ true → b ≡ false
+out-else : (row col : ℕ) (s : Side) (b : Bool) → isOutside (cond b (Square row col s) Outside) ≡ true
+    → b ≡ false
 out-else row col s true h = absurd (true≢false (sym h))
 out-else row col s false h = refl
 
-out-then : (row col : ℕ) (s : Side) (b : Bool) → isOutside (cond b Outside (Square row col s)) ≡ true → b ≡ true
+out-then : (row col : ℕ) (s : Side) (b : Bool) → isOutside (cond b Outside (Square row col s)) ≡ true
+    → b ≡ true
 out-then row col s true h = refl
 out-then row col s false h = absurd (true≢false (sym h))
 

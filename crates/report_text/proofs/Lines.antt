@@ -42,8 +42,9 @@ unfolding ended
 ended-header l ls = append-assoc l lineEnd (ended ls)
 
 -- the header written, and past it the lines
-pub wrote-header : (l : List ℕ) (ls : List (List ℕ)) {s mid e : List ℕ} {i j : ℕ} → Wrote s 0 (l ++ lineEnd) mid i
-    → Wrote mid i (ended ls) e j → j ≤ length s → Wrote s 0 (ended (l ∷ ls)) e j
+pub wrote-header : (l : List ℕ) (ls : List (List ℕ)) {s mid e : List ℕ} {i j : ℕ}
+    → Wrote s 0 (l ++ lineEnd) mid i → Wrote mid i (ended ls) e j → j ≤ length s
+    → Wrote s 0 (ended (l ∷ ls)) e j
 wrote-header l ls w u room =
     rw (ended-header l ls)
     at (wrote-then (omega (arith, length-append (l ++ lineEnd) (ended ls), w .place, u .place)) w u)

@@ -27,8 +27,8 @@ pub byte-then : {m b : ℕ} {s t mid e : List ℕ} {at i j : ℕ} → at + (1 + 
 byte-then room u v = within-then room (within (omega arith) u) v
 
 -- and so are three and four: a write leaves the room past it
-room-past : {m : ℕ} {s a mid : List ℕ} {at i : ℕ} (n : ℕ) → at + (m + n) ≤ length s → WroteWithin m s at a mid i
-    → i + n ≤ length mid
+room-past : {m : ℕ} {s a mid : List ℕ} {at i : ℕ} (n : ℕ) → at + (m + n) ≤ length s
+    → WroteWithin m s at a mid i → i + n ≤ length mid
 room-past {m} {s} {a} {mid} {at} {i} n room u =
     omega (arith, u .within, length-wrote (omega (arith, u .wrote .place, u .within)) (u .wrote))
 

@@ -17,9 +17,9 @@ pub record Stepped (levels : List ℕ) (f : Frame) (v : ℕ) (listed counts clos
   pub short : size ≤ 64
   pub whole : length piece ≡ 64
 
-pub stepped : {levels : List ℕ} {f : Frame} {v : ℕ} {listed counts closed : List ℕ} {at next : Cursor} {size : ℕ}
-    {before piece : List ℕ} → Printable levels f v listed counts closed → Reached listed counts closed at
-    → at .line ≤ length counts → length before ≡ 64
+pub stepped : {levels : List ℕ} {f : Frame} {v : ℕ} {listed counts closed : List ℕ} {at next : Cursor}
+    {size : ℕ} {before piece : List ℕ} → Printable levels f v listed counts closed
+    → Reached listed counts closed at → at .line ≤ length counts → length before ≡ 64
     → (next ≡ nextOf counts closed at) × Wrote before 0 (pieceOf levels f v listed counts closed at) piece size
     → Stepped levels f v listed counts closed at next size piece
 stepped {levels} {f} {v} {listed} {counts} {closed} {at} k r l e w =

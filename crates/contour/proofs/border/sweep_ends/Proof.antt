@@ -56,6 +56,7 @@ sweep-ends-spec =
     tie.close (tie.spec (λ c. search needs) (λ c. omega (arith, fits (c .before .before .before .before .before)))
     (λ c. omega (arith, fits (c .before .before .before .before .before)))
     (λ c. omega (arith, fits (c .before .before .before .before .before))) try-edge-requires
-    (λ c. omega (arith, start (c .before .before .before .before .before .before .before .before) .pre .0 .sides .wide))
+    (λ c. let west = c .before .before .before .before .before .before .before .before in
+    omega (arith, start west .pre .0 .sides .wide))
     add-try-edge try-edge-requires-2 (λ c. search needs) (λ c. search needs) (λ c. search needs)
     (λ c. search needs) returns)

@@ -38,7 +38,8 @@ returns c =
     let sides = place .before .before .before .before in
     let s = sides .before .before .before .before in
     rw (network-text (s .args .levels .now) (s .args .frame), append-assoc)
-    (wrote-three (room s) (sides .put-sides .ensures) (place .put-place .ensures) (c .before .before .put-rows .ensures))
+    (wrote-three (room s) (sides .put-sides .ensures) (place .put-place .ensures)
+    (c .before .before .put-rows .ensures))
 
 pub put-network-spec : {M : Type 1} → statement M
 put-network-spec =

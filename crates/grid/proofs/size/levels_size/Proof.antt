@@ -35,7 +35,8 @@ added c =
 -- what is added up stays small
 small : (c : tie.After-level-size Inv-loop μ-loop) → c .before .before .before .loop .total + 7 < 2 ^ 64
 small c =
-    let i = c .before .before .before .loop .inv in omega (arith, i .1, i .2, c .before .before .before .before .before .pre .0)
+    let i = c .before .before .before .loop .inv in
+    omega (arith, i .1, i .2, c .before .before .before .before .before .pre .0)
 
 loop-again : tie.Need-loop-again Inv-loop μ-loop
 loop-again c =
@@ -55,5 +56,7 @@ returns c =
 pub levels-size-spec : {M : Type 1} → statement M
 levels-size-spec =
     tie.close (tie.spec Inv-loop μ-loop (λ c. (omega arith, omega arith, omega arith)) (λ c. search needs)
-    (λ c. search needs) (λ c κs. c .before .before .before .before .pre .1 (c .before .before .loop .i)) (λ c. omega (arith, added c .0, small c)) (λ c. omega (arith, added c .0, small c)) (λ c. omega (arith, c .before .before .loop-test .taken))
+    (λ c. search needs) (λ c κs. c .before .before .before .before .pre .1 (c .before .before .loop .i))
+    (λ c. omega (arith, added c .0, small c)) (λ c. omega (arith, added c .0, small c))
+    (λ c. omega (arith, c .before .before .loop-test .taken))
     (λ c. omega (arith, c .before .before .loop-test .taken)) loop-again returns)

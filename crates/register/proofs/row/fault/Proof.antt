@@ -16,7 +16,8 @@ returns-2 c =
     )
 
 -- past the tests of fields and identity
-past : (c : tie.Else2) → let a = c .before .before .before .before .args in faultOf (a .f) (a .fits) ≡ refuse 7 (a .fits) 0
+past : (c : tie.Else2) → let a = c .before .before .before .before .args in
+    faultOf (a .f) (a .fits) ≡ refuse 7 (a .fits) 0
 unfolding faultOf
 past c =
     rw (

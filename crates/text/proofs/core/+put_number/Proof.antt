@@ -36,7 +36,8 @@ put-number-cast-digit t c = omega arith
 put-number-add-digit : (t : ℕ) → put-number-lts.Need-add-digit (claims t) (put-number-at t) put-number.Post
 put-number-add-digit t c = omega arith
 
-put-number-put-byte-requires : (t : ℕ) → put-number-lts.Need-put-byte-requires (claims t) (put-number-at t) put-number.Post
+put-number-put-byte-requires : (t : ℕ) → put-number-lts.Need-put-byte-requires
+    (claims t) (put-number-at t) put-number.Post
 put-number-put-byte-requires t c κs = let a = c .before .before .before .args in
     omega (arith, ap length (shown-last 19 (a .n) (c .before .if1 .taken)), c .before .before .before .pre)
 
@@ -47,12 +48,14 @@ put-number-returns : (t : ℕ) → put-number-lts.Need-returns (claims t) (put-n
 put-number-returns t c = rw (shown-last 19 (c .before .before .before .before .before .before .args .n)
     (c .before .before .before .before .if1 .taken)) (c .before .before .put-byte .ensures)
 
-put-number-put-number-requires : (t : ℕ) → put-number-lts.Need-put-number-requires (claims t) (put-number-at t) put-number.Post
+put-number-put-number-requires : (t : ℕ) → put-number-lts.Need-put-number-requires
+    (claims t) (put-number-at t) put-number.Post
 put-number-put-number-requires t c κs = let a = c .before .before .before .args in
     let l = shown-longer 18 (a .n) (c .before .if1 .left) (small (a .n) (omega arith)) in
     (omega arith, omega (arith, c .before .before .before .pre))
 
-put-number-put-byte-requires-2 : (t : ℕ) → put-number-lts.Need-put-byte-requires-2 (claims t) (put-number-at t) put-number.Post
+put-number-put-byte-requires-2 : (t : ℕ) → put-number-lts.Need-put-byte-requires-2
+    (claims t) (put-number-at t) put-number.Post
 put-number-put-byte-requires-2 t c κs = let a = c .before .before .before .before .before .before .before .args in
     let l = shown-longer 18 (a .n) (c .before .before .before .before .before .if1 .left)
     (small (a .n) (omega arith)) in

@@ -33,5 +33,6 @@ pub bare-length-spec : {M : Type 1} → statement M
 bare-length-spec =
     tie.close (tie.spec
     (λ c. unfold bareLine in let s = c .before .args .s .now in rw (lt-leb 2 (length s) (omega arith)))
-    (λ c. search needs) returns-2 (λ c. search needs) (λ c. search needs) (λ c. rw (past (c .before .before), ne-eqb _ _ (c .if3 .taken)))
+    (λ c. search needs) returns-2 (λ c. search needs) (λ c. search needs)
+    (λ c. rw (past (c .before .before), ne-eqb _ _ (c .if3 .taken)))
     returns-4)
