@@ -7,7 +7,7 @@ use native.Mathlib.{Nat.div-lt-iff-lt-mul, Omega.arith}
 use borrow.Author.Tests.{ne-eqb, lt-ltb}
 use lib.Dec.{eqb}
 use Rattle.network.specs.declared.Edge.the-variants.{Vertical}
-use Rattle.network.specs.Edges.{horizontals, edges, numberOf}
+use Rattle.network.specs.Edges.{Sides, horizontals, edges, numberOf}
 use Rattle.network.proofs.Numbers.{at-number, number-lt}
 use Rattle.contour_rules.specs.Picture.{Picture}
 use Rattle.contour_rules.specs.Crossings.{onBorder, edgesIn, edgeOf, entersAt}
@@ -61,28 +61,25 @@ inner-columns g k row m h p q =
 -- ---- sweeps that pass over what is not on the border
 
 -- bounds on the numbers of a row's edges
-pub along-fits : (nx ny : ℕ) → 2 ≤ ny → nx ≤ 256 → ny ≤ 256
+pub along-fits : {nx ny : ℕ} → Sides nx ny
     → (nx - 1 ≤ (ny - 1) * (nx - 1)) × (((ny - 1) * (nx - 1) ≤ ny * (nx - 1)) × (ny * (nx - 1) ≤ 65280))
-along-fits nx ny t h k =
+along-fits {nx} {ny} d =
     let one : 1 * (nx - 1) ≤ (ny - 1) * (nx - 1) = mul-le-mul-right (nx - 1) (omega arith) in
     let h' : nx - 1 ≤ 255 = omega arith in
-    (rw one-mul at one, (mul-le-mul-right (nx - 1) (omega arith), mul-le-mul k h'))
+    (rw one-mul at one, (mul-le-mul-right (nx - 1) (omega arith), mul-le-mul (d .low) h'))
 
-pub up-fits : (nx ny row : ℕ) → nx ≤ 256 → ny ≤ 256 → row + 1 < ny
-    → (row * nx ≤ 65280) × ((row + 1) * nx ≡ row * nx + nx)
-up-fits nx ny row h k l =
-    let r : row ≤ 255 = omega arith in
-    (mul-le-mul r h, add-mul row 1 nx ∙ ap (λ (x : ℕ). row * nx + x) (one-mul nx))
+pub up-fits : {nx ny : ℕ} → Sides nx ny → (row : ℕ) → row + 1 < ny → row * nx ≤ 65280
+up-fits d row l = let r : row ≤ 255 = omega (arith, d .low) in mul-le-mul r (d .narrow)
 
-pub rows-swept : (g : Picture) → 2 ≤ g .nx → 2 ≤ g .ny → g .nx ≤ 256 → g .ny ≤ 256
-    → (d₀ d₁ d₂ : Desk) → Sweeps g false 0 (g .nx - 1) d₀ d₁
+pub rows-swept : (g : Picture) → Sides (g .nx) (g .ny) → (d₀ d₁ d₂ : Desk)
+    → Sweeps g false 0 (g .nx - 1) d₀ d₁
     → Sweeps g false ((g .ny - 1) * (g .nx - 1)) (g .ny * (g .nx - 1)) d₁ d₂
     → Sweeps g false 0 (numberOf (g .nx) (g .ny) (Vertical 0 0)) d₀ d₂
-rows-swept g k t h l d₀ d₁ d₂ i j =
+rows-swept g s d₀ d₁ d₂ i j =
     let e : numberOf (g .nx) (g .ny) (Vertical 0 0) ≡ g .ny * (g .nx - 1) = rw (zero-mul, add-zero, add-zero) in
     rw e (sweep-joins g false 0 ((g .ny - 1) * (g .nx - 1)) (g .ny * (g .nx - 1)) d₀ d₁ d₂
-    (sweep-skips g 0 (g .nx - 1) ((g .ny - 1) * (g .nx - 1)) d₀ d₁ (along-fits (g .nx) (g .ny) t h l .0)
-    (λ m p q. inner-rows g k m p q) i) j)
+    (sweep-skips g 0 (g .nx - 1) ((g .ny - 1) * (g .nx - 1)) d₀ d₁ (along-fits s .0)
+    (λ m p q. inner-rows g (s .wide) m p q) i) j)
 
 pub ends-swept : (g : Picture) → 2 ≤ g .nx → (row : ℕ) → row + 1 < g .ny → (d₀ d₁ d₂ : Desk)
     → Room g d₀ → Grows g (tried g false (g .ny * (g .nx - 1) + row * g .nx)) d₀ d₁

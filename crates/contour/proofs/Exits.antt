@@ -4,32 +4,38 @@ use Rattle.contour_rules.specs.declared.Side.{Side}
 use Rattle.contour_rules.specs.Squares.{turn, exitSide}
 
 -- corners `k`, the side entered, the other three in turn, and whether the far corners are in
-module _ (k : Side → Bool) (cut : Bool) (s on-right across on-left : Side) (right left : Bool)
-    (p : on-right ≡ turn s) (q : across ≡ turn on-right)
-    (r : on-left ≡ turn across) (a : right ≡ k across) (b : left ≡ k on-left) where
+pub record Found (k : Side → Bool) (s on-right across on-left : Side) (right left : Bool) : Type 0 where
+  pub first : on-right ≡ turn s
+  pub second : across ≡ turn on-right
+  pub third : on-left ≡ turn across
+  pub far-right : right ≡ k across
+  pub far-left : left ≡ k on-left
+
+module _ {k : Side → Bool} {s on-right across on-left : Side} {right left : Bool}
+    (f : Found k s on-right across on-left right left) (cut : Bool) where
   abbrev pub leave : Side
   leave = exitSide (k (turn (turn s))) (k (turn (turn (turn s)))) cut s
 
   to-across : turn (turn s) ≡ across
-  to-across = ap turn (sym p) ∙ sym q
+  to-across = ap turn (sym (f .first)) ∙ sym (f .second)
 
-  far-right : k (turn (turn s)) ≡ right
-  far-right = ap k to-across ∙ sym a
+  is-right : k (turn (turn s)) ≡ right
+  is-right = ap k to-across ∙ sym (f .far-right)
 
-  far-left : k (turn (turn (turn s))) ≡ left
-  far-left = ap k (ap turn to-across ∙ sym r) ∙ sym b
+  is-left : k (turn (turn (turn s))) ≡ left
+  is-left = ap k (ap turn to-across ∙ sym (f .third)) ∙ sym (f .far-left)
 
   pub both-in : right ≡ true → left ≡ true → on-right ≡ leave
-  both-in h i = rw (far-right ∙ h, far-left ∙ i) p
+  both-in h i = rw (is-right ∙ h, is-left ∙ i) (f .first)
 
   pub saddle-cut : right ≡ true → left ≡ false → cut ≡ true → on-right ≡ leave
-  saddle-cut h i j = rw (far-right ∙ h, far-left ∙ i, j) p
+  saddle-cut h i j = rw (is-right ∙ h, is-left ∙ i, j) (f .first)
 
   pub saddle-kept : right ≡ true → left ≡ false → cut ≡ false → on-left ≡ leave
-  saddle-kept h i j = rw (far-right ∙ h, far-left ∙ i, j) (r ∙ ap turn (sym to-across))
+  saddle-kept h i j = rw (is-right ∙ h, is-left ∙ i, j) (f .third ∙ ap turn (sym to-across))
 
   pub left-in : right ≡ false → left ≡ true → across ≡ leave
-  left-in h i = rw (far-right ∙ h, far-left ∙ i) (sym to-across)
+  left-in h i = rw (is-right ∙ h, is-left ∙ i) (sym to-across)
 
   pub none-in : right ≡ false → left ≡ false → on-left ≡ leave
-  none-in h i = rw (far-right ∙ h, far-left ∙ i) (r ∙ ap turn (sym to-across))
+  none-in h i = rw (is-right ∙ h, is-left ∙ i) (f .third ∙ ap turn (sym to-across))

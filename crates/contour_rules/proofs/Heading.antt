@@ -154,31 +154,24 @@ or-true : (a b : Bool) → b ≡ true → (a || b) ≡ true
 or-true true b h = refl
 or-true false b h = h
 
+-- a step out of the network, by which way its test went
+out-else : (row col : ℕ) (s : Side) (b : Bool) → isOutside (cond b (Square row col s) Outside) ≡ true
+    → b ≡ false
+out-else row col s true h = absurd (true≢false (sym h))
+out-else row col s false h = refl
+
+out-then : (row col : ℕ) (s : Side) (b : Bool) → isOutside (cond b Outside (Square row col s)) ≡ true
+    → b ≡ true
+out-then row col s true h = refl
+out-then row col s false h = absurd (true≢false (sym h))
+
 pub over-border : (nx ny : ℕ) (left : Bool) (e : Edge) → WithinEdge nx ny e
     → isOutside (acrossOf nx ny left e) ≡ true → onBorder nx ny e ≡ true
-over-border nx ny true (Horizontal row col) w h = go (ltb (row + 1) ny) refl h
-  where
-    go : (b : Bool) → ltb (row + 1) ny ≡ b → isOutside (cond b (Square row col South) Outside) ≡ true
-        → onBorder nx ny (Horizontal row col) ≡ true
-    go true e h = absurd (true≢false (sym h))
-    go false e h = or-true (eqb row 0) (eqb (row + 1) ny)
-        (eq-eqb (row + 1) ny (omega (arith, w .0, ltb-false (row + 1) ny e)))
-over-border nx ny false (Horizontal row col) w h = go (eqb row 0) h
-  where
-    go : (b : Bool) → isOutside (cond b Outside (Square (row - 1) col North)) ≡ true
-        → (b || eqb (row + 1) ny) ≡ true
-    go true h = refl
-    go false h = absurd (true≢false (sym h))
-over-border nx ny true (Vertical row col) w h = go (eqb col 0) h
-  where
-    go : (b : Bool) → isOutside (cond b Outside (Square row (col - 1) East)) ≡ true
-        → (b || eqb (col + 1) nx) ≡ true
-    go true h = refl
-    go false h = absurd (true≢false (sym h))
-over-border nx ny false (Vertical row col) w h = go (ltb (col + 1) nx) refl h
-  where
-    go : (b : Bool) → ltb (col + 1) nx ≡ b → isOutside (cond b (Square row col West) Outside) ≡ true
-        → onBorder nx ny (Vertical row col) ≡ true
-    go true e h = absurd (true≢false (sym h))
-    go false e h = or-true (eqb col 0) (eqb (col + 1) nx)
-        (eq-eqb (col + 1) nx (omega (arith, w .1, ltb-false (col + 1) nx e)))
+over-border nx ny true (Horizontal row col) w h =
+    or-true (eqb row 0) (eqb (row + 1) ny)
+    (eq-eqb (row + 1) ny (omega (arith, w .0, ltb-false (row + 1) ny (out-else row col South (ltb (row + 1) ny) h))))
+over-border nx ny false (Horizontal row col) w h = rw (out-then (row - 1) col North (eqb row 0) h)
+over-border nx ny true (Vertical row col) w h = rw (out-then row (col - 1) East (eqb col 0) h)
+over-border nx ny false (Vertical row col) w h =
+    or-true (eqb col 0) (eqb (col + 1) nx)
+    (eq-eqb (col + 1) nx (omega (arith, w .1, ltb-false (col + 1) nx (out-else row col West (ltb (col + 1) nx) h))))

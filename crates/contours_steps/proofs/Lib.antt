@@ -1,6 +1,5 @@
 pub mod Begun
 pub mod Dues
-pub mod Writes
 pub mod Levels
 pub mod Gathering
 pub mod Short

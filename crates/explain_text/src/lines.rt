@@ -3,11 +3,12 @@ use crate::amounts::Amounts;
 use crate::amounts::all_amounts;
 use crate::amounts::group_amounts;
 use movement::limits::GROUPS;
-use report_text::core::put_end;
-use report_text::core::put_field;
+use text::core::put_any_number;
 use text::core::put_byte;
-use text::core::put_number;
+use text::core::put_end;
+use text::core::put_field;
 use text::core::put_text;
+use text::core::put_word;
 ghost use mathlib.Core.Path.{_≡_};
 ghost use mathlib.Core.List.{_∷_, _++_};
 ghost use Prim.Native.Nat.{_+_, _≤_, _<_};
@@ -40,15 +41,14 @@ fn put_period(out: &mut [u8], at: usize, g: usize) -> usize
     ensures { λ r. ⌜ WroteWithin longestPeriod (now (out .entry)) at (comma ∷ periodText (groupPeriod g))
         (now (out .exit)) r ⌝ }
 {
-    let next = put_byte(out, at, b',');
     let period = g % 3;
     if period == 0 {
-        return put_text(out, next, b"day");
+        return put_word(out, at, b"day");
     }
     if period == 1 {
-        return put_text(out, next, b"evening");
+        return put_word(out, at, b"evening");
     }
-    put_text(out, next, b"night")
+    put_word(out, at, b"night")
 }
 
 // Type, kind and period of a group, each with its comma.
@@ -72,7 +72,7 @@ fn put_factor(out: &mut [u8], at: usize, upper: u64, lower: u64) -> usize
     }
     let slash = put_field(out, at, upper);
     let next = put_byte(out, slash, b'/');
-    put_number(out, next, lower)
+    put_any_number(out, next, lower)
 }
 
 // Two numbers, each with its comma.
@@ -101,7 +101,7 @@ fn put_group(out: &mut [u8], at: usize, point: usize, g: usize, a: Amounts) -> u
     ensures { λ r. ⌜ WroteWithin longestLine (now (out .entry)) at (line (groupFields point g a) ++ lineEnd)
         (now (out .exit)) r ⌝ }
 {
-    let number = put_number(out, at, (point + 1) as u64);
+    let number = put_any_number(out, at, (point + 1) as u64);
     let next = put_names(out, number, g);
     put_amounts(out, next, a)
 }
@@ -112,7 +112,7 @@ fn put_all(out: &mut [u8], at: usize, point: usize, a: Amounts) -> usize
     ensures { λ r. ⌜ WroteWithin longestLine (now (out .entry)) at (line (allFields point a) ++ lineEnd)
         (now (out .exit)) r ⌝ }
 {
-    let number = put_number(out, at, (point + 1) as u64);
+    let number = put_any_number(out, at, (point + 1) as u64);
     let next = put_text(out, number, b",all,,");
     put_amounts(out, next, a)
 }

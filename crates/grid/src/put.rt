@@ -2,6 +2,7 @@
 // it.
 use network::Frame;
 use text::core::put_byte;
+use text::core::put_end;
 use text::core::put_level;
 use text::core::put_text;
 use text::core::put_whole;
@@ -9,21 +10,12 @@ ghost use mathlib.Core.List.{_∷_};
 ghost use Prim.Native.Nat.{_+_, _≤_};
 ghost use lib.ListN.{length};
 ghost use Rattle.text.specs.Number.{showLevel};
-ghost use Rattle.text.specs.Spelled.{byte, crlf};
+ghost use Rattle.text.specs.Spelled.{byte};
 ghost use Rattle.room.specs.Room.{Wrote};
 ghost use Rattle.network.specs.Edges.{Checked, Sized};
 ghost use Rattle.network.specs.Limits.{maxNetworkLevel, maxOrigin};
 ghost use Rattle.grid.specs.Write.{keyLine, rowLine, rowLines, textOf, showNetwork};
 ghost use Rattle.grid.specs.InnerSteps.{Quiet, Near, ended, sideLines, placeLines};
-
-// The end of a line.
-fn put_end(out: &mut [u8], at: usize) -> usize
-    requires { ⌜ at + 2 ≤ length (now out) ⌝ }
-    ensures { λ r. ⌜ Wrote (now (out .entry)) at crlf (now (out .exit)) r ⌝ }
-{
-    let next = put_byte(out, at, b'\r');
-    put_byte(out, next, b'\n')
-}
 
 // A header line: its key, its number and its end.
 fn put_line(out: &mut [u8], at: usize, key: &[u8], n: u32) -> usize

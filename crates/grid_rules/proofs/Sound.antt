@@ -3,16 +3,15 @@ use Prim.Native.Nat.{ℕ, suc, _≤_, _<_}
 use mathlib.Core.Path.{_≡_, refl, sym, ap, _∙_}
 use mathlib.Core.{List.List, List.[], List._∷_, List._++_, List.map, Bool.true, Bool._&&_, Bool.true≢false}
 use native.Mathlib.Omega.{arith}
-use borrow.Author.Tests.{leb-true, le-leb, not-true}
-use lib.{Dec.leb, ListN.length, ListN.getD, ListN.length-map}
+use borrow.Author.Tests.{not-true}
+use lib.{ListN.length, ListN.getD, ListN.length-map}
 use Rattle.refusal.specs.Range.{allWithin}
 use Rattle.refusal.proofs.Ranges.{within-each}
 use Rattle.text.specs.{Field.countOf, Field.fieldOf, Number.levelOf, Number.valueOf, Number.showLevel, Same.sameText}
 use Rattle.text.proofs.{Digits.either, Shown.level-back, Sames.same-equal, Sames.same-self}
-use Rattle.network.specs.Limits.{leastSide, maxSide, leastSpacing, maxSpacing, maxOrigin}
-use Rattle.network.specs.Refusals.{between, sided, placed}
+use Rattle.network.specs.Refusals.{sided, placed}
 use Rattle.network.specs.declared.Frame.{Frame}
-use Rattle.network.proofs.Refusals.{both, in-between}
+use Rattle.network.proofs.Ranges.{frame-alone}
 use Rattle.grid.specs.Row.{valuesOf, given, levelIn, rowLevels, levelsOf}
 use Rattle.grid.proofs.ReadLaws.{up-append}
 use Rattle.grid_rules.specs.Refused.{InRange}
@@ -21,32 +20,11 @@ use Rattle.grid_rules.proofs.{Places.map-at, Places.value-field, Places
 -- ---- 12
 
 pub range-on : (f : Frame) → (sided f && placed f) ≡ true → InRange f
-range-on f h =
-    let s = both (sided f) (placed f) h in
-    let p = both (between leastSide (f .columns) maxSide) (between leastSide (f .rows) maxSide) (s .0) in
-    let o = both (between leastSpacing (f .spacing) maxSpacing)
-    (leb (f .west) maxOrigin && leb (f .south) maxOrigin) (s .1) in
-    let w = both (leb (f .west) maxOrigin) (leb (f .south) maxOrigin) (o .1) in
-    record {
-      columns = in-between leastSide (f .columns) maxSide (p .0);
-      rows = in-between leastSide (f .rows) maxSide (p .1);
-      spacing = in-between leastSpacing (f .spacing) maxSpacing (o .0);
-      west = leb-true (f .west) maxOrigin (w .0);
-      south = leb-true (f .south) maxOrigin (w .1);
-    }
+range-on f h = let r = frame-alone f .0 h in
+    record { columns = r .0; rows = r .1; spacing = r .2; west = r .3; south = r .4 }
 
 pub range-passes : (f : Frame) → InRange f → (sided f && placed f) ≡ true
-range-passes f r =
-    rw (
-      le-leb 2 (f .columns) (r .columns .0),
-      le-leb (f .columns) 256 (r .columns .1),
-      le-leb 2 (f .rows) (r .rows .0),
-      le-leb (f .rows) 256 (r .rows .1),
-      le-leb 1 (f .spacing) (r .spacing .0),
-      le-leb (f .spacing) 500 (r .spacing .1),
-      le-leb (f .west) 900000 (r .west),
-      le-leb (f .south) 900000 (r .south),
-    ) refl
+range-passes f r = frame-alone f .1 (r .columns, r .rows, r .spacing, r .west, r .south)
 
 -- ---- 13
 

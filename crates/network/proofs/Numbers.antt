@@ -40,6 +40,10 @@ module _ (nx ny : ℕ) (wide : 2 ≤ nx) where
         mod-lt (n - horizontals nx ny) (omega arith),
       ))
 
+  -- an edge found by its number
+  pub found-within : (n : ℕ) {e : Edge} → n < edges nx ny → e ≡ edgeAt nx ny n → WithinEdge nx ny e
+  found-within n h q = rw q (edge-within n h)
+
   pub at-number : (e : Edge) → WithinEdge nx ny e → edgeAt nx ny (numberOf nx ny e) ≡ e
   at-number (Horizontal row col) w =
       simp (

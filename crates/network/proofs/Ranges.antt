@@ -2,10 +2,10 @@
 use mathlib.Core.Path.{_≡_, refl, sym, _∙_, subst}
 use mathlib.Core.Bool.{Bool, true, false, _&&_, cond, true≢false}
 use mathlib.Core.{Logic._⊎_, Logic.inl, Logic.inr, Logic.⊎-elim, Logic._↔_, List.List}
-use Prim.Native.Nat.{ℕ, _*_}
+use Prim.Native.Nat.{ℕ, _≤_}
 use native.Mathlib.Omega.{arith}
 use borrow.Author.Tests.{le-leb, eq-eqb, leb-true, eqb-true}
-use lib.{Dec.leb, ListN.length}
+use lib.Dec.{leb}
 use Rattle.refusal.specs.{Range.allWithin, Refuse.refuse, Refuse.first}
 use Rattle.refusal.proofs.Ranges.{within-at, within-each}
 use Rattle.network.specs.declared.Frame.{Frame}
@@ -24,39 +24,54 @@ levels-right levels = (λ h i l. within-at 15000 levels i h, within-each 15000 l
 contour-right : (v : ℕ) → (between 1 v 15000 ≡ true) ↔ RightContour v
 contour-right v = (λ h. in-between 1 v 15000 h, λ h. rw (le-leb 1 v (h .0), le-leb v 15000 (h .1)))
 
-frame-right : (levels : List ℕ) (f : Frame)
-    → ((sided f && placed f && filled levels f) ≡ true) ↔ RightFrame levels f
-frame-right levels f = (right, λ r. passes r)
+-- a frame by itself: its sides, its spacing and its place
+abbrev pub FrameRange : Frame → Type 0
+FrameRange f =
+    ((2 ≤ f .columns) × (f .columns ≤ 256)) × ((2 ≤ f .rows) × (f .rows ≤ 256))
+    × ((1 ≤ f .spacing) × (f .spacing ≤ 500)) × (f .west ≤ 900000) × (f .south ≤ 900000)
+
+pub frame-alone : (f : Frame) → ((sided f && placed f) ≡ true) ↔ FrameRange f
+frame-alone f = (right, passes)
   where
-    right : (sided f && placed f && filled levels f) ≡ true → RightFrame levels f
+    right : (sided f && placed f) ≡ true → FrameRange f
     right h =
-        let p = both (sided f && placed f) (filled levels f) h in
-        let s = both (sided f) (placed f) (p .0) in
+        let s = both (sided f) (placed f) h in
         let d = both (between 2 (f .columns) 256) (between 2 (f .rows) 256) (s .0) in
         let o = both (between 1 (f .spacing) 500) (leb (f .west) 900000 && leb (f .south) 900000) (s .1) in
-        let w = both (leb (f .west) 900000) (leb (f .south) 900000) (o .1) in
-        record {
-          wide = in-between 2 (f .columns) 256 (d .0);
-          tall = in-between 2 (f .rows) 256 (d .1);
-          spaced = in-between 1 (f .spacing) 500 (o .0);
-          west = leb-true _ _ (w .0);
-          south = leb-true _ _ (w .1);
-          values = eqb-true _ _ (p .1);
-        }
+        let w = both (leb (f .west) 900000) (leb (f .south) 900000) (o .1) in (
+          in-between 2 (f .columns) 256 (d .0),
+          in-between 2 (f .rows) 256 (d .1),
+          in-between 1 (f .spacing) 500 (o .0),
+          leb-true _ _ (w .0),
+          leb-true _ _ (w .1),
+        )
 
-    passes : RightFrame levels f → (sided f && placed f && filled levels f) ≡ true
+    passes : FrameRange f → (sided f && placed f) ≡ true
     passes r =
         rw (
-          le-leb 2 (f .columns) (r .wide .0),
-          le-leb (f .columns) 256 (r .wide .1),
-          le-leb 2 (f .rows) (r .tall .0),
-          le-leb (f .rows) 256 (r .tall .1),
-          le-leb 1 (f .spacing) (r .spaced .0),
-          le-leb (f .spacing) 500 (r .spaced .1),
-          le-leb (f .west) 900000 (r .west),
-          le-leb (f .south) 900000 (r .south),
-          eq-eqb (length levels) (f .rows * f .columns) (r .values),
+          le-leb 2 (f .columns) (r .0 .0),
+          le-leb (f .columns) 256 (r .0 .1),
+          le-leb 2 (f .rows) (r .1 .0),
+          le-leb (f .rows) 256 (r .1 .1),
+          le-leb 1 (f .spacing) (r .2 .0),
+          le-leb (f .spacing) 500 (r .2 .1),
+          le-leb (f .west) 900000 (r .3),
+          le-leb (f .south) 900000 (r .4),
         )
+
+frame-right : (levels : List ℕ) (f : Frame)
+    → ((sided f && placed f && filled levels f) ≡ true) ↔ RightFrame levels f
+frame-right levels f = (
+  λ h.
+      let p = both (sided f && placed f) (filled levels f) h in
+      let r = frame-alone f .0 (p .0) in
+      record { wide = r .0; tall = r .1; spaced = r .2; west = r .3; south = r .4; values = eqb-true _ _ (p .1) },
+  λ r.
+      both-pass (frame-alone f .1 (r .wide, r .tall, r .spaced, r .west, r .south)) (eq-eqb _ _ (r .values)),
+)
+  where
+    both-pass : {a b : Bool} → a ≡ true → b ≡ true → (a && b) ≡ true
+    both-pass p q = rw (p, q)
 
 -- ---- so each number is given exactly when it is due
 

@@ -1,5 +1,5 @@
 -- The report's book holds 2,000 flights, and one more is refused 6. Assumes nothing.
-use mathlib.Core.{Path._≡_, Path.refl, Path.ap, Path._∙_, Bool.true, Bool.false, List.List}
+use mathlib.Core.{Path._≡_, Path.refl, Path.ap, Path._∙_, Bool.Bool, Bool.true, Bool.false, Bool.cond, List.List}
 use Prim.Native.Nat.{ℕ, _≤_}
 use native.Mathlib.Omega.{arith}
 use lib.{Dec.ltb, ListN.length}
@@ -30,19 +30,10 @@ module _ (p : ℕ) (register : List ℕ) (some : 1 ≤ p) (few : p ≤ 8)
       ∙ history-refusal p bookRows cs (made p (entering (layoutOf p row)))
 
   -- where nothing else refuses it, by whether there is room
-  no-room : (row : List ℕ) → Fresh p register row → ltb (length (standingIn p register)) 2000 ≡ false
-      → listRefusal p bookRows (standingIn p register) (made p (entering (layoutOf p row))) ≡ 6
+  by-room : (row : List ℕ) → Fresh p register row → (b : Bool) → ltb (length (standingIn p register)) 2000 ≡ b
+      → listRefusal p bookRows (standingIn p register) (made p (entering (layoutOf p row))) ≡ cond b 0 6
   unfolding listRefusal standingRefusal sizesFit
-  no-room row f e =
-      let x = layoutOf p row .fields in
-      let moved = ranges-hold .accepted (x .ty) (x .kind) (x .time) (x .mass) .1 (f .range, f .heavy) in
-      let named = ranges-hold .identity (x .identity) .1 (f .identity) in
-      rw (eq-eqb p p refl, le-leb 1 p some, le-leb p maxPoints few, moved, named, f .new, e) refl
-
-  some-room : (row : List ℕ) → Fresh p register row → ltb (length (standingIn p register)) 2000 ≡ true
-      → listRefusal p bookRows (standingIn p register) (made p (entering (layoutOf p row))) ≡ 0
-  unfolding listRefusal standingRefusal sizesFit
-  some-room row f e =
+  by-room row f b e =
       let x = layoutOf p row .fields in
       let moved = ranges-hold .accepted (x .ty) (x .kind) (x .time) (x .mass) .1 (f .range, f .heavy) in
       let named = ranges-hold .identity (x .identity) .1 (f .identity) in
@@ -55,12 +46,12 @@ module _ (p : ℕ) (register : List ℕ) (some : 1 ≤ p) (few : p ≤ 8)
       record {
         most = omega (arith, stand, told .same);
         full = λ n row ne f two.
-            let six = listed row ∙ no-room row f
+            let six = listed row ∙ by-room row f false
             (le-ltb (length (standingIn p register)) 2000 (omega (arith, stand))) in
             row-refused p n (bookIn p register) row ne .entered (f .read) (λ z. absurd (omega arith))
             (λ z. absurd (omega arith)) ∙ six;
         room = λ n row ne f less.
-            let none = listed row ∙ some-room row f
+            let none = listed row ∙ by-room row f true
             (lt-ltb (length (standingIn p register)) 2000 (omega (arith, stand))) in
             row-refused p n (bookIn p register) row ne .blank (f .read) none (f .bare);
       }

@@ -119,21 +119,14 @@ module _ (n d : ℕ) (ls line : List ℕ) (few : n ≤ 8) (v : Valued n d ls lin
       rw (v .limit i h) (level-back (getD ls i 0) (v .three i h)) in
       ap valueOf (limit-cell i (fieldOf 44 (1 + i) line) ∙ read)
 
-  read-is : cellsOf table.LimitsFile (1 + n) line .read ≡ true
+  read-are : (cellsOf table.LimitsFile (1 + n) line .read ≡ true)
+      × (cellsOf table.LimitsFile (1 + n) line .values ≡ values n line)
   unfolding cellsOf
-  read-is =
+  read-are =
       rw (
         eq-eqb (countOf 44 line + 1) (1 + n) (omega (arith, v .fields)),
         every-all (gotAt table.LimitsFile line) (1 + n) cell-is,
-      ) refl
-
-  values-are : cellsOf table.LimitsFile (1 + n) line .values ≡ values n line
-  unfolding cellsOf
-  values-are =
-      rw (
-        eq-eqb (countOf 44 line + 1) (1 + n) (omega (arith, v .fields)),
-        every-all (gotAt table.LimitsFile line) (1 + n) cell-is,
-      ) refl
+      ) (refl, refl)
 
   -- its limits, as they are judged
   limits-are : (i : ℕ) → i < n → getD (eightFrom 1 (values n line)) i 0 ≡ getD ls i 0
@@ -172,7 +165,7 @@ headed-by text n h =
 second-by : (n d lines : ℕ) (ls line : List ℕ) → n ≤ 8 → Valued n d ls line
     → secondLimits n line lines ≡ cond (leb lines 2) (judgedLimits n (values n line)) (refusedLimits 16 3)
 unfolding secondLimits
-second-by n d lines ls line few v = rw (read-is n d ls line few v, values-are n d ls line few v) refl
+second-by n d lines ls line few v = rw (read-are n d ls line few v .0, read-are n d ls line few v .1) refl
 
 -- the days and the limits of a line that is spelled so
 module _ (n d : ℕ) (ls line : List ℕ) (few : n ≤ 8) (v : Valued n d ls line) where

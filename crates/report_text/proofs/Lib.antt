@@ -1,4 +1,3 @@
-pub mod Writes
 pub mod Lines
 pub mod Levels
 pub mod Points

@@ -1,6 +1,10 @@
 -- The lines of a report, as the writers group them. Assumes nothing.
 use mathlib.Core.{Path._≡_, Path.refl, Path.sym, List.List, List.[], List._∷_, List._++_, List.append-assoc}
-use Prim.Native.Nat.{ℕ, _+_}
+use Prim.Native.Nat.{ℕ, _+_, _≤_}
+use native.Mathlib.Omega.{arith}
+use lib.ListN.{length, length-append}
+use Rattle.room.specs.Room.{Wrote}
+use Rattle.room.proofs.Laws.{wrote-then}
 use Rattle.text.specs.{Number.showNumber, Field.joinedBy, Spelled.bytes, Index.listing}
 use native.Mathlib.Numerals.{add-one}
 use Rattle.report_text.specs.Text.{comma, lineEnd, ended, line, refusedText}
@@ -36,3 +40,11 @@ ended-more f n = rw (add-one n) (sym (ended-append (listing f n) (f n ∷ [])))
 pub ended-header : (l : List ℕ) (ls : List (List ℕ)) → (l ++ lineEnd) ++ ended ls ≡ ended (l ∷ ls)
 unfolding ended
 ended-header l ls = append-assoc l lineEnd (ended ls)
+
+-- the header written, and past it the lines
+pub wrote-header : (l : List ℕ) (ls : List (List ℕ)) {s mid e : List ℕ} {i j : ℕ}
+    → Wrote s 0 (l ++ lineEnd) mid i → Wrote mid i (ended ls) e j → j ≤ length s
+    → Wrote s 0 (ended (l ∷ ls)) e j
+wrote-header l ls w u room =
+    rw (ended-header l ls)
+    at (wrote-then (omega (arith, length-append (l ++ lineEnd) (ended ls), w .place, u .place)) w u)

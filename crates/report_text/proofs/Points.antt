@@ -1,8 +1,8 @@
 -- The lines of the points, one after another, behind the header. Assumes nothing.
-use mathlib.Core.{Path._≡_, Path.ap, List.List, List._++_}
+use mathlib.Core.{Path._≡_, Path.ap, Bool.cond, List.List, List._++_}
 use Prim.Native.Nat.{ℕ, _+_, _≤_}
 use native.Mathlib.Omega.{arith}
-use lib.ListN.{length, getD, length-append}
+use lib.{Dec.eqb, ListN.length, ListN.getD, ListN.length-append}
 use borrow.Author.Tests.{ne-eqb}
 use Rattle.book_rules.specs.Columns.{Book}
 use Rattle.load_rules.specs.declared.Load.{Load}
@@ -12,9 +12,9 @@ use Rattle.room.specs.Room.{Wrote}
 use Rattle.room.proofs.Laws.{wrote-then, wrote-none}
 use Rattle.register.specs.declared.limits_csv.LimitsFile.{LimitsFile}
 use Rattle.report_text.specs.Text.{headerLine, lineEnd, ended, line, pointFields, pointLine, refusedText}
-use Rattle.report_text.specs.Text.{pointsText, bookRefusal, bookText}
+use Rattle.report_text.specs.Text.{pointsText, bookRefusal}
 use Rattle.report_text.specs.InnerRoom.{longestPoint, WroteWithin}
-use Rattle.report_text.proofs.Lines.{ended-none, ended-more, ended-header}
+use Rattle.report_text.proofs.Lines.{ended-none, ended-more, wrote-header}
 
 -- the limits, by what a line looks at
 abbrev pub limitsWith : ℕ → ℕ → List ℕ → LimitsFile
@@ -56,23 +56,19 @@ pub points-all : (l : LimitsFile) (b : Book) {s mid e : List ℕ} {i j n : ℕ}
 unfolding pointsText pointLine
 points-all l b {s} {mid} {e} {i} {j} {n} w v q room =
     let ls = listing (pointLine l b) (l .points) in
-    let u : Wrote mid i (ended ls) e j = rw q at (v .wrote) in
-    rw (ended-header headerLine ls)
-    at (wrote-then (omega (arith, length-append (headerLine ++ lineEnd) (ended ls), w .place, u .place)) w u)
+    wrote-header headerLine ls w (rw q at (v .wrote)) room
 
--- the whole report, by the refusal of its book
-pub report-refused : (l : LimitsFile) (b : Book) {s e : List ℕ} {r n : ℕ} → n ≡ bookRefusal l b
-    → (n ≡ 0 → ⊥)
-    → Wrote s 0 (refusedText n 0) e r
-    → Wrote s 0 (bookText l b) e r
-unfolding bookText
-report-refused l b {s} {e} {r} {n} q ne w = rw (← q, ne-eqb n 0 ne) w
+-- a text by the refusal of its book: the one line, or what it says of the points
+abbrev byRefusal : LimitsFile → Book → List ℕ → List ℕ
+byRefusal l b told = cond (eqb (bookRefusal l b) 0) told (refusedText (bookRefusal l b) 0)
 
-pub report-points : (l : LimitsFile) (b : Book) {s e : List ℕ} {r n : ℕ} → n ≡ bookRefusal l b → n ≡ 0
-    → Wrote s 0 (pointsText l b) e r
-    → Wrote s 0 (bookText l b) e r
-unfolding bookText
-report-points l b {s} {e} {r} {n} q z w = rw (← q, z) w
+pub text-refused : (l : LimitsFile) (b : Book) (told : List ℕ) {s e : List ℕ} {r n : ℕ} → n ≡ bookRefusal l b
+    → (n ≡ 0 → ⊥) → Wrote s 0 (refusedText n 0) e r → Wrote s 0 (byRefusal l b told) e r
+text-refused l b told {s} {e} {r} {n} q ne w = rw (← q, ne-eqb n 0 ne) w
+
+pub text-points : (l : LimitsFile) (b : Book) {told s e : List ℕ} {r n : ℕ} → n ≡ bookRefusal l b → n ≡ 0
+    → Wrote s 0 told e r → Wrote s 0 (byRefusal l b told) e r
+text-points l b q z w = rw (← q, z) w
 
 -- the first load's refusal is the book's
 pub refusal-is : (l : LimitsFile) (b : Book) {load : Load} → load ≡ bookLoad (l .points) 0 b (l .days)

@@ -1,22 +1,16 @@
 -- Inner steps: no promise uses them. What the writers of the report ask and leave: room for the longest text, and
 -- numbers that have one. Assumes nothing.
-use Prim.Native.Nat.{ℕ, _+_, _≤_, _<_}
+use Prim.Native.Nat.{ℕ, _≤_, _<_}
 use mathlib.Core.Path.{_≡_}
 use mathlib.Core.List.{List}
 use lib.ListN.{getD}
 use Rattle.room.specs.Room.{Wrote}
+use Rattle.text.specs.InnerWithin as text
 use Rattle.movement.specs.Limits.{maxPoints}
 use Rattle.book_rules.specs.Columns.{Book}
 use Rattle.register.specs.declared.limits_csv.LimitsFile.{LimitsFile}
 use Rattle.report_text.specs.declared.core.Report.{Report}
 use Rattle.report_text.specs.Text.{bookText, bookRefusal}
-
--- a number has at most 20 digits, and a comma stands before it
-abbrev pub longestNumber : ℕ
-longestNumber = 20
-
-abbrev pub longestField : ℕ
-longestField = 21
 
 -- a level, a limit or a verdict of at most 6 bytes, with its comma; and all three
 abbrev pub longestWord : ℕ
@@ -45,9 +39,8 @@ abbrev pub longestRefused : ℕ
 longestRefused = 51
 
 -- a text written at `at` that takes at most `max` bytes
-pub record WroteWithin (max : ℕ) (old : List ℕ) (at : ℕ) (text new : List ℕ) (next : ℕ) : Type 0 where
-  pub wrote : Wrote old at text new next
-  pub within : next ≤ at + max
+abbrev pub WroteWithin : (max : ℕ) (old : List ℕ) (at : ℕ) (written new : List ℕ) (next : ℕ) → Type 0
+WroteWithin = text.WroteWithin
 
 -- limits.csv that was accepted: 1 to 8 points, and limits that have a text
 pub record LimitsFit (l : LimitsFile) : Type 0 where

@@ -6,10 +6,13 @@ use load::load_at;
 use load_rules::Counts;
 use load_rules::Load;
 use register::limits_csv::LimitsFile;
+use text::core::put_any_level;
+use text::core::put_any_number;
 use text::core::put_byte;
-use text::core::put_level;
-use text::core::put_number;
+use text::core::put_end;
+use text::core::put_field;
 use text::core::put_text;
+use text::core::put_word;
 ghost use mathlib.Core.Path.{_≡_};
 ghost use mathlib.Core.List.{_∷_, _++_};
 ghost use Prim.Native.Nat.{_+_, _≤_, _<_};
@@ -22,7 +25,7 @@ ghost use Rattle.text.specs.Number.{showNumber, showLevel};
 ghost use Rattle.report_text.specs.Totals.{allComputed, allMissing};
 ghost use Rattle.report_text.specs.Text.{comma, lineEnd, line, levelText, verdictText, pointFields};
 ghost use Rattle.report_text.specs.Text.{headerLine, refusedText, pointsText};
-ghost use Rattle.report_text.specs.InnerRoom.{longestField, longestWord, longestJudged, longestTotals};
+ghost use Rattle.report_text.specs.InnerRoom.{longestWord, longestJudged, longestTotals};
 ghost use Rattle.report_text.specs.InnerRoom.{longestPoint, headerSize, longestReport, longestRefused};
 ghost use Rattle.report_text.specs.InnerRoom.{WroteWithin, LimitsFit, Reported};
 
@@ -30,25 +33,6 @@ ghost use Rattle.report_text.specs.InnerRoom.{WroteWithin, LimitsFit, Re
 pub struct Report {
     pub size: usize,
     pub refused: u32,
-}
-
-// A comma and a number.
-pub fn put_field(out: &mut [u8], at: usize, n: u64) -> usize
-    requires { ⌜ at + longestField ≤ length (now out) ⌝ }
-    ensures { λ r. ⌜ WroteWithin longestField (now (out .entry)) at (comma ∷ showNumber n)
-        (now (out .exit)) r ⌝ }
-{
-    let next = put_byte(out, at, b',');
-    put_number(out, next, n)
-}
-
-// The end of a line.
-pub fn put_end(out: &mut [u8], at: usize) -> usize
-    requires { ⌜ at + 2 ≤ length (now out) ⌝ }
-    ensures { λ r. ⌜ WroteWithin 2 (now (out .entry)) at lineEnd (now (out .exit)) r ⌝ }
-{
-    let next = put_byte(out, at, b'\r');
-    put_byte(out, next, b'\n')
 }
 
 // A refusal's one line.
@@ -69,10 +53,9 @@ fn put_rounded(out: &mut [u8], at: usize, level: Level) -> usize
     ensures { λ r. ⌜ WroteWithin longestWord (now (out .entry)) at (comma ∷ levelText level)
         (now (out .exit)) r ⌝ }
 {
-    let next = put_byte(out, at, b',');
     match level {
-        Level::BelowZero => put_text(out, next, b"below"),
-        Level::At(n) => put_level(out, next, n),
+        Level::BelowZero => put_word(out, at, b"below"),
+        Level::At(n) => put_limit(out, at, n),
     }
 }
 
@@ -82,10 +65,9 @@ fn put_verdict(out: &mut [u8], at: usize, verdict: Verdict) -> usize
     ensures { λ r. ⌜ WroteWithin longestWord (now (out .entry)) at (comma ∷ verdictText verdict)
         (now (out .exit)) r ⌝ }
 {
-    let next = put_byte(out, at, b',');
     match verdict {
-        Verdict::Within => put_text(out, next, b"within"),
-        Verdict::Over => put_text(out, next, b"over"),
+        Verdict::Within => put_word(out, at, b"within"),
+        Verdict::Over => put_word(out, at, b"over"),
     }
 }
 
@@ -96,7 +78,7 @@ fn put_limit(out: &mut [u8], at: usize, limit: u32) -> usize
         (now (out .exit)) r ⌝ }
 {
     let next = put_byte(out, at, b',');
-    put_level(out, next, limit)
+    put_any_level(out, next, limit)
 }
 
 // What a point has: the rounded level, the limit and the verdict.
@@ -133,7 +115,7 @@ fn put_point(out: &mut [u8], at: usize, point: usize, load: Load, limit: u32) ->
 {
     let counts = load.counts;
     let level = load.level;
-    let number = put_number(out, at, (point + 1) as u64);
+    let number = put_any_number(out, at, (point + 1) as u64);
     let judged = put_judged(out, number, level, limit);
     put_totals(out, judged, counts)
 }

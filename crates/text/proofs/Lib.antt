@@ -8,3 +8,4 @@ pub mod Lines
 pub mod Streams
 pub mod Sames
 pub mod Indices
+pub mod Within

@@ -4,3 +4,4 @@ pub mod Line
 pub mod Same
 pub mod Index
 pub mod Spelled
+pub mod InnerWithin

@@ -10,6 +10,8 @@ ghost use Rattle.text.specs.Number.{digitsOf, maxDecimals, decimalOf, sh
 ghost use Rattle.text.specs.Number.{showDigits, showDecimal, showLevel};
 ghost use Rattle.text.specs.Field.{upTo};
 ghost use Rattle.text.specs.Line.{endAt, firstLine};
+ghost use Rattle.text.specs.Spelled.{byte, crlf};
+ghost use Rattle.text.specs.InnerWithin.{longestNumber, longestField, longestLevel, WroteWithin};
 ghost use Rattle.room.specs.Room.{Wrote};
 
 // The value of a run of at most seven digits.
@@ -195,4 +197,47 @@ pub fn put_level(out: &mut [u8], at: usize, n: u32) -> usize
     ensures { λ r. ⌜ Wrote (now (out .entry)) at (showLevel n) (now (out .exit)) r ⌝ }
 {
     put_decimal(out, at, n, 2)
+}
+
+// A number, in room for the longest; and with a comma before it.
+pub fn put_any_number(out: &mut [u8], at: usize, n: u64) -> usize
+    requires { ⌜ at + longestNumber ≤ length (now out) ⌝ }
+    ensures { λ r. ⌜ WroteWithin longestNumber (now (out .entry)) at (showNumber n) (now (out .exit)) r ⌝ }
+{
+    put_number(out, at, n)
+}
+
+pub fn put_field(out: &mut [u8], at: usize, n: u64) -> usize
+    requires { ⌜ at + longestField ≤ length (now out) ⌝ }
+    ensures { λ r. ⌜ WroteWithin longestField (now (out .entry)) at (byte "," ∷ showNumber n)
+        (now (out .exit)) r ⌝ }
+{
+    let next = put_byte(out, at, b',');
+    put_any_number(out, next, n)
+}
+
+// A comma, and a text as it stands.
+pub fn put_word(out: &mut [u8], at: usize, text: &[u8]) -> usize
+    requires { ⌜ at + 1 + length (now text) ≤ length (now out) ⌝ }
+    ensures { λ r. ⌜ Wrote (now (out .entry)) at (byte "," ∷ now (text .entry)) (now (out .exit)) r ⌝ }
+{
+    let next = put_byte(out, at, b',');
+    put_text(out, next, text)
+}
+
+// A level, in room for the longest.
+pub fn put_any_level(out: &mut [u8], at: usize, n: u32) -> usize
+    requires { ⌜ (n < 100000) × (at + longestLevel ≤ length (now out)) ⌝ }
+    ensures { λ r. ⌜ WroteWithin longestLevel (now (out .entry)) at (showLevel n) (now (out .exit)) r ⌝ }
+{
+    put_level(out, at, n)
+}
+
+// The end of a line.
+pub fn put_end(out: &mut [u8], at: usize) -> usize
+    requires { ⌜ at + 2 ≤ length (now out) ⌝ }
+    ensures { λ r. ⌜ WroteWithin 2 (now (out .entry)) at crlf (now (out .exit)) r ⌝ }
+{
+    let next = put_byte(out, at, b'\r');
+    put_byte(out, next, b'\n')
 }

@@ -1,6 +1,7 @@
 pub mod Nearest
 pub mod Lengths
 pub mod Steps
+pub mod Stepped
 pub mod Rooms
 pub mod Contours
 pub mod Joined

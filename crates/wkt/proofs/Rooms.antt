@@ -1,6 +1,6 @@
 -- A room filled piece by piece from its front. Assumes nothing.
 use mathlib.Core.{Path._≡_, Path.refl, Path.sym, Path.ap, Path._∙_, Bool.Bool, Bool.true, Bool.false}
-use mathlib.Core.List.{List, _++_, append-assoc}
+use mathlib.Core.{List.List, List._++_, List.append-assoc, Logic._⊎_}
 use Prim.Native.Nat.{ℕ, suc, _+_, _≤_, _<_}
 use native.Mathlib.Omega.{arith}
 use borrow.Author.Tests.{ltb-true, ltb-false}
@@ -10,7 +10,7 @@ use Rattle.room.specs.Room.{put, Wrote}
 use Rattle.room.proofs.Laws.{length-wrote}
 use Rattle.network.specs.declared.Frame.{Frame}
 use Rattle.wkt.specs.declared.Cursor.{Cursor}
-use Rattle.wkt.specs.InnerParts.{Reached, leftOf, pieceOf, nextOf, walk, pieces}
+use Rattle.wkt.specs.InnerParts.{Reached, leftOf, pieceOf, nextOf, walk, pieces, Printed}
 
 module _ (old room piece : List ℕ) (size : ℕ) (fits : size + length piece ≤ length room) where
   front-long : length (take size room ++ piece) ≡ size + length piece
@@ -143,3 +143,22 @@ module _ (levels : List ℕ) (f : Frame) (v : ℕ) (listed counts closed : List 
             bytes = all-bytes;
             not-before = none-before;
           }
+
+-- what has come is a part, where the text ends or the next piece has no room
+pub come-stops : {levels : List ℕ} {f : Frame} {v : ℕ} {listed counts closed : List ℕ} {from : Cursor}
+    {old room piece : List ℕ} {at : Cursor} {size : ℕ}
+    → Come levels f v listed counts closed from old room piece at size
+    → (length counts < at .line) ⊎ (length old < size + length (pieceOf levels f v listed counts closed at))
+    → Printed levels f v listed counts closed from old (record { next = at; size = size }) room
+come-stops i stopped = record {
+  steps = i .steps;
+  there = i .there;
+  bytes = i .bytes;
+  fits = i .fits;
+  long = i .long;
+  kept = i .kept;
+  stopped = stopped;
+  not-before = i .not-before;
+  reached = i .reached;
+  joined = i .joined;
+}

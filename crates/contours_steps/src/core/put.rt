@@ -1,8 +1,9 @@
 // What stands around the texts of contours, put into a lent buffer that has room. A writer writes from a place on and
 // answers the place past its text.
+use text::core::put_any_level;
 use text::core::put_byte;
-use text::core::put_level;
-use text::core::put_number;
+use text::core::put_end;
+use text::core::put_field;
 use text::core::put_text;
 ghost use Prim.Native.Nat.{_+_, _≤_, _<_};
 ghost use lib.ListN.{length};
@@ -14,7 +15,7 @@ pub fn put_start(out: &mut [u8], v: u32) -> usize
     requires { ⌜ (v < 100000) × (7 ≤ length (now out)) ⌝ }
     ensures { λ r. ⌜ Wrote (now (out .entry)) 0 (lineStart v) (now (out .exit)) r ⌝ }
 {
-    let next = put_level(out, 0, v);
+    let next = put_any_level(out, 0, v);
     put_byte(out, next, b';')
 }
 
@@ -23,9 +24,8 @@ pub fn put_refused(out: &mut [u8], number: u32, line: u64) -> usize
     requires { ⌜ 51 ≤ length (now out) ⌝ }
     ensures { λ r. ⌜ Wrote (now (out .entry)) 0 (refusedLine number line) (now (out .exit)) r ⌝ }
 {
-    let word = put_text(out, 0, b"refused,");
-    let first = put_number(out, word, number as u64);
-    let comma = put_byte(out, first, b',');
-    let second = put_number(out, comma, line);
-    put_text(out, second, b"\r\n")
+    let word = put_text(out, 0, b"refused");
+    let first = put_field(out, word, number as u64);
+    let second = put_field(out, first, line);
+    put_end(out, second)
 }

@@ -1,7 +1,11 @@
 -- `journal::replay_refusal` meets its contract. Assumes nothing.
+use mathlib.Core.Path.{_≡_}
+use lib.{Dec.leb, ListN.length}
 use borrow.Author.{Tests.lt-leb, Tests.le-leb, Needs.needs}
+use Rattle.refusal.specs.Refuse.{refuse}
 use Rattle.refusal.proofs.Laws.{passed, failed}
-use Rattle.journal.specs.Journal.{replayRefusal}
+use Rattle.book_rules.specs.Columns.{bookNow}
+use Rattle.journal.specs.Journal.{replayRefusal, callsOf}
 use Rattle.journal.proofs.replay_refusal.Statement.{statement}
 use Rattle.journal.proofs.replay_refusal.Tie as tie
 
@@ -13,32 +17,18 @@ returns-2 c =
       failed (c .before .is-sound .ensures) (c .if2 .taken),
     )
 
-returns-3 : tie.Need-returns-3
-unfolding replayRefusal
-returns-3 c =
-    let at-is-laid-out : tie.After-is-laid-out = search in
-    let left1 : tie.Else1 = search in
-    let at-is-sound : tie.After-is-sound = search in
-    simp (
-      passed (at-is-laid-out .is-laid-out .ensures) (left1 .if1 .left),
-      passed (at-is-sound .is-sound .ensures)
-          (c .before .before .if2 .left),
-      ← (c .before .count-calls .ensures),
-      lt-leb _ _ (c .if3 .taken),
-    )
+-- past the tests of journal and book
+abbrev start : tie.Else2 → tie.Start
+start c = search
 
-returns-4 : tie.Need-returns-4
+past : (c : tie.Else2) → let a = start c .args in
+    replayRefusal (a .points) (bookNow (a .ids) (a .groups) (a .marks) (a .levels)) (a .journal .now) (a .room)
+    ≡ refuse 14 (leb (length (callsOf (a .journal .now))) (a .room)) 0
 unfolding replayRefusal
-returns-4 c =
-    let at-is-laid-out : tie.After-is-laid-out = search in
-    let left1 : tie.Else1 = search in
-    let at-is-sound : tie.After-is-sound = search in
+past c =
     simp (
-      passed (at-is-laid-out .is-laid-out .ensures) (left1 .if1 .left),
-      passed (at-is-sound .is-sound .ensures)
-          (c .before .before .if2 .left),
-      ← (c .before .count-calls .ensures),
-      le-leb _ _ (c .if3 .left),
+      passed (c .before .before .before .is-laid-out .ensures) (c .before .before .if1 .left),
+      passed (c .before .is-sound .ensures) (c .if2 .left),
     )
 
 pub replay-refusal-spec : {M : Type 1} → statement M
@@ -46,5 +36,6 @@ replay-refusal-spec =
     tie.close (tie.spec (λ c κs. search needs)
     (λ c. unfold replayRefusal in simp (failed (c .before .is-laid-out .ensures) (c .if1 .taken)))
     (λ c κs. search needs) returns-2
-    (λ c κs. passed (c .before .before .before .is-laid-out .ensures) (c .before .before .if1 .left)) returns-3
-    returns-4)
+    (λ c κs. passed (c .before .before .before .is-laid-out .ensures) (c .before .before .if1 .left))
+    (λ c. rw (past (c .before .before), ← (c .before .count-calls .ensures), lt-leb _ _ (c .if3 .taken)))
+    (λ c. rw (past (c .before .before), ← (c .before .count-calls .ensures), le-leb _ _ (c .if3 .left))))

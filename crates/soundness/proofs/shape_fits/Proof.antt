@@ -1,4 +1,7 @@
 -- `soundness::shape_fits` meets its contract. Assumes nothing.
+use mathlib.Core.{Path._≡_, Bool._&&_}
+use Prim.Native.Nat.{_*_}
+use lib.Dec.{eqb}
 use borrow.Author.Tests.{le-leb, lt-leb, eq-eqb, ne-eqb}
 use Rattle.book_rules.specs.Columns.{shapeFits}
 use Rattle.book_rules.proofs.Scans.{product-fits}
@@ -20,28 +23,17 @@ returns-4 c =
       lt-leb _ _ (c .if4 .taken),
     )
 
-returns-5 : tie.Need-returns-5
+-- past the ranges the columns decide
+past : (c : tie.Else4) → let a = c .before .before .before .before .args in
+    shapeFits (a .points) (a .rows) (a .groups) (a .marks) (a .levels)
+    ≡ ((eqb (a .groups) (a .rows) && eqb (a .marks) (a .rows)) && eqb (a .levels) (a .rows * a .points))
 unfolding shapeFits
-returns-5 c =
+past c =
     simp (
-      le-leb _ _ (c .before .before .before .before .if1 .left),
-      le-leb _ _ (c .before .before .before .if2 .left),
-      le-leb _ _ (c .before .before .if3 .left),
-      le-leb _ _ (c .before .if4 .left),
-      ne-eqb _ _ (c .if5 .taken),
-    )
-
-returns-6 : tie.Need-returns-6
-unfolding shapeFits
-returns-6 c =
-    let left3 : tie.Else3 = search in
-    simp (
-      le-leb _ _ (left3 .before .before .if1 .left),
-      le-leb _ _ (left3 .before .if2 .left),
-      le-leb _ _ (left3 .if3 .left),
-      le-leb _ _ (c .before .before .if4 .left),
-      eq-eqb _ _ (c .before .if5 .left),
-      ne-eqb _ _ (c .if6 .taken),
+      le-leb _ _ (c .before .before .before .if1 .left),
+      le-leb _ _ (c .before .before .if2 .left),
+      le-leb _ _ (c .before .if3 .left),
+      le-leb _ _ (c .if4 .left),
     )
 
 mul-result : tie.Need-mul-result
@@ -50,21 +42,10 @@ mul-result c =
     let left2 : tie.Else2 = search in
     product-fits (start .args .rows) (start .args .points) (c .before .before .if4 .left) (left2 .if2 .left)
 
-returns-7 : tie.Need-returns-7
-unfolding shapeFits
-returns-7 c =
-    let left3 : tie.Else3 = search in
-    simp (
-      le-leb _ _ (left3 .before .before .if1 .left),
-      le-leb _ _ (left3 .before .if2 .left),
-      le-leb _ _ (left3 .if3 .left),
-      le-leb _ _ (c .before .before .if4 .left),
-      eq-eqb _ _ (c .before .if5 .left),
-      eq-eqb _ _ (c .if6 .left),
-    )
-
 pub shape-fits-spec : {M : Type 1} → statement M
 shape-fits-spec =
     tie.close (tie.spec (λ c. unfold shapeFits in simp (lt-leb _ _ (c .if1 .taken)))
     (λ c. unfold shapeFits in simp (le-leb _ _ (c .before .if1 .left), lt-leb _ _ (c .if2 .taken))) returns-3
-    returns-4 returns-5 returns-6 mul-result returns-7)
+    returns-4 (λ c. rw (past (c .before), ne-eqb _ _ (c .if5 .taken)))
+    (λ c. rw (past (c .before .before), eq-eqb _ _ (c .before .if5 .left), ne-eqb _ _ (c .if6 .taken))) mul-result
+    (λ c. rw (past (c .before .before), eq-eqb _ _ (c .before .if5 .left), eq-eqb _ _ (c .if6 .left))))

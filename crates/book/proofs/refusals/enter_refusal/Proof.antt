@@ -2,9 +2,10 @@
 -- Assumes nothing.
 use mathlib.Core.Path.{_≡_, sym, _∙_}
 use borrow.Author.{Tests.lt-ltb, Tests.le-ltb, Needs.needs}
+use Rattle.refusal.specs.Refuse.{refuse}
 use Rattle.refusal.proofs.Laws.{passed, failed}
 use Rattle.movement.specs.Rules.{movementRefusal}
-use Rattle.book_rules.specs.Columns.{stands}
+use Rattle.book_rules.specs.{Calls.enterRefusal, Columns.stands}
 use Rattle.book_rules.proofs.Accepted.{enter-refused, enter-allowed, identity-in}
 use Rattle.book.proofs.refusals.enter_refusal.Statement.{statement}
 use Rattle.book.proofs.refusals.enter_refusal.Tie as tie
@@ -38,33 +39,27 @@ returns-3 c =
       sym (c .before .stands-at .ensures) ∙ c .if3 .taken,
     ))
 
+-- past all tests but the last
+past : (c : tie.Else3) → let a = c .before .before .before .before .before .before .before .args in
+    enterRefusal (a .ids .now) (a .identity) (a .ty) (a .kind) (a .time) (a .mass)
+    ≡ refuse 6 (stands 0 (a .ids .now)) 0
+past c =
+    let left2 = c .before .before in
+    enter-allowed _ _ _ _ _ _ (allowed (left2 .before .before))
+    ∙ simp (
+      passed (left2 .before .identity-fits .ensures) (left2 .if2 .left),
+      sym (c .before .stands-at .ensures) ∙ c .if3 .left,
+    )
+
 returns-4 : tie.Need-returns-4
 unfolding stands
 returns-4 c =
-    let start : tie.Start = search in
-    let left2 : tie.Else2 = search in
-    let rows = start .pre .1 in
-    sym (enter-allowed _ _ _ _ _ _ (allowed (left2 .before .before))
-    ∙ simp (
-      passed (left2 .before .identity-fits .ensures) (left2 .if2 .left),
-      sym (c .before .before .stands-at .ensures) ∙ c .before .if3 .left,
-      ← rows,
-      lt-ltb _ _ (c .if4 .taken),
-    ))
+    let start : tie.Start = search in rw (past (c .before)) (simp (← start .pre .1, lt-ltb _ _ (c .if4 .taken)))
 
 returns-5 : tie.Need-returns-5
 unfolding stands
 returns-5 c =
-    let start : tie.Start = search in
-    let left2 : tie.Else2 = search in
-    let rows = start .pre .1 in
-    sym (enter-allowed _ _ _ _ _ _ (allowed (left2 .before .before))
-    ∙ simp (
-      passed (left2 .before .identity-fits .ensures) (left2 .if2 .left),
-      sym (c .before .before .stands-at .ensures) ∙ c .before .if3 .left,
-      ← rows,
-      le-ltb _ _ (c .if4 .left),
-    ))
+    let start : tie.Start = search in rw (past (c .before)) (simp (← start .pre .1, le-ltb _ _ (c .if4 .left)))
 
 pub enter-refusal-spec : {M : Type 1} → statement M
 enter-refusal-spec =

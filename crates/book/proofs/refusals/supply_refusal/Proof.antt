@@ -1,7 +1,9 @@
 -- `book::refusals::supply_refusal` meets its contract. Assumes nothing.
 use borrow.Author.Needs.{needs}
+use mathlib.Core.Path.{_≡_}
+use Rattle.refusal.specs.Refuse.{refuse}
 use Rattle.refusal.proofs.Laws.{passed, failed}
-use Rattle.book_rules.specs.Calls.{supplyRefusal}
+use Rattle.book_rules.specs.{Calls.supplyRefusal, Columns.stands}
 use Rattle.book_rules.proofs.Accepted.{identity-in}
 use Rattle.book.proofs.refusals.supply_refusal.Statement.{statement}
 use Rattle.book.proofs.refusals.supply_refusal.Tie as tie
@@ -20,28 +22,21 @@ stands-at-requires c κs =
     let at-identity-fits : tie.After-identity-fits = search in
     (start .pre, identity-in _ (passed (at-identity-fits .identity-fits .ensures) (c .before .before .if1 .left)) .0)
 
-returns-3 : tie.Need-returns-3
+-- past the tests of identity and levels
+past : (c : tie.Else2) → let a = c .before .before .before .before .before .before .args in
+    supplyRefusal (a .points) (a .ids .now) (a .identity) (a .given .now)
+    ≡ refuse 5 (stands (a .identity) (a .ids .now)) 0
 unfolding supplyRefusal
-returns-3 c =
-    let at-levels-fit : tie.After-levels-fit = search in
+past c =
     simp (
-      passed (at-levels-fit .before .before .identity-fits .ensures) (at-levels-fit .before .if1 .left),
-      passed (at-levels-fit .levels-fit .ensures) (c .before .before .if2 .left),
-      failed (c .before .stands-at .ensures) (c .if3 .taken),
-    )
-
-returns-4 : tie.Need-returns-4
-unfolding supplyRefusal
-returns-4 c =
-    let at-levels-fit : tie.After-levels-fit = search in
-    simp (
-      passed (at-levels-fit .before .before .identity-fits .ensures) (at-levels-fit .before .if1 .left),
-      passed (at-levels-fit .levels-fit .ensures) (c .before .before .if2 .left),
-      passed (c .before .stands-at .ensures) (c .if3 .left),
+      passed (c .before .before .before .identity-fits .ensures) (c .before .before .if1 .left),
+      passed (c .before .levels-fit .ensures) (c .if2 .left),
     )
 
 pub supply-refusal-spec : {M : Type 1} → statement M
 supply-refusal-spec =
     tie.close (tie.spec (λ c κs. search needs)
     (λ c. unfold supplyRefusal in simp (failed (c .before .identity-fits .ensures) (c .if1 .taken)))
-    (λ c κs. search needs) returns-2 stands-at-requires returns-3 returns-4)
+    (λ c κs. search needs) returns-2 stands-at-requires
+    (λ c. rw (past (c .before .before), failed (c .before .stands-at .ensures) (c .if3 .taken)))
+    (λ c. rw (past (c .before .before), passed (c .before .stands-at .ensures) (c .if3 .left))))

@@ -1,5 +1,4 @@
 -- `book::rows::row_out` meets its contract. Assumes nothing.
-use mathlib.Core.Path.{refl}
 use borrow.Author.Needs.{needs}
 use Rattle.book_rules.specs.{Calls.rowOut, Columns.bookNow}
 use Rattle.book_rules.proofs.Rooms.{RoomOut, room-out}
@@ -11,19 +10,6 @@ room : (s : tie.Start)
     (s .args .at) (s .args .rows)
 room s = room-out _ _ _ _ (s .pre .0) (s .pre .1)
 
-returns : tie.Need-returns
-unfolding rowOut
-returns c =
-    let at-close-at : tie.After-close-at = search in
-    let at-close-at2 : tie.After-close-at2 = search in
-    let at-close-at3 : tie.After-close-at3 = search in
-    rw (
-      at-close-at .close-at .ensures,
-      at-close-at2 .close-at2 .ensures,
-      at-close-at3 .close-at3 .ensures,
-      c .before .before .close-at4 .ensures,
-    ) refl
-
 pub row-out-spec : {M : Type 1} → statement M
 row-out-spec =
     tie.close (tie.spec (λ c. search needs) (λ c. search needs)
@@ -33,4 +19,4 @@ row-out-spec =
     (λ c. let start : tie.Start = search in room start .at-fits)
     (λ c. let start : tie.Start = search in room start .count-fits)
     (λ c κs. let start : tie.Start = search in room start .levels) (λ c. search needs) (λ c. search needs)
-    (λ c. search needs) (λ c. search needs) returns)
+    (λ c. search needs) (λ c. search needs) (λ c. unfold rowOut in cc))

@@ -14,15 +14,6 @@ fill-rows-requires c κs = let s = c .before .before .before in (
   (first-along (s .args .nx) (s .args .ny), s .pre .1),
 )
 
-mul-fill-rows : tie.Need-mul-fill-rows
-mul-fill-rows c =
-    let s = c .before .before .before .before .before .before in
-    omega (
-      arith,
-      along-fits (s .args .nx) (s .args .ny) (s .pre .0 .sides .tall) (s .pre .0 .sides .narrow)
-          (s .pre .0 .sides .low) .1 .1,
-    )
-
 fill-rows-requires-2 : tie.Need-fill-rows-requires-2
 fill-rows-requires-2 c κs = let s = c .before .before .before .before .before .before .before in (
   s .pre .0,
@@ -39,5 +30,6 @@ returns c =
 pub fill-list-spec : {M : Type 1} → statement M
 fill-list-spec =
     tie.close (tie.spec fill-rows-requires
-    (λ c. omega (arith, c .before .before .before .before .before .before .pre .0 .sides .wide)) mul-fill-rows
+    (λ c. omega (arith, c .before .before .before .before .before .before .pre .0 .sides .wide))
+    (λ c. omega (arith, along-fits (c .before .before .before .before .before .before .pre .0 .sides) .1 .1))
     fill-rows-requires-2 (λ c. search needs) returns)

@@ -1,9 +1,9 @@
 -- `contour::start::enters_at` meets its contract. Assumes nothing.
 use borrow.Author.Needs.{needs}
-use mathlib.Core.Path.{_≡_, sym, subst, _∙_}
+use mathlib.Core.Path.{_≡_, sym, _∙_}
 use denote.Ref.{now}
 use Rattle.network.specs.Edges.{WithinEdge}
-use Rattle.network.proofs.Numbers.{edge-within}
+use Rattle.network.proofs.Numbers.{found-within}
 use Rattle.contour_rules.specs.{Picture.picture, Crossings.crossedAt}
 use Rattle.contour.proofs.start.enters_at.Statement.{statement}
 use Rattle.contour.proofs.start.enters_at.Tie as tie
@@ -11,10 +11,7 @@ use Rattle.contour.proofs.start.enters_at.Tie as tie
 -- the edge of the number is in the network
 within : (c : tie.After-edge-at)
     → WithinEdge (c .before .before .args .nx) (c .before .before .args .ny) (c .edge-at .result)
-within c =
-    let s = c .before .before in
-    subst (WithinEdge (s .args .nx) (s .args .ny)) (sym (c .edge-at .ensures))
-    (edge-within (s .args .nx) (s .args .ny) (s .pre .0 .sides .wide) (s .args .n) (s .pre .1))
+within c = let s = c .before .before in found-within _ _ (s .pre .0 .sides .wide) _ (s .pre .1) (c .edge-at .ensures)
 
 is-crossed : (c : tie.After-crossed-edge) → let a = c .before .before .before .args in
     c .crossed-edge .result ≡ crossedAt (picture (now (a .levels)) (a .nx) (a .ny) (a .v)) (a .n)

@@ -1,6 +1,5 @@
 -- `explain_text::amounts::group_amounts` meets its contract: V and U of a group are within the sums of all. Assumes
 -- nothing.
-use mathlib.Core.Path.{refl}
 use native.Mathlib.Omega.{arith}
 use Rattle.explain_text.specs.InnerNumbers.{groupIn}
 use Rattle.explain_text.proofs.Sums.{sum-within}
@@ -23,16 +22,7 @@ add-t5 c =
       s .pre .1 .most,
     )
 
-returns : tie.Need-returns
-unfolding groupIn
-returns c =
-    let v : tie.After-number-at = search in
-    let u : tie.After-number-at2 = search in
-    let e : tie.After-number-at3 = search in
-    let k : tie.After-number-at4 = search in
-    rw (v .number-at .ensures, u .number-at2 .ensures, e .number-at3 .ensures, k .number-at4 .ensures) refl
-
 pub group-amounts-spec : {M : Type 1} → statement M
 group-amounts-spec =
     tie.close (tie.spec (λ c κs. search needs) (λ c κs. search needs) add-t5 (λ c κs. search needs)
-    (λ c κs. search needs) returns)
+    (λ c κs. search needs) (λ c. unfold groupIn in cc))

@@ -4,7 +4,7 @@ use mathlib.Core.Path.{ap}
 use native.Mathlib.Omega.{arith}
 use Rattle.book_rules.specs.Columns.{Book, bookNow}
 use Rattle.report_text.specs.Text.{ended}
-use Rattle.report_text.proofs.Writes.{within-is}
+use Rattle.text.proofs.Within.{within-is}
 use Rattle.explain_text.proofs.Told.{answer-only, account-long, book-lines, book-adds-up}
 use borrow.Author.Needs.{needs}
 use Rattle.explain_text.proofs.core.put_answered.Statement.{statement}

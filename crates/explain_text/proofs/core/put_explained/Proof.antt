@@ -2,8 +2,8 @@
 -- Assumes nothing.
 use mathlib.Core.Path.{sym, _∙_}
 use Rattle.book_rules.specs.Columns.{Book, bookOf}
-use Rattle.report_text.proofs.Points.{refusal-is}
-use Rattle.explain_text.proofs.Points.{text-refused, text-points}
+use Rattle.report_text.proofs.Points.{text-refused, text-points, refusal-is}
+use Rattle.explain_text.specs.Text.{explainText}
 use borrow.Author.Needs.{needs}
 use Rattle.explain_text.proofs.core.put_explained.Statement.{statement}
 use Rattle.explain_text.proofs.core.put_explained.Tie as tie
@@ -12,6 +12,7 @@ abbrev book : tie.Start → Book
 book s = bookOf (s .args .ids .now) (s .args .groups .now) (s .args .marks .now) (s .args .levels .now)
 
 returns : tie.Need-returns
+unfolding explainText
 returns c =
     let s : tie.Start = search in
     let loaded : tie.After-load-at = search in
@@ -19,7 +20,7 @@ returns c =
     let put : tie.After-put-refused = search in
     let q = refusal-is (s .args .limits) (book s) (loaded .load-at .ensures) in
     record {
-      wrote = text-refused (s .args .limits) (book s) q (some .if1 .taken) (put .put-refused .ensures .wrote);
+      wrote = text-refused (s .args .limits) (book s) _ q (some .if1 .taken) (put .put-refused .ensures .wrote);
       refused = q;
     }
 
@@ -31,6 +32,7 @@ put-points-requires c κs =
     (s .pre, sym (refusal-is (s .args .limits) (book s) (loaded .load-at .ensures)) ∙ none .if1 .left)
 
 returns-2 : tie.Need-returns-2
+unfolding explainText
 returns-2 c =
     let s : tie.Start = search in
     let loaded : tie.After-load-at = search in

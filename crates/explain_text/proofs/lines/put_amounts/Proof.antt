@@ -1,7 +1,6 @@
 -- `explain_text::lines::put_amounts` meets its contract: two numbers, the factor, two numbers and the end of the
 -- line, each past the other. Assumes nothing.
-use native.Mathlib.Omega.{arith}
-use Rattle.report_text.proofs.Writes.{within-then}
+use Rattle.text.proofs.Within.{within-four}
 use Rattle.explain_text.specs.InnerRoom.{amountsText}
 use borrow.Author.Needs.{needs}
 use Rattle.explain_text.proofs.lines.put_amounts.Statement.{statement}
@@ -15,18 +14,8 @@ returns c =
     let factor : tie.After-put-factor = search in
     let second : tie.After-put-pair2 = search in
     let end : tie.After-put-end = search in
-    within-then (s .pre) (first .put-pair .ensures)
-    (within-then (omega (arith, s .pre, first .put-pair .ensures .within, first .put-pair .kept .0))
-    (factor .put-factor .ensures)
-    (within-then (omega (
-      arith,
-      s .pre,
-      first .put-pair .ensures .within,
-      first .put-pair .kept .0,
-      factor .put-factor .ensures .within,
-      factor .put-factor .kept .0,
-    ))
-    (second .put-pair2 .ensures) (end .put-end .ensures)))
+    within-four (s .pre) (first .put-pair .ensures) (factor .put-factor .ensures) (second .put-pair2 .ensures)
+    (end .put-end .ensures)
 
 pub put-amounts-spec : {M : Type 1} → statement M
 put-amounts-spec =

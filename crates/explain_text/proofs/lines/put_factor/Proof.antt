@@ -3,7 +3,7 @@
 use native.Mathlib.Omega.{arith}
 use borrow.Author.{Tests.eq-eqb, Tests.ne-eqb, Needs.needs}
 use Rattle.explain_text.specs.Text.{factorText}
-use Rattle.report_text.proofs.Writes.{number-most, within, within-then}
+use Rattle.text.proofs.Within.{within, within-three}
 use Rattle.explain_text.proofs.lines.put_factor.Statement.{statement}
 use Rattle.explain_text.proofs.lines.put_factor.Tie as tie
 
@@ -15,21 +15,6 @@ returns c =
     let first : tie.Then1 = search in
     rw (eq-eqb (s .args .lower) 0 (first .if1 .taken)) (within (omega arith) (byte .put-byte .ensures))
 
-put-number-requires : tie.Need-put-number-requires
-put-number-requires c κs =
-    let s : tie.Start = search in
-    let field : tie.After-put-field = search in
-    let byte : tie.After-put-byte2 = search in
-    omega (
-      arith,
-      number-most (s .args .lower) (s .fits .lower .fits),
-      field .put-field .ensures .within,
-      field .put-field .kept .0,
-      byte .put-byte2 .ensures .place,
-      byte .put-byte2 .kept .0,
-      s .pre,
-    )
-
 returns-2 : tie.Need-returns-2
 unfolding factorText
 returns-2 c =
@@ -37,14 +22,12 @@ returns-2 c =
     let first : tie.Else1 = search in
     let field : tie.After-put-field = search in
     let byte : tie.After-put-byte2 = search in
-    let number : tie.After-put-number = search in
+    let number : tie.After-put-any-number = search in
     rw (ne-eqb (s .args .lower) 0 (first .if1 .left))
-    (within-then (s .pre) (field .put-field .ensures)
-    (within-then (omega (arith, s .pre, field .put-field .ensures .within, field .put-field .kept .0))
-    (within {m = 1} (omega arith) (byte .put-byte2 .ensures))
-    (within (number-most (s .args .lower) (s .fits .lower .fits)) (number .put-number .ensures))))
+    (within-three (s .pre) (field .put-field .ensures) (within {m = 1} (omega arith) (byte .put-byte2 .ensures))
+    (number .put-any-number .ensures))
 
 pub put-factor-spec : {M : Type 1} → statement M
 put-factor-spec =
     tie.close (tie.spec (λ c κs. search needs) (λ c. search needs) returns (λ c κs. search needs)
-    (λ c κs. search needs) put-number-requires (λ c. search needs) returns-2)
+    (λ c κs. search needs) (λ c κs. search needs) (λ c. search needs) returns-2)

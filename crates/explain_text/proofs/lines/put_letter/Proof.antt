@@ -1,6 +1,6 @@
 -- `explain_text::lines::put_letter` meets its contract: a comma, and past it the letter. Assumes nothing.
 use native.Mathlib.Omega.{arith}
-use Rattle.report_text.proofs.Writes.{within, within-then}
+use Rattle.text.proofs.Within.{within, byte-then}
 use borrow.Author.Needs.{needs}
 use Rattle.explain_text.proofs.lines.put_letter.Statement.{statement}
 use Rattle.explain_text.proofs.lines.put_letter.Tie as tie
@@ -10,8 +10,7 @@ returns c =
     let s : tie.Start = search in
     let first : tie.After-put-byte = search in
     let second : tie.After-put-byte2 = search in
-    within-then (s .pre .1) (within {m = 1} (omega arith) (first .put-byte .ensures))
-    (within {m = 1} (omega arith) (second .put-byte2 .ensures))
+    byte-then (s .pre .1) (first .put-byte .ensures) (within {m = 1} (omega arith) (second .put-byte2 .ensures))
 
 pub put-letter-spec : {M : Type 1} → statement M
 put-letter-spec =

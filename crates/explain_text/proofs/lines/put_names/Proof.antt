@@ -1,6 +1,5 @@
 -- `explain_text::lines::put_names` meets its contract: two letters and a word, each past the other. Assumes nothing.
-use native.Mathlib.Omega.{arith}
-use Rattle.report_text.proofs.Writes.{within-then}
+use Rattle.text.proofs.Within.{within-three}
 use borrow.Author.Needs.{needs}
 use Rattle.explain_text.proofs.lines.put_names.Statement.{statement}
 use Rattle.explain_text.proofs.lines.put_names.Tie as tie
@@ -11,9 +10,7 @@ returns c =
     let first : tie.After-put-letter = search in
     let second : tie.After-put-letter2 = search in
     let third : tie.After-put-period = search in
-    within-then (s .pre .1) (first .put-letter .ensures)
-    (within-then (omega (arith, s .pre .1, first .put-letter .ensures .within, first .put-letter .kept .0))
-    (second .put-letter2 .ensures) (third .put-period .ensures))
+    within-three (s .pre .1) (first .put-letter .ensures) (second .put-letter2 .ensures) (third .put-period .ensures)
 
 pub put-names-spec : {M : Type 1} → statement M
 put-names-spec =

@@ -1,5 +1,5 @@
 -- `explain_text::lines::put_pair` meets its contract: two numbers, one past the other. Assumes nothing.
-use Rattle.report_text.proofs.Writes.{within-then}
+use Rattle.text.proofs.Within.{within-then}
 use borrow.Author.Needs.{needs}
 use Rattle.explain_text.proofs.lines.put_pair.Statement.{statement}
 use Rattle.explain_text.proofs.lines.put_pair.Tie as tie

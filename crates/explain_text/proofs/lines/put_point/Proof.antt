@@ -1,5 +1,5 @@
 -- `explain_text::lines::put_point` meets its contract: the groups, and past them all of them. Assumes nothing.
-use Rattle.report_text.proofs.Writes.{within-then, within-is}
+use Rattle.text.proofs.Within.{within-then, within-is}
 use Rattle.explain_text.specs.InnerNumbers.{groupIn, allIn}
 use Rattle.explain_text.proofs.Grouped.{point-is}
 use borrow.Author.Needs.{needs}

@@ -1,7 +1,7 @@
 -- `explain_text::lines::put_standing` meets its contract: the line of the group, or nothing. Assumes nothing.
 use native.Mathlib.Omega.{arith}
 use mathlib.Core.Path.{sym, _∙_}
-use Rattle.report_text.proofs.Writes.{within-none, within-more, within-is}
+use Rattle.text.proofs.Within.{within-none, within-more, within-is}
 use Rattle.explain_text.proofs.Grouped.{standing-is, none-is}
 use borrow.Author.Needs.{needs}
 use Rattle.explain_text.proofs.lines.put_standing.Statement.{statement}

@@ -6,37 +6,30 @@ use borrow.Author.Needs.{needs}
 use Rattle.grid.proofs.judge.value_refusal.Statement.{statement}
 use Rattle.grid.proofs.judge.value_refusal.Tie as tie
 
+-- the text is not that of no data
+other : (c : tie.Else1) → let a = c .before .before .before .before .args in
+    sameText (a .s .now) (a .nodata .now) ≡ false
+other c = sym (c .before .same-text .ensures) ∙ c .if1 .left
+
 returns-2 : tie.Need-returns-2
 returns-2 c =
-    let at-if1 = c .before .before .before .before .before in
-    let at-same-text = at-if1 .before in
-    let start = at-same-text .before .before .before in
-    let a = start .args in
-    let other : sameText (a .s .now) (a .nodata .now) ≡ false = sym (at-same-text .same-text .ensures)
-    ∙ at-if1 .if1 .left in
-    sym (level-here _ _ _ other (sym (c .before .before .before .before .level .ensures)
-    ∙ c .before .before .v .given .1) (c .if2 .taken))
+    let read = c .before .before .before .before in
+    sym (level-here _ _ _ (other (read .before)) (sym (read .level .ensures) ∙ c .before .before .v .given .1)
+    (c .if2 .taken))
 
 enum-told : tie.Need-enum-told
 enum-told c = search needs
 
 returns-3 : tie.Need-returns-3
 returns-3 c =
-    let at-if1 = c .before .before .before .before .before in
-    let at-same-text = at-if1 .before in
-    let start = at-same-text .before .before .before in
-    let a = start .args in
-    let other : sameText (a .s .now) (a .nodata .now) ≡ false = sym (at-same-text .same-text .ensures)
-    ∙ at-if1 .if1 .left in
-    sym (high-here _ _ _ other (sym (c .before .before .before .before .level .ensures)
-    ∙ c .before .before .v .given .1) (c .if2 .left))
+    let read = c .before .before .before .before in
+    sym (high-here _ _ _ (other (read .before)) (sym (read .level .ensures) ∙ c .before .before .v .given .1)
+    (c .if2 .left))
 
 returns-4 : tie.Need-returns-4
 returns-4 c =
-    let a = c .before .before .before .before .before .before .before .args in
-    let other : sameText (a .s .now) (a .nodata .now) ≡ false =
-    sym (c .before .before .before .before .same-text .ensures) ∙ c .before .before .before .if1 .left in
-    sym (neither-here _ _ other (sym (c .before .before .level .ensures) ∙ c .enum-told .given .1))
+    let read = c .before .before in
+    sym (neither-here _ _ (other (read .before)) (sym (read .level .ensures) ∙ c .enum-told .given .1))
 
 pub value-refusal-spec : {M : Type 1} → statement M
 value-refusal-spec =

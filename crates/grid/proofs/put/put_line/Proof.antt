@@ -4,6 +4,7 @@ use native.Mathlib.Omega.{arith}
 use lib.ListN.{length}
 use Rattle.text.specs.Number.{showWhole}
 use Rattle.room.proofs.Laws.{wrote-then}
+use Rattle.text.proofs.Within.{room-after}
 use Rattle.grid.specs.Write.{keyLine}
 use Rattle.grid.proofs.WriteSizes.{ended-length, key-length}
 use borrow.Author.Needs.{needs}
@@ -11,7 +12,7 @@ use Rattle.grid.proofs.put.put_line.Statement.{statement}
 use Rattle.grid.proofs.put.put_line.Tie as tie
 
 -- the room, part by part
-room : (c : tie.Start) → c .args .at + (length (c .args .key .now) + length (showWhole (c .args .n)) + 2) ≤
+room : (c : tie.Start) → c .args .at + (length (c .args .key .now) + (length (showWhole (c .args .n)) + 2)) ≤
     length (c .args .out .now)
 room c = omega (
   arith,
@@ -22,18 +23,16 @@ room c = omega (
 
 put-whole-requires : tie.Need-put-whole-requires
 put-whole-requires c κs =
-    let k = c .before .before .before .put-text in (
-      omega (arith, c .before .before .before .before .before .before .before .pre .0),
-      omega (arith, room (c .before .before .before .before .before .before .before), k .ensures .place, k .kept .0),
-    )
+    let text = c .before .before .before in
+    let s = text .before .before .before .before in
+    (omega (arith, s .pre .0), omega (arith, room-after _ (room s) (text .put-text .ensures)))
 
 put-end-requires : tie.Need-put-end-requires
 put-end-requires c κs =
-    let at-put-text = c .before .before .before .before .before .before .before in
-    let start = at-put-text .before .before .before .before in
-    let k = at-put-text .put-text in
-    let n = c .before .before .before .put-whole in
-    omega (arith, room start, k .ensures .place, k .kept .0, n .ensures .place, n .kept .0)
+    let whole = c .before .before .before in
+    let text = whole .before .before .before .before in
+    room-after _ (room-after _ (room (text .before .before .before .before)) (text .put-text .ensures))
+    (whole .put-whole .ensures)
 
 returns : tie.Need-returns
 returns c =
@@ -42,7 +41,7 @@ returns c =
     let a = at-put-text .before .before .before .before in
     let l = key-length (a .args .key .now) (a .args .n) in
     wrote-then (a .pre .1) (wrote-then (omega (arith, room a)) (at-put-text .put-text .ensures)
-    (at-put-whole .put-whole .ensures)) (c .before .before .put-end .ensures)
+    (at-put-whole .put-whole .ensures)) (c .before .before .put-end .ensures .wrote)
 
 pub put-line-spec : {M : Type 1} → statement M
 put-line-spec =

@@ -1,9 +1,8 @@
 -- `grid::put::put_place` meets its contract: three lines. Assumes nothing.
 use Prim.Native.Nat.{_+_, _≤_}
 use native.Mathlib.Omega.{arith}
-use lib.ListN.{length, length-append}
-use mathlib.Core.List.{_++_}
-use Rattle.room.proofs.Laws.{wrote-then}
+use lib.ListN.{length}
+use Rattle.text.proofs.Within.{room-after, wrote-three}
 use Rattle.grid.specs.{File.xllcenter, File.yllcenter, File.cellsize, Write.keyLine, InnerSteps.ended}
 use Rattle.grid.proofs.WriteSizes.{three-lines, three-length}
 use borrow.Author.Needs.{needs}
@@ -31,41 +30,26 @@ put-line-requires c κs = (
 
 put-line-requires-2 : tie.Need-put-line-requires-2
 put-line-requires-2 c κs =
-    let l = c .before .before .before .before .put-line in (
-      c .before .before .before .before .before .before .before .before .pre .0 .south-most,
-      omega (
-        arith,
-        room (c .before .before .before .before .before .before .before .before),
-        l .ensures .place,
-        l .kept .0,
-      ),
-    )
+    let first = c .before .before .before .before in
+    let s = first .before .before .before .before in
+    (s .pre .0 .south-most, omega (arith, room-after _ (room s) (first .put-line .ensures)))
 
 put-line-requires-3 : tie.Need-put-line-requires-3
 put-line-requires-3 c κs =
-    let at-put-line2 = c .before .before .before .before in
-    let at-put-line = at-put-line2 .before .before .before .before .before in
-    let start = at-put-line .before .before .before .before in
-    let l = at-put-line .put-line in
-    let m = at-put-line2 .put-line2 in (
-      start .pre .0 .spacing-most,
-      omega (arith, room start, l .ensures .place, l .kept .0, m .ensures .place, m .kept .0),
+    let second = c .before .before .before .before in
+    let first = second .before .before .before .before .before in
+    let s = first .before .before .before .before in (
+      s .pre .0 .spacing-most,
+      room-after _ (room-after _ (room s) (first .put-line .ensures)) (second .put-line2 .ensures),
     )
 
 returns : tie.Need-returns
 returns c =
-    let at-put-line2 = c .before .before .before .before .before .before .before in
-    let at-put-line = at-put-line2 .before .before .before .before .before in
-    let start = at-put-line .before .before .before .before in
-    let f = start .args .frame in
-    let x = ended (keyLine xllcenter (f .west)) in
-    let y = ended (keyLine yllcenter (f .south)) in
-    let z = ended (keyLine cellsize (f .spacing)) in
-    let l = at-put-line .put-line in
-    rw (three-lines (keyLine xllcenter (f .west)) (keyLine yllcenter (f .south)) (keyLine cellsize (f .spacing)))
-    (wrote-then (omega (arith, room start, length-append x (y ++ z), length-append y z)) (l .ensures)
-    (wrote-then (omega (arith, room start, length-append y z, l .ensures .place, l .kept .0))
-    (at-put-line2 .put-line2 .ensures) (c .before .before .put-line3 .ensures)))
+    let second = c .before .before .before .before .before .before .before in
+    let first = second .before .before .before .before .before in
+    rw three-lines
+    (wrote-three (room (first .before .before .before .before)) (first .put-line .ensures) (second .put-line2 .ensures)
+    (c .before .before .put-line3 .ensures))
 
 pub put-place-spec : {M : Type 1} → statement M
 put-place-spec =

@@ -22,7 +22,7 @@ returns : tie.Need-returns
 returns c =
     let at-put-values = c .before .before .before .before .before .before in
     let start = at-put-values .before .before .before .before in
-    wrote-then (start .pre .2) (at-put-values .put-values .ensures) (c .before .before .put-end .ensures)
+    wrote-then (start .pre .2) (at-put-values .put-values .ensures) (c .before .before .put-end .ensures .wrote)
 
 pub put-row-spec : {M : Type 1} → statement M
 put-row-spec = tie.close (tie.spec put-values-requires put-end-requires (λ c. search needs) returns)

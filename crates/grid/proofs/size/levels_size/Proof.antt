@@ -1,6 +1,6 @@
 -- `grid::size::levels_size` meets its contract. The invariant: what is added up, and what the rest adds. Assumes
 -- nothing.
-use Prim.Native.Nat.{_+_, _-_, _*_, _≤_}
+use Prim.Native.Nat.{_+_, _-_, _*_, _^_, _≤_, _<_}
 use mathlib.Core.Path.{_≡_}
 use native.Mathlib.Omega.{arith}
 use borrow.Author.Needs.{needs}
@@ -32,25 +32,11 @@ added c =
       rw (c .level-size .ensures) (sizes-more (a .levels .now) (l .i) (c .before .before .loop-test .taken)),
     )
 
-add-total : tie.Need-add-total Inv-loop μ-loop
-add-total c =
-    omega (
-      arith,
-      added c .0,
-      c .before .before .before .loop .inv .1,
-      c .before .before .before .loop .inv .2,
-      c .before .before .before .before .before .pre .0,
-    )
-
-add-total-2 : tie.Need-add-total-2 Inv-loop μ-loop
-add-total-2 c =
-    omega (
-      arith,
-      added c .0,
-      c .before .before .before .loop .inv .1,
-      c .before .before .before .loop .inv .2,
-      c .before .before .before .before .before .pre .0,
-    )
+-- what is added up stays small
+small : (c : tie.After-level-size Inv-loop μ-loop) → c .before .before .before .loop .total + 7 < 2 ^ 64
+small c =
+    let i = c .before .before .before .loop .inv in
+    omega (arith, i .1, i .2, c .before .before .before .before .before .pre .0)
 
 loop-again : tie.Need-loop-again Inv-loop μ-loop
 loop-again c =
@@ -70,6 +56,7 @@ returns c =
 pub levels-size-spec : {M : Type 1} → statement M
 levels-size-spec =
     tie.close (tie.spec Inv-loop μ-loop (λ c. (omega arith, omega arith, omega arith)) (λ c. search needs)
-    (λ c. search needs) (λ c κs. c .before .before .before .before .pre .1 (c .before .before .loop .i)) add-total
-    add-total-2 (λ c. omega (arith, c .before .before .loop-test .taken))
+    (λ c. search needs) (λ c κs. c .before .before .before .before .pre .1 (c .before .before .loop .i))
+    (λ c. omega (arith, added c .0, small c)) (λ c. omega (arith, added c .0, small c))
+    (λ c. omega (arith, c .before .before .loop-test .taken))
     (λ c. omega (arith, c .before .before .loop-test .taken)) loop-again returns)

@@ -5,8 +5,8 @@ use native.Mathlib.Omega.{arith}
 use borrow.Author.{Tests.lt-ltb, Tests.le-ltb, Needs.needs}
 use denote.Ref.{now}
 use Rattle.network.specs.declared.Edge.{Edge}
-use Rattle.network.specs.{Edges.edges, Edges.WithinEdge, Crossed.crossedEdge}
-use Rattle.network.proofs.Numbers.{edge-within}
+use Rattle.network.specs.{Edges.edges, Crossed.crossedEdge}
+use Rattle.network.proofs.Numbers.{found-within}
 use Rattle.mapping.proofs.edge.crossing_of.Statement.{statement}
 use Rattle.mapping.proofs.edge.crossing_of.Tie as tie
 
@@ -20,13 +20,11 @@ along-edge-requires : tie.Need-along-edge-requires
 along-edge-requires c κs =
     let s = start (c .before .before .before .before) in
     let a = s .args in
-    let e = sym (c .edge-at .ensures) in (
+    let e = c .edge-at .ensures in (
       s .pre .sized,
       (
-        subst (WithinEdge (a .frame .columns) (a .frame .rows)) e
-            (edge-within (a .frame .columns) (a .frame .rows) (s .pre .sized .sides .wide) (a .n)
-            (inside (c .before .before .before))),
-        subst (λ (e : Edge). crossedEdge (now (a .levels)) (a .frame .columns) (a .v) e ≡ true) e
+        found-within _ _ (s .pre .sized .sides .wide) _ (inside (c .before .before .before)) e,
+        subst (λ (e : Edge). crossedEdge (now (a .levels)) (a .frame .columns) (a .v) e ≡ true) (sym e)
             (sym (c .before .before .crossed-at .ensures) ∙ c .before .if2 .taken),
       ),
     )

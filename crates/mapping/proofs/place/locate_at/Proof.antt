@@ -1,10 +1,10 @@
 -- `mapping::place::locate_at` meets its contract. Assumes nothing.
-use mathlib.Core.Path.{sym, subst, _∙_}
+use mathlib.Core.Path.{_∙_}
 use Prim.Native.Nat.{_<_}
 use native.Mathlib.Omega.{arith}
 use borrow.Author.{Tests.le-ltb, Needs.needs}
-use Rattle.network.specs.{Limits.maxSide, Edges.edges, Edges.WithinEdge}
-use Rattle.network.proofs.Numbers.{edge-within}
+use Rattle.network.specs.{Limits.maxSide, Edges.edges}
+use Rattle.network.proofs.Numbers.{found-within}
 use Rattle.mapping.specs.Places.{rowOf, colOf}
 use Rattle.mapping.proofs.Ends.{ends-small}
 use Rattle.mapping.proofs.place.locate_at.Statement.{statement}
@@ -15,12 +15,11 @@ start c = c .before .before .before .before
 
 small : (c : tie.After-edge-at) → (rowOf (c .edge-at .result) < maxSide) × (colOf (c .edge-at .result) < maxSide)
 small c =
-    let s = start (c .before .before .before) in
-    let f = s .args .frame in
-    ends-small (c .edge-at .result) (s .pre .sized .sides)
-    (subst (WithinEdge (f .columns) (f .rows)) (sym (c .edge-at .ensures))
-    (edge-within (f .columns) (f .rows) (s .pre .sized .sides .wide) (s .args .n)
-    (omega (arith, c .before .before .if1 .taken, c .before .before .before .edge-count .ensures))))
+    let d = start (c .before .before .before) .pre .sized .sides in
+    ends-small (c .edge-at .result) d
+    (found-within _ _ (d .wide) _
+    (omega (arith, c .before .before .if1 .taken, c .before .before .before .edge-count .ensures))
+    (c .edge-at .ensures))
 
 locate-crossing-requires : tie.Need-locate-crossing-requires
 locate-crossing-requires c κs =

@@ -1,12 +1,13 @@
 -- `register::limits_csv::second_limits` meets its contract. Assumes nothing.
 use Prim.Native.Nat.{_+_, _-_, _≤_}
-use mathlib.Core.Path.{_≡_, ap, _∙_}
+use mathlib.Core.{Path._≡_, Path.ap, Path._∙_, Bool.cond}
 use native.Mathlib.Omega.{arith}
 use borrow.Author.{Tests.le-leb, Tests.lt-leb, Tests.not-true, Tests.not-false, Needs.needs}
-use lib.ListN.{length, take, drop, length-drop}
-use Rattle.text.specs.Line.{firstLine}
+use lib.{Dec.leb, ListN.length, ListN.take, ListN.drop, ListN.length-drop}
+use Rattle.text.specs.Line.{firstLine, linesOf}
 use Rattle.text.proofs.Lines.{line-take, line-length, lines-one}
-use Rattle.register.specs.{Cell.cellsOf, LimitsFile.secondLimits}
+use Rattle.register.specs.Cell.{cellsOf}
+use Rattle.register.specs.LimitsFile.{judgedLimits, refusedLimits, secondLimits}
 use Rattle.register.specs.declared.cell.Table.the-variants.{LimitsFile}
 use Rattle.register.proofs.limits_csv.second_limits.Statement.{statement}
 use Rattle.register.proofs.limits_csv.second_limits.Tie as tie
@@ -42,46 +43,45 @@ returns c =
       not-true (c .before .before .before .before .read-cells .result .read) (c .before .if1 .taken),
     )
 
-returns-2 : tie.Need-returns-2
-unfolding secondLimits
-returns-2 c =
-    let at-read-cells = c .before .before .before .before .before in
-    let at-line-end = at-read-cells .before .before in
-    let start = at-line-end .before .before in
-    let a = start .args in
+-- past the first test the bytes behind the line decide
+past : (c : tie.Else1) → let cells = c .before .before .before in
+    let a = cells .before .before .before .before .args in
     let t = drop (a .start) (a .s .now) in
+    secondLimits (a .points) (firstLine t) (1 + length (linesOf t))
+    ≡ cond (leb (length t) (length (firstLine t) + 2)) (judgedLimits (a .points) (cells .read-cells .result .values))
+    (refusedLimits 16 3)
+unfolding secondLimits
+past c = let cells = c .before .before .before in
+    let a = cells .before .before .before .before .args in
+    rw (
+      ← second cells,
+      not-false (cells .read-cells .result .read) (c .if1 .left),
+      lines-one (drop (a .start) (a .s .now)),
+    )
+
+returns-2 : tie.Need-returns-2
+returns-2 c =
+    let line = c .before .before .before .before .before .before .before in
+    let a = line .before .before .args in
+    let t = drop (a .start) (a .s .now) in
+    let long = length-drop (a .start) (a .s .now) in
     c .refused-limits2 .ensures
     ∙ rw (
-      ← second at-read-cells,
-      not-false (at-read-cells .read-cells .result .read)
-          (c .before .before .if1 .left),
-      lines-one t,
-      lt-leb (length t) (length (firstLine t) + 2)
-          (omega (arith, length-drop (a .start) (a .s .now), at-line-end .line-end .ensures, c .before .if2 .taken)),
+      past (c .before .before),
+      lt-leb (length t) (length (firstLine t) + 2) (omega (arith, line .line-end .ensures, c .before .if2 .taken)),
     )
 
 returns-3 : tie.Need-returns-3
-unfolding secondLimits
 returns-3 c =
-    let at-read-cells = c .before .before .before .before .before in
-    let at-line-end = at-read-cells .before .before in
-    let start = at-line-end .before .before in
-    let a = start .args in
+    let line = c .before .before .before .before .before .before .before in
+    let a = line .before .before .args in
     let t = drop (a .start) (a .s .now) in
+    let long = length-drop (a .start) (a .s .now) in
+    let inside = within line in
     c .judged-limits .ensures
     ∙ rw (
-      ← second at-read-cells,
-      not-false (at-read-cells .read-cells .result .read)
-          (c .before .before .if1 .left),
-      lines-one t,
-      le-leb (length t) (length (firstLine t) + 2)
-          (omega (
-            arith,
-            length-drop (a .start) (a .s .now),
-            at-line-end .line-end .ensures,
-            c .before .if2 .left,
-            within at-line-end,
-          )),
+      past (c .before .before),
+      le-leb (length t) (length (firstLine t) + 2) (omega (arith, line .line-end .ensures, c .before .if2 .left)),
     )
 
 pub second-limits-spec : {M : Type 1} → statement M

@@ -1,7 +1,8 @@
 -- `register::row::cells_layout` meets its contract: each test settles one of `cellsLayout`'s. Assumes nothing.
-use mathlib.Core.Path.{_∙_}
+use mathlib.Core.{Path._≡_, Path._∙_, Bool.cond}
+use lib.Dec.{eqb}
 use borrow.Author.{Tests.eq-eqb, Tests.ne-eqb, Tests.not-true, Tests.not-false, Needs.needs}
-use Rattle.register.specs.Row.{cellsLayout}
+use Rattle.register.specs.Row.{offLayout, rowLayout, cellsLayout}
 use Rattle.register.proofs.row.cells_layout.Statement.{statement}
 use Rattle.register.proofs.row.cells_layout.Tie as tie
 
@@ -20,31 +21,17 @@ returns-2 c =
           (c .before .if2 .taken),
     )
 
-returns-3 : tie.Need-returns-3
+-- past the first two tests the blanks decide
+past : (c : tie.Else2) → let a = c .before .before .before .before .args in
+    cellsLayout (a .points) (a .c) ≡ cond (eqb (a .c .blanks) (a .points)) (rowLayout (a .c .values) 0) offLayout
 unfolding cellsLayout
-returns-3 c =
-    c .row-layout2 .ensures ∙ rw (
-      not-false (c .before .before .before .before .before .before .args .c .read)
-          (c .before .before .before .if1 .left),
-      ne-eqb (c .before .before .before .before .before .before .args .c .blanks) 0
-          (c .before .before .if2 .left),
-      eq-eqb (c .before .before .before .before .before .before .args .c .blanks)
-          (c .before .before .before .before .before .before .args .points) (c .before .if3 .taken),
-    )
-
-returns-4 : tie.Need-returns-4
-unfolding cellsLayout
-returns-4 c =
-    c .off-layout2 .ensures ∙ rw (
-      not-false (c .before .before .before .before .before .before .args .c .read)
-          (c .before .before .before .if1 .left),
-      ne-eqb (c .before .before .before .before .before .before .args .c .blanks) 0
-          (c .before .before .if2 .left),
-      ne-eqb (c .before .before .before .before .before .before .args .c .blanks)
-          (c .before .before .before .before .before .before .args .points) (c .before .if3 .left),
-    )
+past c =
+    let a = c .before .before .before .before .args in
+    rw (not-false (a .c .read) (c .before .if1 .left), ne-eqb (a .c .blanks) 0 (c .if2 .left))
 
 pub cells-layout-spec : {M : Type 1} → statement M
 cells-layout-spec =
     tie.close (tie.spec (λ c κs. search needs) returns (λ c κs. search needs) returns-2 (λ c κs. search needs)
-    returns-3 (λ c κs. search needs) returns-4)
+    (λ c. c .row-layout2 .ensures ∙ rw (past (c .before .before), eq-eqb _ _ (c .before .if3 .taken)))
+    (λ c κs. search needs)
+    (λ c. c .off-layout2 .ensures ∙ rw (past (c .before .before), ne-eqb _ _ (c .before .if3 .left))))

@@ -1,4 +1,6 @@
 -- `register::row::fault` meets its contract: each test settles one of `faultOf`'s. Assumes nothing.
+use mathlib.Core.Path.{_≡_}
+use Rattle.refusal.specs.Refuse.{refuse}
 use Rattle.refusal.proofs.Laws.{passed, failed}
 use Rattle.register.specs.Row.{faultOf}
 use borrow.Author.Needs.{needs}
@@ -13,26 +15,19 @@ returns-2 c =
       failed (c .before .identity-fits .ensures) (c .if2 .taken),
     )
 
-returns-3 : tie.Need-returns-3
+-- past the tests of fields and identity
+past : (c : tie.Else2) → let a = c .before .before .before .before .args in
+    faultOf (a .f) (a .fits) ≡ refuse 7 (a .fits) 0
 unfolding faultOf
-returns-3 c =
+past c =
     rw (
-      passed (c .before .before .before .before .fields-fit .ensures) (c .before .before .before .if1 .left),
-      passed (c .before .before .identity-fits .ensures) (c .before .if2 .left),
-      c .if3 .taken,
-    )
-
-returns-4 : tie.Need-returns-4
-unfolding faultOf
-returns-4 c =
-    rw (
-      passed (c .before .before .before .before .fields-fit .ensures) (c .before .before .before .if1 .left),
-      passed (c .before .before .identity-fits .ensures) (c .before .if2 .left),
-      c .if3 .left,
+      passed (c .before .before .before .fields-fit .ensures) (c .before .before .if1 .left),
+      passed (c .before .identity-fits .ensures) (c .if2 .left),
     )
 
 pub fault-spec : {M : Type 1} → statement M
 fault-spec =
     tie.close (tie.spec (λ c κs. search needs)
     (λ c. unfold faultOf in rw (failed (c .before .fields-fit .ensures) (c .if1 .taken))) (λ c κs. search needs)
-    returns-2 returns-3 returns-4)
+    returns-2
+    (λ c. rw (past (c .before), c .if3 .taken)) (λ c. rw (past (c .before), c .if3 .left)))

@@ -1,6 +1,5 @@
 -- `report_text::core::put_judged` meets its contract: level, limit and verdict, each past the other. Assumes nothing.
-use native.Mathlib.Omega.{arith}
-use Rattle.report_text.proofs.Writes.{within-then}
+use Rattle.text.proofs.Within.{within-three}
 use borrow.Author.Needs.{needs}
 use Rattle.report_text.proofs.core.put_judged.Statement.{statement}
 use Rattle.report_text.proofs.core.put_judged.Tie as tie
@@ -12,10 +11,8 @@ returns c =
     let limit = judge .before .before .before .before in
     let rounded = limit .before .before .before .before in
     let s = rounded .before .before .before in
-    within-then (s .pre .2) (rounded .put-rounded .ensures)
-    (within-then (omega (arith, s .pre .2, rounded .put-rounded .ensures .within, rounded .put-rounded .kept .0))
-    (limit .put-limit .ensures)
-    (rw (judge .judge .ensures) at (verdict .put-verdict .ensures)))
+    within-three (s .pre .2) (rounded .put-rounded .ensures) (limit .put-limit .ensures)
+    (rw (judge .judge .ensures) at (verdict .put-verdict .ensures))
 
 pub put-judged-spec : {M : Type 1} → statement M
 put-judged-spec =

@@ -1,7 +1,8 @@
 -- `report_text::core::put_refused` meets its contract: a word, two numbers and the end of the line, each past the
 -- other. Assumes nothing.
 use native.Mathlib.Omega.{arith}
-use Rattle.report_text.proofs.{Writes.within, Writes.within-then, Writes.within-is, Lines.refused-is}
+use Rattle.text.proofs.Within.{within, within-four, within-is}
+use Rattle.report_text.proofs.Lines.{refused-is}
 use borrow.Author.Needs.{needs}
 use Rattle.report_text.proofs.core.put_refused.Statement.{statement}
 use Rattle.report_text.proofs.core.put_refused.Tie as tie
@@ -14,16 +15,9 @@ returns c =
     let word = first .before .before .before .before in
     let s = word .before .before .before .before in
     let room = s .pre in
-    within-is (within-then (omega arith) (within {m = 7} (omega arith) (word .put-text .ensures))
-    (within-then (omega (arith, word .put-text .ensures .place, word .put-text .kept .0)) (first .put-field .ensures)
-    (within-then (omega (
-      arith,
-      word .put-text .ensures .place,
-      word .put-text .kept .0,
-      first .put-field .ensures .within,
-      first .put-field .kept .0,
-    ))
-    (second .put-field2 .ensures) (end .put-end .ensures))))
+    within-is
+    (within-four (omega arith) (within {m = 7} (omega arith) (word .put-text .ensures)) (first .put-field .ensures)
+    (second .put-field2 .ensures) (end .put-end .ensures))
     (refused-is (s .args .number) (s .args .line))
 
 pub put-refused-spec : {M : Type 1} → statement M

@@ -1,7 +1,8 @@
 -- `report_text::core::put_report` meets its contract: the one line of rule 10, or the header and the points. Assumes
 -- nothing.
 use Rattle.book_rules.specs.Columns.{Book, bookOf}
-use Rattle.report_text.proofs.Points.{report-refused, report-points, refusal-is}
+use Rattle.report_text.specs.Text.{bookText}
+use Rattle.report_text.proofs.Points.{text-refused, text-points, refusal-is}
 use borrow.Author.Needs.{needs}
 use Rattle.report_text.proofs.core.put_report.Statement.{statement}
 use Rattle.report_text.proofs.core.put_report.Tie as tie
@@ -14,25 +15,27 @@ abbrev book : tie.Start → Book
 book s = bookOf (s .args .ids .now) (s .args .groups .now) (s .args .marks .now) (s .args .levels .now)
 
 returns : tie.Need-returns
+unfolding bookText
 returns c =
     let size = c .before .before in
     let loaded = size .before .before .before in
     let s = start loaded in
     let q = refusal-is (s .args .limits) (book s) (loaded .load-at .ensures) in
     record {
-      wrote = report-refused (s .args .limits) (book s) q (size .before .before .if1 .taken)
+      wrote = text-refused (s .args .limits) (book s) _ q (size .before .before .if1 .taken)
           (size .put-refused .ensures .wrote);
       refused = q;
     }
 
 returns-2 : tie.Need-returns-2
+unfolding bookText
 returns-2 c =
     let size = c .before .before in
     let loaded = size .before .before .before in
     let s = start loaded in
     let q = refusal-is (s .args .limits) (book s) (loaded .load-at .ensures) in
     record {
-      wrote = report-points (s .args .limits) (book s) q (size .before .before .if1 .left)
+      wrote = text-points (s .args .limits) (book s) q (size .before .before .if1 .left)
           (size .put-points .ensures);
       refused = q;
     }

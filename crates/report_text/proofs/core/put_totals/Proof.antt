@@ -1,7 +1,6 @@
 -- `report_text::core::put_totals` meets its contract: two numbers and the end of the line, each past the other.
 -- Assumes nothing.
-use native.Mathlib.Omega.{arith}
-use Rattle.report_text.proofs.Writes.{within-then}
+use Rattle.text.proofs.Within.{within-three}
 use borrow.Author.Needs.{needs}
 use Rattle.report_text.proofs.core.put_totals.Statement.{statement}
 use Rattle.report_text.proofs.core.put_totals.Tie as tie
@@ -13,9 +12,8 @@ returns c =
     let computed = missing .before .before .before .before in
     let sums = computed .before .before in
     let s = sums .before .before in
-    within-then (s .pre) (rw (sums .added-up .ensures .0) at (computed .put-field .ensures))
-    (within-then (omega (arith, s .pre, computed .put-field .ensures .within, computed .put-field .kept .0))
-    (rw (sums .added-up .ensures .1) at (missing .put-field2 .ensures)) (end .put-end .ensures))
+    within-three (s .pre) (rw (sums .added-up .ensures .0) at (computed .put-field .ensures))
+    (rw (sums .added-up .ensures .1) at (missing .put-field2 .ensures)) (end .put-end .ensures)
 
 pub put-totals-spec : {M : Type 1} → statement M
 put-totals-spec =

@@ -26,64 +26,36 @@ put-number-at t = and 1 put-number-kinds.ps (is 1 put-number-kinds.ps μ-put-num
 abbrev put-number-below : ℕ → In 1 put-number-kinds.ps
 put-number-below t = and 1 put-number-kinds.ps (falls 1 put-number-kinds.ps _<_ μ-put-number t) put-number.Pre
 
-put-number-cast-digit : (t : ℕ) → put-number-lts.Need-cast-digit (
-  put-byte-reads.Asked,
-  put-byte-reads.Learnt,
-  put-number-below t,
-  put-number.Post,
-) (put-number-at t) put-number.Post
+-- what is known of the calls, its own among them
+abbrev claims : ℕ → put-number-lts.Claims
+claims t = (put-byte-reads.Asked, put-byte-reads.Learnt, put-number-below t, put-number.Post)
+
+put-number-cast-digit : (t : ℕ) → put-number-lts.Need-cast-digit (claims t) (put-number-at t) put-number.Post
 put-number-cast-digit t c = omega arith
 
-put-number-add-digit : (t : ℕ) → put-number-lts.Need-add-digit (
-  put-byte-reads.Asked,
-  put-byte-reads.Learnt,
-  put-number-below t,
-  put-number.Post,
-) (put-number-at t) put-number.Post
+put-number-add-digit : (t : ℕ) → put-number-lts.Need-add-digit (claims t) (put-number-at t) put-number.Post
 put-number-add-digit t c = omega arith
 
-put-number-put-byte-requires : (t : ℕ) → put-number-lts.Need-put-byte-requires (
-  put-byte-reads.Asked,
-  put-byte-reads.Learnt,
-  put-number-below t,
-  put-number.Post,
-) (put-number-at t) put-number.Post
+put-number-put-byte-requires : (t : ℕ) → put-number-lts.Need-put-byte-requires
+    (claims t) (put-number-at t) put-number.Post
 put-number-put-byte-requires t c κs = let a = c .before .before .before .args in
     omega (arith, ap length (shown-last 19 (a .n) (c .before .if1 .taken)), c .before .before .before .pre)
 
-put-number-same-length : (t : ℕ) → put-number-lts.Need-same-length (
-  put-byte-reads.Asked,
-  put-byte-reads.Learnt,
-  put-number-below t,
-  put-number.Post,
-) (put-number-at t) put-number.Post
+put-number-same-length : (t : ℕ) → put-number-lts.Need-same-length (claims t) (put-number-at t) put-number.Post
 put-number-same-length t c = c .before .before .put-byte .kept .0
 
-put-number-returns : (t : ℕ) → put-number-lts.Need-returns (
-  put-byte-reads.Asked,
-  put-byte-reads.Learnt,
-  put-number-below t,
-  put-number.Post,
-) (put-number-at t) put-number.Post
+put-number-returns : (t : ℕ) → put-number-lts.Need-returns (claims t) (put-number-at t) put-number.Post
 put-number-returns t c = rw (shown-last 19 (c .before .before .before .before .before .before .args .n)
     (c .before .before .before .before .if1 .taken)) (c .before .before .put-byte .ensures)
 
-put-number-put-number-requires : (t : ℕ) → put-number-lts.Need-put-number-requires (
-  put-byte-reads.Asked,
-  put-byte-reads.Learnt,
-  put-number-below t,
-  put-number.Post,
-) (put-number-at t) put-number.Post
+put-number-put-number-requires : (t : ℕ) → put-number-lts.Need-put-number-requires
+    (claims t) (put-number-at t) put-number.Post
 put-number-put-number-requires t c κs = let a = c .before .before .before .args in
     let l = shown-longer 18 (a .n) (c .before .if1 .left) (small (a .n) (omega arith)) in
     (omega arith, omega (arith, c .before .before .before .pre))
 
-put-number-put-byte-requires-2 : (t : ℕ) → put-number-lts.Need-put-byte-requires-2 (
-  put-byte-reads.Asked,
-  put-byte-reads.Learnt,
-  put-number-below t,
-  put-number.Post,
-) (put-number-at t) put-number.Post
+put-number-put-byte-requires-2 : (t : ℕ) → put-number-lts.Need-put-byte-requires-2
+    (claims t) (put-number-at t) put-number.Post
 put-number-put-byte-requires-2 t c κs = let a = c .before .before .before .before .before .before .before .args in
     let l = shown-longer 18 (a .n) (c .before .before .before .before .before .if1 .left)
     (small (a .n) (omega arith)) in
@@ -94,21 +66,11 @@ put-number-put-byte-requires-2 t c κs = let a = c .before .before .before .befo
       c .before .before .before .put-number .kept .0,
     )
 
-put-number-same-length-2 : (t : ℕ) → put-number-lts.Need-same-length-2 (
-  put-byte-reads.Asked,
-  put-byte-reads.Learnt,
-  put-number-below t,
-  put-number.Post,
-) (put-number-at t) put-number.Post
+put-number-same-length-2 : (t : ℕ) → put-number-lts.Need-same-length-2 (claims t) (put-number-at t) put-number.Post
 put-number-same-length-2 t c = c .before .before .put-byte2 .kept .0
     ∙ c .before .before .before .before .before .before .put-number .kept .0
 
-put-number-returns-2 : (t : ℕ) → put-number-lts.Need-returns-2 (
-  put-byte-reads.Asked,
-  put-byte-reads.Learnt,
-  put-number-below t,
-  put-number.Post,
-) (put-number-at t) put-number.Post
+put-number-returns-2 : (t : ℕ) → put-number-lts.Need-returns-2 (claims t) (put-number-at t) put-number.Post
 put-number-returns-2 t c =
     let at-put-number = c .before .before .before .before .before .before in
     let at-if1 = at-put-number .before .before in
@@ -119,14 +81,7 @@ put-number-returns-2 t c =
     rw m (wrote-then (rw m at p) (at-put-number .put-number .ensures) (c .before .before .put-byte2 .ensures))
 
 pub +put-number-spec : {M : Type 1} → statement M
-+put-number-spec = close μ-put-number λ t. put-number-lts.spec (
-  put-byte-reads.Asked,
-  put-byte-reads.Learnt,
-  put-number-below t,
-  put-number.Post,
-)
-    (put-number-at t)
-    put-number.Post
++put-number-spec = close μ-put-number λ t. put-number-lts.spec (claims t) (put-number-at t) put-number.Post
     (put-number-cast-digit t)
     (put-number-add-digit t)
     (put-number-put-byte-requires t)

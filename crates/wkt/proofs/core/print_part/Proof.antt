@@ -1,16 +1,15 @@
 -- `wkt::core::print_part` meets its contract. Assumes nothing.
-use mathlib.Core.{Path._≡_, Path.sym, Path.ap, Path.subst, Path._∙_, Logic.inl, Logic.inr, List.List}
+use mathlib.Core.{Path.sym, Path.ap, Path.subst, Logic.inl, Logic.inr, List.List}
 use Prim.Native.Nat.{ℕ, _+_, _≤_}
 use native.Mathlib.Omega.{arith}
 use lib.{ListN.length, Seq.length-take-le}
 use denote.Ref.{now}
 use borrow.Author.Needs.{needs}
 use Rattle.room.specs.Room.{Wrote}
-use Rattle.room.proofs.Laws.{length-wrote, wrote-front, wrote-fits}
-use Rattle.wkt.specs.declared.Cursor.{Cursor}
+use Rattle.room.proofs.Laws.{wrote-front, wrote-fits}
 use Rattle.wkt.specs.InnerParts.{pieceOf}
-use Rattle.wkt.proofs.{Lengths.piece-short, Steps.ahead, Steps.Goes, Steps.goes}
-use Rattle.wkt.proofs.Rooms.{Come, come-none, come-more}
+use Rattle.wkt.proofs.{Steps.ahead, Stepped.Stepped, Stepped.stepped}
+use Rattle.wkt.proofs.Rooms.{Come, come-none, come-more, come-stops}
 use Rattle.wkt.proofs.core.print_part.Statement.{statement}
 use Rattle.wkt.proofs.core.print_part.Tie as tie
 
@@ -21,37 +20,18 @@ Inv-loop levels frame v edges counts closed room₀ piece₀ at₀ size₀ room 
 abbrev μ-loop : tie.MeasureT-loop
 μ-loop levels frame v edges counts closed room₀ piece₀ at₀ size₀ room piece at size = ahead edges counts at
 
--- what the step did: the piece in front of its buffer, and the cursor moved on
-stepped : (c : tie.After-put-step Inv-loop μ-loop)
+-- what the step did
+step : (c : tie.After-put-step Inv-loop μ-loop)
     → let at-loop = c .before .before .before .before in
     let a = at-loop .before .before .before .before .before .before .args in
-    Goes (now (a .levels)) (a .frame) (a .v) (now (a .edges)) (now (a .counts)) (now (a .closed))
-    (at-loop .loop .at) (c .put-step .result .next)
-    (pieceOf (now (a .levels)) (a .frame) (a .v) (now (a .edges)) (now (a .counts)) (now (a .closed))
-    (at-loop .loop .at))
-stepped c =
+    Stepped (now (a .levels)) (a .frame) (a .v) (now (a .edges)) (now (a .counts)) (now (a .closed))
+    (at-loop .loop .at) (c .put-step .result .next) (c .put-step .result .size)
+    (c .put-step .last .1 .1 .1 .1 .1 .1 .1 .0)
+step c =
     let at-loop = c .before .before .before .before in
-    let s = at-loop .before .before .before .before .before .before in
-    let a = s .args in
-    let l = at-loop .loop in
-    subst (λ (n : Cursor). Goes (now (a .levels)) (a .frame) (a .v) (now (a .edges)) (now (a .counts))
-    (now (a .closed))
-    (l .at) n (pieceOf (now (a .levels)) (a .frame) (a .v) (now (a .edges)) (now (a .counts)) (now (a .closed))
-    (l .at))) (sym (c .put-step .ensures .0)) (goes (now (a .levels)) (a .frame) (a .v) (now (a .edges))
-    (now (a .counts)) (now (a .closed)) (s .pre .0) (l .at) (l .inv .reached) (c .before .before .if1 .taken))
-
-whole : (c : tie.After-put-step Inv-loop μ-loop) → length (c .put-step .last .1 .1 .1 .1 .1 .1 .1 .0) ≡ 64
-whole c =
-    let at-loop = c .before .before .before .before in
-    let start = at-loop .before .before .before .before .before .before in
-    let a = start .args in
-    let l = at-loop .loop in
-    length-wrote (omega (
-      arith,
-      l .inv .whole,
-      piece-short (now (a .levels)) (a .frame) (a .v) (now (a .edges))
-          (now (a .counts)) (now (a .closed)) (l .at),
-    )) (c .put-step .ensures .1) ∙ l .inv .whole
+    let i = at-loop .loop .inv in
+    stepped (at-loop .before .before .before .before .before .before .pre .0) (i .reached)
+    (c .before .before .if1 .taken) (i .whole) (c .put-step .ensures)
 
 loop-holds : tie.Need-loop-holds Inv-loop μ-loop
 loop-holds c =
@@ -76,18 +56,7 @@ sub-if2 c = omega (
 returns : tie.Need-returns Inv-loop μ-loop
 returns c =
     let i = c .before .before .before .before .before .before .loop .inv in
-    record {
-      steps = i .steps;
-      there = i .there;
-      bytes = i .bytes;
-      fits = i .fits;
-      long = i .long;
-      kept = i .kept;
-      stopped = inr (omega (arith, c .if2 .taken, c .before .before .put-step .ensures .1 .place, i .long, i .fits));
-      not-before = i .not-before;
-      reached = i .reached;
-      joined = i .joined;
-    }
+    come-stops i (inr (omega (arith, c .if2 .taken, c .before .before .put-step .ensures .1 .place, i .long, i .fits)))
 
 put-text-requires : tie.Need-put-text-requires Inv-loop μ-loop
 put-text-requires c κs =
@@ -116,28 +85,12 @@ loop-again c =
     (p .last .0) (p .result)
     (t .ensures .0) (at-if1 .if1 .taken) fits (subst (λ (t : List ℕ). Wrote (l .room) (l .size) t (p .last .0)
     (p .result)) (wrote-front w) (p .ensures))
-    (stepped at-put-step .text) (stepped at-put-step .reached) (whole at-put-step)
-
-returns-2 : tie.Need-returns-2 Inv-loop μ-loop
-returns-2 c =
-    let i = c .before .before .loop .inv in
-    record {
-      steps = i .steps;
-      there = i .there;
-      bytes = i .bytes;
-      fits = i .fits;
-      long = i .long;
-      kept = i .kept;
-      stopped = inl (c .if1 .left);
-      not-before = i .not-before;
-      reached = i .reached;
-      joined = i .joined;
-    }
+    (step at-put-step .went .text) (step at-put-step .went .reached) (step at-put-step .whole)
 
 pub print-part-spec : {M : Type 1} → statement M
 print-part-spec =
     tie.close (tie.spec Inv-loop μ-loop loop-holds (λ c. search needs) put-step-requires sub-if2 (λ c. search needs)
     returns (λ c. wrote-fits (c .before .before .before .put-step .ensures .1))
     (λ c. sym (length-take-le _ _ (wrote-fits (c .before .before .before .before .put-step .ensures .1))))
-    put-text-requires (λ c. stepped (c .before .before .before .before .before .before .before .before) .nearer)
-    loop-again (λ c. search needs) returns-2)
+    put-text-requires (λ c. step (c .before .before .before .before .before .before .before .before) .went .nearer)
+    loop-again (λ c. search needs) (λ c. come-stops (c .before .before .loop .inv) (inl (c .if1 .left))))

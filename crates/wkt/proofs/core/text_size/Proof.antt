@@ -1,18 +1,16 @@
 -- `wkt::core::text_size` meets its contract. Assumes nothing.
-use mathlib.Core.Path.{_≡_, refl, sym, ap, subst, _∙_}
+use mathlib.Core.Path.{_≡_, refl, ap, _∙_}
 use Prim.Native.Nat.{_+_, _*_, _≤_}
 use native.Mathlib.Omega.{arith}
 use lib.ListN.{length, length-append}
 use denote.Ref.{now}
 use borrow.Author.Needs.{needs}
-use Rattle.room.proofs.Laws.{length-wrote}
 use Rattle.network.specs.Limits.{maxEdges}
 use Rattle.network.proofs.Numbers.{edges-le}
-use Rattle.wkt.specs.declared.Cursor.{Cursor}
 use Rattle.wkt.specs.Text.{textOf}
 use Rattle.wkt.specs.InnerParts.{Reached, linesFrom, leftOf, pieceOf}
-use Rattle.wkt.proofs.Lengths.{piece-short}
-use Rattle.wkt.proofs.Steps.{ahead, Goes, goes, left-first, left-end, reached-first, count-total}
+use Rattle.wkt.proofs.Steps.{ahead, left-first, left-end, reached-first, count-total}
+use Rattle.wkt.proofs.Stepped.{Stepped, stepped}
 use Rattle.wkt.proofs.core.text_size.Statement.{statement}
 use Rattle.wkt.proofs.core.text_size.Tie as tie
 
@@ -26,49 +24,18 @@ Inv-loop levels frame v edges counts closed piece₀ at₀ size₀ piece at size
 abbrev μ-loop : tie.MeasureT-loop
 μ-loop levels frame v edges counts closed piece₀ at₀ size₀ piece at size = ahead edges counts at
 
-stepped : (c : tie.After-put-step Inv-loop μ-loop)
+-- what the step did
+step : (c : tie.After-put-step Inv-loop μ-loop)
     → let at-loop = c .before .before .before .before in
     let a = at-loop .before .before .before .before .before .before .args in
-    Goes (now (a .levels)) (a .frame) (a .v) (now (a .edges)) (now (a .counts)) (now (a .closed))
-    (at-loop .loop .at) (c .put-step .result .next)
-    (pieceOf (now (a .levels)) (a .frame) (a .v) (now (a .edges)) (now (a .counts)) (now (a .closed))
-    (at-loop .loop .at))
-stepped c =
+    Stepped (now (a .levels)) (a .frame) (a .v) (now (a .edges)) (now (a .counts)) (now (a .closed))
+    (at-loop .loop .at) (c .put-step .result .next) (c .put-step .result .size)
+    (c .put-step .last .1 .1 .1 .1 .1 .1 .1 .0)
+step c =
     let at-loop = c .before .before .before .before in
-    let s = at-loop .before .before .before .before .before .before in
-    let a = s .args in
-    let l = at-loop .loop in
-    subst (λ (n : Cursor). Goes (now (a .levels)) (a .frame) (a .v) (now (a .edges)) (now (a .counts))
-    (now (a .closed))
-    (l .at) n (pieceOf (now (a .levels)) (a .frame) (a .v) (now (a .edges)) (now (a .counts)) (now (a .closed))
-    (l .at))) (sym (c .put-step .ensures .0)) (goes (now (a .levels)) (a .frame) (a .v) (now (a .edges))
-    (now (a .counts)) (now (a .closed)) (s .pre) (l .at) (l .inv .1 .0) (c .before .before .if1 .taken))
-
--- a piece is short
-short : (c : tie.After-put-step Inv-loop μ-loop) → c .put-step .result .size ≤ 64
-short c =
-    let at-loop = c .before .before .before .before in
-    let start = at-loop .before .before .before .before .before .before in
-    let a = start .args in
-    omega (
-      arith,
-      c .put-step .ensures .1 .place,
-      piece-short (now (a .levels)) (a .frame) (a .v) (now (a .edges))
-          (now (a .counts)) (now (a .closed)) (at-loop .loop .at),
-    )
-
-whole : (c : tie.After-put-step Inv-loop μ-loop) → length (c .put-step .last .1 .1 .1 .1 .1 .1 .1 .0) ≡ 64
-whole c =
-    let at-loop = c .before .before .before .before in
-    let start = at-loop .before .before .before .before .before .before in
-    let a = start .args in
-    let l = at-loop .loop in
-    length-wrote (omega (
-      arith,
-      l .inv .0,
-      piece-short (now (a .levels)) (a .frame) (a .v) (now (a .edges))
-          (now (a .counts)) (now (a .closed)) (l .at),
-    )) (c .put-step .ensures .1) ∙ l .inv .0
+    let i = at-loop .loop .inv in
+    stepped (at-loop .before .before .before .before .before .before .pre) (i .1 .0) (c .before .before .if1 .taken)
+    (i .0) (c .put-step .ensures)
 
 -- few edges and lines are listed
 few : (s : tie.Start Inv-loop μ-loop) → (length (now (s .args .edges)) ≤ maxEdges)
@@ -114,7 +81,7 @@ add-size : tie.Need-add-size Inv-loop μ-loop
 add-size c =
     let at-loop = c .before .before .before .before .before .before in
     let start = at-loop .before .before .before .before .before .before in
-    omega (arith, at-loop .loop .inv .1 .1 .1, short (c .before .before), few start .0, few start .1)
+    omega (arith, at-loop .loop .inv .1 .1 .1, step (c .before .before) .short, few start .0, few start .1)
 
 loop-again : tie.Need-loop-again Inv-loop μ-loop
 loop-again c =
@@ -123,22 +90,22 @@ loop-again c =
     let start = at-loop .before .before .before .before .before .before in
     let a = start .args in
     let i = at-loop .loop .inv in
-    let g = stepped at-put-step in
+    let g = step at-put-step in
     let n = at-put-step .put-step .result .next in
     let e : length (leftOf (now (a .levels)) (a .frame) (a .v) (now (a .edges)) (now (a .counts)) (now (a .closed))
     (at-loop .loop .at)) ≡ length (pieceOf (now (a .levels)) (a .frame) (a .v) (now (a .edges)) (now (a .counts))
     (now (a .closed)) (at-loop .loop .at)) + length (leftOf (now (a .levels)) (a .frame) (a .v) (now (a .edges))
     (now (a .counts)) (now (a .closed)) n) =
-    ap length (g .text) ∙ length-append
+    ap length (g .went .text) ∙ length-append
     (pieceOf (now (a .levels)) (a .frame) (a .v) (now (a .edges)) (now (a .counts))
     (now (a .closed)) (at-loop .loop .at)) (leftOf (now (a .levels)) (a .frame) (a .v) (now (a .edges))
     (now (a .counts)) (now (a .closed)) n) in (
-      whole at-put-step,
+      g .whole,
       (
-        g .reached,
+        g .went .reached,
         (
           omega (arith, i .1 .1 .0, e, at-put-step .put-step .ensures .1 .place),
-          omega (arith, i .1 .1 .1, g .nearer, short at-put-step),
+          omega (arith, i .1 .1 .1, g .went .nearer, g .short),
         ),
       ),
     )
@@ -156,4 +123,4 @@ returns c =
 pub text-size-spec : {M : Type 1} → statement M
 text-size-spec =
     tie.close (tie.spec Inv-loop μ-loop (λ c κs. search needs) loop-holds (λ c. search needs) put-step-requires
-    add-size (λ c. stepped (c .before .before .before) .nearer) loop-again returns)
+    add-size (λ c. step (c .before .before .before) .went .nearer) loop-again returns)
