@@ -16,7 +16,8 @@ ghost use Rattle.book_rules.specs.Columns.{bookNow, bookBefore};
 ghost use Rattle.load_rules.specs.Load.{bookLoad};
 ghost use Rattle.room.specs.Room.{Wrote};
 ghost use Rattle.report_text.specs.Text.{lineEnd, ended, bookRefusal};
-ghost use Rattle.report_text.specs.InnerRoom.{WroteWithin, LimitsFit};
+ghost use Rattle.report_text.specs.InnerRoom.{LimitsFit};
+ghost use Rattle.text.specs.InnerWithin.{WroteWithin};
 ghost use Rattle.explain_text.specs.Text.{headerLine, linesAt, pointsText};
 ghost use Rattle.explain_text.specs.InnerRoom.{longestPoint, headerSize, longestText, Explained};
 

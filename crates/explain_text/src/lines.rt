@@ -17,7 +17,7 @@ ghost use Rattle.movement.specs.Limits.{groupCount, maxPoints};
 ghost use Rattle.movement.specs.Group.{groupPeriod};
 ghost use Rattle.register.specs.Letter.{showLetter};
 ghost use Rattle.report_text.specs.Text.{comma, lineEnd, ended, line};
-ghost use Rattle.report_text.specs.InnerRoom.{WroteWithin};
+ghost use Rattle.text.specs.InnerWithin.{WroteWithin};
 ghost use Rattle.explain_text.specs.Text.{periodText, factorText, groupFields, allFields, stands};
 ghost use Rattle.explain_text.specs.Text.{groupLine, groupLines, pointLines};
 ghost use Rattle.explain_text.specs.InnerNumbers.{Addable, groupIn, allIn};

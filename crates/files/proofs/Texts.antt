@@ -10,7 +10,8 @@ use Rattle.book_rules.specs.{Columns.Book, History.emptyBook}
 use Rattle.register.specs.declared.limits_csv.LimitsFile.{LimitsFile}
 use Rattle.register.specs.LimitsFile.{limitsOf}
 use Rattle.report_steps.specs.Reading.{readingAt, registered}
-use Rattle.report_text.specs.{Text.refusedText, Text.bookText, InnerRoom.longestRefused, InnerRoom.WroteWithin}
+use Rattle.report_text.specs.{Text.refusedText, Text.bookText, InnerRoom.longestRefused}
+use Rattle.text.specs.InnerWithin.{WroteWithin}
 use Rattle.explain_text.specs.Text.{explainText}
 use Rattle.channel.specs.{System.none-came, System.none-went, Output.Writes}
 use Rattle.channel.specs.System.Origin.{input}

@@ -13,7 +13,8 @@ use Rattle.room.proofs.Laws.{wrote-then, wrote-none}
 use Rattle.register.specs.declared.limits_csv.LimitsFile.{LimitsFile}
 use Rattle.report_text.specs.Text.{headerLine, lineEnd, ended, line, pointFields, pointLine, refusedText}
 use Rattle.report_text.specs.Text.{pointsText, bookRefusal}
-use Rattle.report_text.specs.InnerRoom.{longestPoint, WroteWithin}
+use Rattle.report_text.specs.InnerRoom.{longestPoint}
+use Rattle.text.specs.InnerWithin.{WroteWithin}
 use Rattle.report_text.proofs.Lines.{ended-none, ended-more, wrote-header}
 
 -- the limits, by what a line looks at

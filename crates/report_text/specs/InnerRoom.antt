@@ -5,7 +5,6 @@ use mathlib.Core.Path.{_≡_}
 use mathlib.Core.List.{List}
 use lib.ListN.{getD}
 use Rattle.room.specs.Room.{Wrote}
-use Rattle.text.specs.InnerWithin as text
 use Rattle.movement.specs.Limits.{maxPoints}
 use Rattle.book_rules.specs.Columns.{Book}
 use Rattle.register.specs.declared.limits_csv.LimitsFile.{LimitsFile}
@@ -37,10 +36,6 @@ longestReport = 724
 -- a refusal's one line: its word, two numbers with their commas, and the CRLF
 abbrev pub longestRefused : ℕ
 longestRefused = 51
-
--- a text written at `at` that takes at most `max` bytes
-abbrev pub WroteWithin : (max : ℕ) (old : List ℕ) (at : ℕ) (written new : List ℕ) (next : ℕ) → Type 0
-WroteWithin = text.WroteWithin
 
 -- limits.csv that was accepted: 1 to 8 points, and limits that have a text
 pub record LimitsFit (l : LimitsFile) : Type 0 where

@@ -27,7 +27,8 @@ ghost use Rattle.report_text.specs.Text.{comma, lineEnd, line, levelText
 ghost use Rattle.report_text.specs.Text.{headerLine, refusedText, pointsText};
 ghost use Rattle.report_text.specs.InnerRoom.{longestWord, longestJudged, longestTotals};
 ghost use Rattle.report_text.specs.InnerRoom.{longestPoint, headerSize, longestReport, longestRefused};
-ghost use Rattle.report_text.specs.InnerRoom.{WroteWithin, LimitsFit, Reported};
+ghost use Rattle.report_text.specs.InnerRoom.{LimitsFit, Reported};
+ghost use Rattle.text.specs.InnerWithin.{WroteWithin};
 
 // A report: how many bytes it has, and the refusal of the whole book, 0 for none.
 pub struct Report {
