@@ -15,6 +15,10 @@ pub data Origin : Type 0 where
   input : Origin
   file : (name : List ℕ) → Origin
 
+-- a descriptor gives what comes from an origin
+pub Descriptor : (fd : ℤ) (origin : Origin) → Type 0
+Descriptor fd origin = Unit
+
 -- the first bytes that came from an origin are these
 pub First : (origin : Origin) (bytes : List ℕ) → Type 0
 First origin bytes = Unit
@@ -42,6 +46,11 @@ Arguments count = Unit
 pub Argument : (number size : ℕ) (bytes : List ℕ) → Type 0
 Argument number size bytes = Unit
 
+-- descriptor 0 is standard input's, before any call
+pub standard-input : Descriptor (pos 0) input
+unfolding Descriptor
+standard-input = tt
+
 -- before any call nothing came and nothing went
 pub none-came : (origin : Origin) → First origin []
 unfolding First
@@ -51,23 +60,31 @@ pub none-went : Sent []
 unfolding Sent
 none-went = tt
 
--- A read into some room answered n: the first n bytes of the room came behind those before
-pub system-gave : (origin : Origin) (n : ℕ) (answer : ℤ) (room old : List ℕ) → answer ≡ pos n → n ≤ length room
+-- Opening a name for reading answered a descriptor, or one that no read takes
+pub system-opened : (answer : ℤ) (name : List ℕ) → Descriptor answer (file name)
+unfolding Descriptor
+system-opened answer name = tt
+
+-- A read of a descriptor into some room answered n: the first n bytes of the room came behind those before
+pub system-gave : (fd : ℤ) (origin : Origin) (n : ℕ) (answer : ℤ) (room old : List ℕ) → Descriptor fd origin
+    → answer ≡ pos n → n ≤ length room
     → First origin old → First origin (old ++ take n room)
 unfolding First
-system-gave origin n answer room old e h f = tt
+system-gave fd origin n answer room old d e h f = tt
 
 -- It answered 0, though there was room: there are no more
-pub system-ended : (origin : Origin) (answer : ℤ) (room old : List ℕ) → answer ≡ pos 0 → 1 ≤ length room
+pub system-ended : (fd : ℤ) (origin : Origin) (answer : ℤ) (room old : List ℕ) → Descriptor fd origin
+    → answer ≡ pos 0 → 1 ≤ length room
     → First origin old → Whole origin old
 unfolding Whole
-system-ended origin answer room old e h f = tt
+system-ended fd origin answer room old d e h f = tt
 
 -- It answered less
-pub system-failed : (origin : Origin) (answer : ℤ) (old : List ℕ) → ltZ answer (pos 0) ≡ true
+pub system-failed : (fd : ℤ) (origin : Origin) (answer : ℤ) (old : List ℕ) → Descriptor fd origin
+    → ltZ answer (pos 0) ≡ true
     → First origin old → Broken origin old
 unfolding Broken
-system-failed origin answer old e f = tt
+system-failed fd origin answer old d e f = tt
 
 -- It was not made: what it gave could no longer be counted
 pub system-uncounted : (origin : Origin) (room old : List ℕ) → 2 ^ 64 ≤ length old + length room + 1

@@ -1,5 +1,6 @@
 // One read.
 use libc::STDIN_FILENO;
+ghost use Rattle.channel.specs.System.{Descriptor};
 ghost use Rattle.channel.specs.System.Origin.{input};
 ghost use Rattle.channel.specs.Input.{Reads, originOf};
 
@@ -20,6 +21,7 @@ pub(crate) fn read_from(
     taken: &mut u64,
     room: &mut [u8],
 ) -> Arrived
+    requires { ⌜ Descriptor fd (originOf opened (now name)) ⌝ }
     ensures { λ r. ⌜ Reads (originOf opened (now (name .entry))) (now (taken .entry)) r (now (taken .exit))
         (now (room .exit)) ⌝ }
 {

@@ -2,6 +2,7 @@
 use crate::input::Arrived;
 use crate::input::read_from;
 use libc::STDIN_FILENO;
+ghost use Rattle.channel.specs.System.{Descriptor};
 ghost use Rattle.channel.specs.System.Origin.{input, file};
 ghost use Rattle.channel.specs.Input.{Fills, originOf};
 
@@ -25,11 +26,18 @@ pub fn read_all(text: &mut [u8]) -> Filled
     fill(false, b"", STDIN_FILENO, text)
 }
 
+// The descriptor of the file of a name.
+fn open(path: &[u8]) -> i32
+    ensures { λ r. ⌜ Descriptor r (file (now (path .entry))) ⌝ }
+{
+    os::open_read(path)
+}
+
 // A file. One that can't be opened can't be read.
 pub fn read_file(path: &[u8], text: &mut [u8]) -> Filled
     ensures { λ r. ⌜ Fills (file (now (path .entry))) r (now (text .exit)) ⌝ }
 {
-    let fd = os::open_read(path);
+    let fd = open(path);
     let read = fill(true, path, fd, text);
     libc::close(fd);
     read
@@ -37,6 +45,7 @@ pub fn read_file(path: &[u8], text: &mut [u8]) -> Filled
 
 // A read that fails is never an end.
 fn fill(opened: bool, name: &[u8], fd: i32, text: &mut [u8]) -> Filled
+    requires { ⌜ Descriptor fd (originOf opened (now name)) ⌝ }
     ensures { λ r. ⌜ Fills (originOf opened (now (name .entry))) r (now (text .exit)) ⌝ }
 {
     let mut taken = 0;

@@ -18,10 +18,11 @@ returns-2 c =
 
 returns-3 : tie.Need-returns-3
 returns-3 c =
+    let start : tie.Start = search in
     let w : tie.After-read = search in
     let z = w .read .result in
     let less = rw (toZ-ofZ w64 z (record { sfits = w .read .ok })) at (c .if3 .taken) in
-    record { gave = (refl, λ some old came. system-failed _ z old less (came .first)) }
+    record { gave = (refl, λ some old came. system-failed _ _ z old (start .pre) less (came .first)) }
 
 -- what the read answered is what is counted
 abbrev read : tie.After-count → tie.After-read
@@ -43,11 +44,12 @@ answered c =
 
 returns-4 : tie.Need-returns-4
 returns-4 c =
+    let start : tie.Start = search in
     let w = read (c .before) in
     let room = w .read .last .1 .0 in
     let some : 1 ≤ length room = omega (arith, long (c .before)) in
     let zero = answered (c .before) ∙ ap pos (c .if4 .taken) in
-    record { gave = (refl, λ old came. system-ended _ (w .read .result) room old zero some (came .first)) }
+    record { gave = (refl, λ old came. system-ended _ _ (w .read .result) room old (start .pre) zero some (came .first)) }
 
 returns-5 : tie.Need-returns-5
 returns-5 c =
@@ -65,7 +67,7 @@ returns-5 c =
         refl,
         omega (arith, long counted),
         λ old came. record {
-          first = system-gave _ n (w .read .result) room old (answered counted) fits (came .first);
+          first = system-gave _ _ n (w .read .result) room old (start .pre) (answered counted) fits (came .first);
           long = length-append old (take n room) ∙ omega (arith, came .long, length-take-le n room fits);
         },
       );
