@@ -16,3 +16,4 @@ pub mod WholeText
 pub mod RowExact
 pub mod FullBook
 pub mod Accepted
+pub mod Failing

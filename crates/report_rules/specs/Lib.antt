@@ -9,3 +9,4 @@ pub mod RowExact
 pub mod FullBook
 pub mod Accepted
 pub mod Sources
+pub mod Failed
