@@ -80,8 +80,8 @@ never-an-end tell limits bytes text z e =
     let off = long-refused (l .points) (k .last + 1) before line over in
     let s = registered (l .points) b reg in
     let ne : s .refusal ≡ 0 → ⊥ = λ fine.
-        let each = register-accepted (l .points) b reg fine .each (k .last) (omega (arith, k .is-last)) in
-        absurd (omega (arith, each, off)) in
+    let each = register-accepted (l .points) b reg fine .each (k .last) (omega (arith, k .is-last)) in
+    absurd (omega (arith, each, off)) in
     let f = register-refused (l .points) b reg .first (omega (arith, k .is-last)) ne in
     record {
       number = s .refusal;
