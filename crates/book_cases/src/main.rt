@@ -1,8 +1,8 @@
-// The cases of RULES for the calls on a book, as the script in the file stdin has them. A line has a name, the number of
-// points, how many levels are lent, how many answers there is room for, and a journal, whose calls are made on an empty
-// book of 3 rows (1 enter: identity, type, kind, time, mass; 2 supply: identity, how many levels, the levels; 3 take
-// back; 4 withdraw). Then come the answers that each call should get, 99 where nothing is written, and the columns as
-// they should be. Shown is each of them beside what it should be.
+// The cases of RULES for the calls on a book, as the script in the file stdin has them. A line has a name, the number
+// of points, how many levels are lent, how many answers there is room for, and a journal, whose calls are made on an
+// empty book of 3 rows (1 enter: identity, type, kind, time, mass; 2 supply: identity, how many levels, the levels; 3
+// take back; 4 withdraw). Then come the answers that each call should get, 99 where nothing is written, and the columns
+// as they should be. Shown is each of them beside what it should be.
 use cases::core::line_past;
 use cases::fields::numbers;
 use cases::fields::place;
