@@ -92,6 +92,10 @@ never-an-end tell limits bytes text z e =
       sixteen = λ here.
           let same : f .before ≡ k .last = omega (arith, here, f .line, k .is-last, k .many) in
           rw same at (f .number) ∙ off;
+      before = f .before;
+      line= = f .line;
+      fine = f .fine;
+      number= = rw (f .line) (f .number);
     }
 
 module _ (tell : Telling) (limits text : List ℕ) (w : Written tell limits text) where

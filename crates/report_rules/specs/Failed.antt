@@ -1,18 +1,26 @@
 -- What is answered to the bytes that came; a read that fails is never an end: RULES, "Files and the report program".
 -- Assumes nothing.
-use Prim.Native.Nat.{ℕ, _≤_}
+use Prim.Native.Nat.{ℕ, _+_, _≤_}
 use mathlib.Core.Path.{_≡_}
 use mathlib.Core.List.{List, [], _∷_, _++_}
-use lib.ListN.{length}
+use lib.ListN.{length, getD, take}
+use Rattle.book_rules.specs.History.{emptyBook}
 use Rattle.text.specs.Line.{linesOf}
 use Rattle.register.specs.LimitsFile.{limitsOf}
+use Rattle.report_steps.specs.Reading.{Reading, opening, linesRead, lineRefusal}
 use Rattle.report_text.specs.Text.{refusedText}
-use Rattle.report_rules.specs.Report.{Telling, Came, answerOf}
+use Rattle.report_rules.specs.Report.{Telling, Came, answerOf, bookRows, endless}
 use Rattle.report_rules.specs.Report.Came.{whole, stopped, failed}
 
 -- the line that a further byte would stand in
 abbrev pub lineBeingRead : List ℕ → ℕ
 lineBeingRead bytes = length (linesOf (bytes ++ (0 ∷ [])))
+
+-- so many lines of the bytes and of what is thought behind them, read into the report's book
+abbrev pub readLines : (limits bytes : List ℕ) → ℕ → Reading
+readLines limits bytes n =
+    let p = limitsOf limits .points in
+    linesRead p (opening (emptyBook p bookRows)) (take n (linesOf (bytes ++ endless)))
 
 -- Where limits.csv is accepted and a read fails behind some bytes of the register, the text is one refusal, and never
 -- that of a book: a line that came is refused as ever, or else 16 at the line being read
@@ -23,6 +31,13 @@ pub record FailedTold (tell : Telling) (limits bytes text : List ℕ) : Type 0 w
   pub some : number ≡ 0 → ⊥
   pub up-to : line ≤ lineBeingRead bytes
   pub sixteen : line ≡ lineBeingRead bytes → number ≡ 16
+  -- the lines before it are read without a refusal, and on the book that they leave it is refused so
+  pub before : ℕ
+  pub line= : line ≡ before + 1
+  pub fine : readLines limits bytes before .refusal ≡ 0
+  pub number= : number
+      ≡ lineRefusal (limitsOf limits .points) line (readLines limits bytes before .book)
+      (getD (linesOf (bytes ++ endless)) before [])
 
 -- A register that came to its end is answered as it is, all of it; one whose reading stopped as it is whatever follows;
 -- and one behind which a read failed so
