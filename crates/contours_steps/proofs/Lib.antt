@@ -12,3 +12,4 @@ pub mod Stays
 pub mod Within
 pub mod Ends
 pub mod Roomy
+pub mod Running

@@ -7,3 +7,4 @@ pub mod Told
 pub mod InnerIntake
 pub mod InnerDrawing
 pub mod Ends
+pub mod RunTold

@@ -1,5 +1,5 @@
 -- The answer to limits.csv and a register, by how far each is read. Assumes nothing.
-use mathlib.Core.{Path._≡_, Path.refl, Path.sym, Path.ap, Path.subst, Path._∙_, Bool.true, List.List, List.[], List._++_}
+use mathlib.Core.{Path._≡_, Path.refl, Path.sym, Path.ap, Path._∙_, Bool.true, List.List, List.[], List._++_}
 use Prim.Native.Nat.{ℕ, _+_, _≤_}
 use native.Mathlib.Omega.{arith}
 use lib.{ListN.length, ListN.length-append, Seq.take-append-le}
@@ -13,11 +13,11 @@ use Rattle.register.proofs.LimitsFront.{limits-front}
 use Rattle.report_steps.specs.Reading.{Reading, registered}
 use Rattle.report_text.specs.Text.{refusedText, bookText}
 use Rattle.report_rules.specs.Report.{bookRows, Telling, readingText, registerText, answerText, answerOf, reportOf}
-use Rattle.report_rules.specs.Report.{limitsRoom, Came, Heard, Opened, Written, Answers}
+use Rattle.report_rules.specs.Report.{limitsRoom, Came, Opened, Answers}
 use Rattle.report_rules.specs.Report.Came.{whole, stopped, failed}
 use Rattle.report_rules.specs.Report.Opened.{all, cut, unread}
-use Rattle.report_rules.specs.Sources.{LimitsFrom, RegisterFrom, Sources}
-use Rattle.report_rules.specs.Sources.LimitsFrom.{ended, enough, missing}
+use Rattle.report_rules.specs.Told.{LimitsFrom}
+use Rattle.report_rules.specs.Told.LimitsFrom.{ended, enough, missing}
 
 pub reading-refused : (tell : Telling) (l : LimitsFile) (s : Reading) → (s .refusal ≡ 0 → ⊥)
     → readingText tell l s ≡ refusedText (s .refusal) (s .line)
@@ -78,19 +78,8 @@ unfolding answerOf
 limits-cut tell limits more register full =
     ap (λ (l : LimitsFile). answerText tell l register) (limits-same limits more (omega (arith, full)))
 
--- what is answered is limits.csv and standard input, and nothing of either is left out that counts
-limits-from : (tell : Telling) (limits : List ℕ) → Opened limits → LimitsFrom tell limits
+-- of limits.csv nothing is left out that counts
+pub limits-from : (tell : Telling) (limits : List ℕ) → Opened limits → LimitsFrom tell limits
 limits-from tell limits (all h) = ended h
 limits-from tell limits (cut h full) = enough h (λ more register. limits-cut tell limits more register full)
 limits-from tell limits (unread came h none) = missing came h none
-
-register-from : (came : Came) → Heard came → RegisterFrom came
-register-from came h = record {
-  ended = λ register e. subst Heard e h;
-  begun = λ register e. subst Heard e h;
-  broken = λ register e. subst Heard e h;
-}
-
-pub sources : (tell : Telling) (limits text : List ℕ) (w : Written tell limits text) → Sources tell limits (w .came)
-sources tell limits text w =
-    record { file= = limits-from tell limits (w .opened); input= = register-from (w .came) (w .heard) }

@@ -1,6 +1,6 @@
 -- A read that fails is never an end: the line being read goes on for longer than any on its layout, and is refused.
 -- Assumes nothing.
-use mathlib.Core.{Path._≡_, Path.refl, Path.ap, Path.subst, Path._∙_}
+use mathlib.Core.{Path._≡_, Path.refl, Path.ap, Path._∙_}
 use mathlib.Core.Bool.{Bool, true, false, cond, _&&_, and-false}
 use mathlib.Core.List.{List, [], _∷_, _++_}
 use Prim.Native.Nat.{ℕ, zero, suc, _+_, _-_, _≤_, _<_}
@@ -13,10 +13,9 @@ use Rattle.text.proofs.Digits.{either}
 use Rattle.register.specs.LimitsFile.{limitsOf}
 use Rattle.report_steps.specs.Reading.{opening, linesRead, registered}
 use Rattle.report_steps.proofs.LongLines.{long-refused}
-use Rattle.report_rules.specs.Report.{Telling, bookRows, endless, registerText, answerOf, Came, Answers}
-use Rattle.report_rules.specs.Report.{Written}
-use Rattle.report_rules.specs.Report.Came.{whole, stopped, failed}
-use Rattle.report_rules.specs.Failed.{FailedTold, AnsweredBy}
+use Rattle.report_rules.specs.Report.{Telling, bookRows, endless, registerText, answerOf, Answers}
+use Rattle.report_rules.specs.Report.Came.{failed}
+use Rattle.report_rules.specs.Failed.{FailedTold}
 use Rattle.report_rules.proofs.Answers.{reading-refused, report-accepted}
 use Rattle.report_rules.proofs.{Refusing.register-refused, Accepted.register-accepted}
 
@@ -66,8 +65,8 @@ bare-least s =
     (λ yes. rw yes (omega (arith, length-take-le (length s - 2) s (omega arith))))
     (λ no. rw no (omega arith))
 
-never-an-end : (tell : Telling) (limits bytes text : List ℕ) → limitsOf limits .refusal ≡ 0
-    → Answers (answerOf tell limits) (failed bytes) text → FailedTold tell limits bytes text
+pub never-an-end : (tell : Telling) (limits bytes text : List ℕ) → limitsOf limits .refusal ≡ 0
+    → Answers (answerOf tell limits) (failed bytes) text → FailedTold limits bytes text
 unfolding registerText
 never-an-end tell limits bytes text z e =
     let l = limitsOf limits in
@@ -97,15 +96,3 @@ never-an-end tell limits bytes text z e =
       fine = f .fine;
       number= = rw (f .line) (f .number);
     }
-
-module _ (tell : Telling) (limits text : List ℕ) (w : Written tell limits text) where
-  answers : (came : Came) → w .came ≡ came → Answers (answerOf tell limits) came text
-  answers came e = subst (λ (c : Came). Answers (answerOf tell limits) c text) e (w .is)
-
-  pub answered-by : AnsweredBy tell limits (w .came) text
-  answered-by =
-      record {
-        ended = λ register e. answers (whole register) e;
-        begun = λ register e. answers (stopped register) e;
-        broken = λ register e z. never-an-end tell limits register text z (answers (failed register) e);
-      }

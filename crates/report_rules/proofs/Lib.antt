@@ -17,3 +17,4 @@ pub mod RowExact
 pub mod FullBook
 pub mod Accepted
 pub mod Failing
+pub mod Running

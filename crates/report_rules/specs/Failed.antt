@@ -1,4 +1,4 @@
--- What is answered to the bytes that came; a read that fails is never an end: RULES, "Files and the report program".
+-- What is told where a read fails, which is never an end: RULES, "Files and the report program".
 -- Assumes nothing.
 use Prim.Native.Nat.{ℕ, _+_, _≤_}
 use mathlib.Core.Path.{_≡_}
@@ -9,8 +9,7 @@ use Rattle.text.specs.Line.{linesOf}
 use Rattle.register.specs.LimitsFile.{limitsOf}
 use Rattle.report_steps.specs.Reading.{Reading, opening, linesRead, lineRefusal}
 use Rattle.report_text.specs.Text.{refusedText}
-use Rattle.report_rules.specs.Report.{Telling, Came, answerOf, bookRows, endless}
-use Rattle.report_rules.specs.Report.Came.{whole, stopped, failed}
+use Rattle.report_rules.specs.Report.{bookRows, endless}
 
 -- the line that a further byte would stand in
 abbrev pub lineBeingRead : List ℕ → ℕ
@@ -24,7 +23,7 @@ readLines limits bytes n =
 
 -- Where limits.csv is accepted and a read fails behind some bytes of the register, the text is one refusal, and never
 -- that of a book: a line that came is refused as ever, or else 16 at the line being read
-pub record FailedTold (tell : Telling) (limits bytes text : List ℕ) : Type 0 where
+pub record FailedTold (limits bytes text : List ℕ) : Type 0 where
   pub number : ℕ
   pub line : ℕ
   pub told : text ≡ refusedText number line
@@ -38,12 +37,3 @@ pub record FailedTold (tell : Telling) (limits bytes text : List ℕ) : Type 0 w
   pub number= : number
       ≡ lineRefusal (limitsOf limits .points) line (readLines limits bytes before .book)
       (getD (linesOf (bytes ++ endless)) before [])
-
--- A register that came to its end is answered as it is, all of it; one whose reading stopped as it is whatever follows;
--- and one behind which a read failed so
-pub record AnsweredBy (tell : Telling) (limits : List ℕ) (came : Came) (text : List ℕ) : Type 0 where
-  pub ended : (register : List ℕ) → came ≡ whole register → text ≡ answerOf tell limits register
-  pub begun : (register : List ℕ) → came ≡ stopped register
-      → (rest : List ℕ) → text ≡ answerOf tell limits (register ++ rest)
-  pub broken : (register : List ℕ) → came ≡ failed register → limitsOf limits .refusal ≡ 0
-      → FailedTold tell limits register text

@@ -8,5 +8,5 @@ pub mod WholeText
 pub mod RowExact
 pub mod FullBook
 pub mod Accepted
-pub mod Sources
 pub mod Failed
+pub mod Told
