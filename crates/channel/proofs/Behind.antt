@@ -1,5 +1,5 @@
 -- Bytes that are read behind those that stand at the front of a buffer. Assumes nothing.
-use mathlib.Core.{Path._≡_, Path.sym, Path.ap, Path.subst, Path._∙_, List.List, List._++_, Bool.false}
+use mathlib.Core.{Path._≡_, Path.refl, Path.sym, Path.ap, Path.subst, Path._∙_, List.List, List._++_, Bool.false}
 use Prim.Native.Nat.{ℕ, _+_, _≤_}
 use native.Mathlib.Omega.{arith}
 use lib.{IntN.ℤ, IntN.pos, IntN.negsuc, Signed.ltZ, ListN.length, ListN.take, ListN.length-append}
@@ -10,7 +10,7 @@ use borrow.Rule.Slice.PartMut.{putMid, postOf, take-put}
 use Rattle.channel.specs.declared.input.Arrived.{Arrived}
 use Rattle.channel.specs.declared.input.Arrived.the-variants.{Bytes, End, Failed}
 use Rattle.channel.specs.System.{Origin}
-use Rattle.channel.specs.Input.{Came, Gave, Reads, Fills, full, complete, failed}
+use Rattle.channel.specs.Input.{Came, Gave, Reads, Final, Fills, full, complete, failed}
 
 -- the first bytes of a buffer once a part from n on is replaced: the n before it, and the part's
 pub front-behind : (n m k : ℕ) (xs ys : List ℕ) → n ≤ length xs → k ≤ length ys
@@ -89,3 +89,10 @@ filled-up n text h f came =
       fills = λ _. omega arith;
       known = omega arith;
     }
+
+-- an end and a failure are final
+pub final : {origin : Origin} {taken taken′ : ℕ} {room : List ℕ} (r : Arrived)
+    → Reads origin taken r taken′ room → Final origin taken r taken′
+final (Bytes n) k = record { no-more = λ none. absurd (none n refl) }
+final End k = record { no-more = λ _ few old a b. absurd (omega (arith, k .gave .0, a .long, b .long)) }
+final Failed k = record { no-more = λ _ few old a b. absurd (omega (arith, k .gave .0, a .long, b .long)) }

@@ -1,5 +1,5 @@
 -- Bytes as they come: from standard input, or from a file. Assumes nothing.
-use Prim.Native.Nat.{ℕ, _+_, _^_, _≤_, _<_}
+use Prim.Native.Nat.{ℕ, _+_, _-_, _^_, _≤_, _<_}
 use mathlib.Core.Path.{_≡_}
 use mathlib.Core.Bool.{Bool, true, false}
 use mathlib.Core.List.{List, _++_}
@@ -20,6 +20,10 @@ pub record Came (origin : Origin) (taken : ℕ) (bytes : List ℕ) : Type 0 wher
   pub first : First origin bytes
   pub long : length bytes ≡ taken
 
+-- the count behind an end or a failure: no bytes are so many, so nothing is known of a read behind it
+abbrev pub usedUp : ℕ
+usedUp = 2 ^ 64 - 1
+
 -- One read: bytes came behind those before, and stand at the front of the room; there are no more; or it failed, which
 -- says nothing where no room was lent
 abbrev pub Gave : (origin : Origin) (taken : ℕ) (r : Arrived) (taken′ : ℕ) (room : List ℕ) → Type 0
@@ -27,12 +31,17 @@ Gave origin taken (Bytes n) taken′ room =
     (1 ≤ n) × (n ≤ length room) × (taken′ ≡ taken + n) × (taken′ + 1 < 2 ^ 64)
     × ((old : List ℕ) → Came origin taken old → Came origin taken′ (old ++ take n room))
 Gave origin taken End taken′ room =
-    (taken′ ≡ taken) × ((old : List ℕ) → Came origin taken old → Whole origin old)
+    (taken′ ≡ usedUp) × ((old : List ℕ) → Came origin taken old → Whole origin old)
 Gave origin taken Failed taken′ room =
-    (taken′ ≡ taken) × (1 ≤ length room → (old : List ℕ) → Came origin taken old → Broken origin old)
+    (taken′ ≡ usedUp) × (1 ≤ length room → (old : List ℕ) → Came origin taken old → Broken origin old)
 
 pub record Reads (origin : Origin) (taken : ℕ) (r : Arrived) (taken′ : ℕ) (room : List ℕ) : Type 0 where
   pub gave : Gave origin taken r taken′ room
+
+-- Behind an end or a failure the count fits no bytes that came: nothing is known of what a further read answers
+pub record Final (origin : Origin) (taken : ℕ) (r : Arrived) (taken′ : ℕ) : Type 0 where
+  pub no-more : ((n : ℕ) → r ≡ Bytes n → ⊥) → taken + 1 < 2 ^ 64
+      → (old : List ℕ) → Came origin taken old → Came origin taken′ old → ⊥
 
 -- All reads into a buffer: to the end, up to a read that failed, or until the buffer is full
 

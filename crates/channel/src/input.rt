@@ -12,8 +12,8 @@ pub enum Arrived {
 }
 
 // Reads behind the `taken` bytes that came before, into the front of the room. Without room it fails: then nothing can
-// come, and that is no end, nor a read that failed. The descriptor is that of the file that was opened under the name,
-// or else standard input's.
+// come, and that is no end, nor a read that failed. Behind an end or a failure the count is used up: a further read fails
+// without being made. The descriptor is that of the file that was opened under the name, or else standard input's.
 pub(crate) fn read_from(
     opened: bool,
     name: &[u8],
@@ -26,17 +26,21 @@ pub(crate) fn read_from(
         (now (room .exit)) ⌝ }
 {
     if room.len() == 0 {
+        *taken = u64::MAX;
         return Arrived::Failed;
     }
     if u64::MAX - *taken <= room.len() as u64 {
+        *taken = u64::MAX;
         return Arrived::Failed;
     }
     let got = libc::read(fd, room);
     if got < 0 {
+        *taken = u64::MAX;
         return Arrived::Failed;
     }
     let n = io::count(got, room);
     if n == 0 {
+        *taken = u64::MAX;
         return Arrived::End;
     }
     *taken = *taken + n as u64;

@@ -1,10 +1,22 @@
--- Each program's run is told of its own text. Assumes nothing.
+-- What the contract of the very function `run` says of each program: `Post` is its own, as the check reads it from the
+-- code, so that no other contract can stand there under the same name. Assumes nothing.
 use Prim.Native.Nat.{ℕ}
-use mathlib.Core.Bool.{Bool}
+use mathlib.Core.{Path._≡_, Path.subst, Bool.Bool, List.List}
+use denote.Ref.{RefT}
 use Rattle.report_text.specs.Text.{bookText}
 use Rattle.explain_text.specs.Text.{explainText}
+use Rattle.report_rules.specs.{Report.Run, Told.RunTold}
 use Rattle.report_rules.proofs.Running.{run-told}
-use Rattle.files.specs.Kinds.{EachRun}
+use Rattle.files.specs.Kinds.{tellingOf}
+use Rattle.files.proofs.core.run.Reads.{Post}
 
-pub each-run : (r : Bool) (sent : ℕ) → EachRun r sent
-each-run r sent = record { report= = run-told bookText r sent; explain= = run-told explainText r sent }
+module _ (lifetimes : List ℕ × Unit) (kind : ℕ) (before after : RefT ℕ) (r : Bool)
+    (ends : Post lifetimes (kind, (before, tt)) r (kind, (after, tt))) where
+  run-of : (k : ℕ) → kind ≡ k → Run (tellingOf k) r (after .now)
+  run-of k e = subst (λ (x : ℕ). Run (tellingOf x) r (after .now)) e ends
+
+  pub report-run : kind ≡ 0 → RunTold bookText r (after .now)
+  report-run e = run-told bookText r (after .now) (run-of 0 e)
+
+  pub explain-run : kind ≡ 1 → RunTold explainText r (after .now)
+  explain-run e = run-told explainText r (after .now) (run-of 1 e)
