@@ -12,8 +12,9 @@ pub enum Arrived {
 }
 
 // Reads behind the `taken` bytes that came before, into the front of the room. Without room it fails: then nothing can
-// come, and that is no end, nor a read that failed. Behind an end or a failure the count is used up: a further read fails
-// without being made. The descriptor is that of the file that was opened under the name, or else standard input's.
+// come, and that is no end, nor a read that failed. Behind an end or a failure the count is used up, and a further read
+// fails without being made. The descriptor is that of the file that was opened under the name, or else standard
+// input's.
 pub(crate) fn read_from(
     opened: bool,
     name: &[u8],
