@@ -92,7 +92,7 @@ filled-up n text h f came =
 
 -- an end and a failure are final
 pub final : {origin : Origin} {taken taken′ : ℕ} {room : List ℕ} (r : Arrived)
-    → Reads origin taken r taken′ room → Final origin taken r taken′
+    → Reads origin taken r taken′ room → Final origin r taken′
 final (Bytes n) k = record { no-more = λ none. absurd (none n refl) }
-final End k = record { no-more = λ _ few old a b. absurd (omega (arith, k .gave .0, a .long, b .long)) }
-final Failed k = record { no-more = λ _ few old a b. absurd (omega (arith, k .gave .0, a .long, b .long)) }
+final End k = record { no-more = λ _ old b. omega (arith, k .gave .0, b .long) }
+final Failed k = record { no-more = λ _ old b. omega (arith, k .gave .0, b .long) }

@@ -38,10 +38,11 @@ Gave origin taken Failed taken′ room =
 pub record Reads (origin : Origin) (taken : ℕ) (r : Arrived) (taken′ : ℕ) (room : List ℕ) : Type 0 where
   pub gave : Gave origin taken r taken′ room
 
--- Behind an end or a failure the count fits no bytes that came: nothing is known of what a further read answers
-pub record Final (origin : Origin) (taken : ℕ) (r : Arrived) (taken′ : ℕ) : Type 0 where
-  pub no-more : ((n : ℕ) → r ≡ Bytes n → ⊥) → taken + 1 < 2 ^ 64
-      → (old : List ℕ) → Came origin taken old → Came origin taken′ old → ⊥
+-- Behind an end or a failure the count fits no bytes but more than can be counted: nothing is known of what a further
+-- read answers
+pub record Final (origin : Origin) (r : Arrived) (taken′ : ℕ) : Type 0 where
+  pub no-more : ((n : ℕ) → r ≡ Bytes n → ⊥)
+      → (old : List ℕ) → Came origin taken′ old → 2 ^ 64 ≤ length old + 1
 
 -- All reads into a buffer: to the end, up to a read that failed, or until the buffer is full
 
