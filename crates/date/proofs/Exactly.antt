@@ -1,42 +1,14 @@
 -- A date exists exactly if the calendar has it: months by look-up, leap years by their rule. Assumes nothing.
 use mathlib.Core.{Path._≡_, Path.refl, Path.sym, Path.ap, Path._∙_, Bool.Bool, Bool.true, Bool.false, Bool.cond}
-use mathlib.Core.{Bool.false≢true, Logic._↔_, Logic.inl, Logic.inr, List.List, List.[], List._∷_}
-use Prim.Native.Nat.{ℕ, zero, suc, _+_, _-_, _%_, _≤_, _<_}
+use mathlib.Core.{Logic._↔_, Logic.inl, Logic.inr, List.List, List.[], List._∷_}
+use Prim.Native.Nat.{ℕ, zero, suc, _+_, _-_, _≤_, _<_}
 use native.Mathlib.Omega.{arith}
 use lib.{Dec.eqb, Dec.leb, ListN.getD}
-use borrow.Author.Tests.{eqb-true, eqb-false, eq-eqb, ne-eqb, leb-true, leb-false}
-use Rattle.date.specs.Calendar.{leap, leapDay, ofThirty, monthLength, dateExists, yearOf, monthOf, dayOf}
-use Rattle.date.specs.Promises.{LeapYear, lengths, HasDay, OnCalendar}
-use Rattle.date.proofs.Years.{by-100, by-4, leap-at-most}
+use borrow.Author.Tests.{eqb-true, eqb-false, ne-eqb, leb-true, leb-false}
+use Rattle.date.specs.Calendar.{leapDay, ofThirty, monthLength, dateExists, yearOf, monthOf, dayOf}
+use Rattle.date.specs.Promises.{lengths, HasDay, OnCalendar}
+use Rattle.date.proofs.{Leaps.day-rule, Leaps.rule-day, Years.leap-at-most}
 use Rattle.date.proofs.Dates.{Valid, whole, valid, exists}
-
--- Leap years
-
-leap-rule : (y : ℕ) (a b d : Bool) → eqb (y % 400) 0 ≡ a → eqb (y % 100) 0 ≡ b → eqb (y % 4) 0 ≡ d
-    → cond a true (cond b false d) ≡ true → LeapYear y
-leap-rule y true b d e f g l = let by400 = eqb-true (y % 400) 0 e in (by-4 y (by-100 y by400), inr by400)
-leap-rule y false true d e f g l = absurd (false≢true l)
-leap-rule y false false d e f g l = (eqb-true (y % 4) 0 (g ∙ l), inl (eqb-false (y % 100) 0 f))
-
-rule-leap : (y : ℕ) → LeapYear y → leap y ≡ true
-rule-leap y (by4, inl no100) =
-    rw (ne-eqb (y % 400) 0 (λ e. no100 (by-100 y e)), ne-eqb (y % 100) 0 no100, eq-eqb (y % 4) 0 by4)
-rule-leap y (by4, inr by400) = rw (eq-eqb (y % 400) 0 by400)
-
-one-only : (b : Bool) → _≡_ {A = ℕ} (cond b 1 0) 1 → b ≡ true
-one-only true e = refl
-one-only false e = absurd (omega arith)
-
-day-rule : (y : ℕ) → leapDay y ≡ 1 → LeapYear y
-unfolding leapDay
-day-rule y e =
-    leap-rule y (eqb (y % 400) 0) (eqb (y % 100) 0) (eqb (y % 4) 0) refl refl refl (one-only (leap y) e)
-
-rule-day : (y : ℕ) → LeapYear y → leapDay y ≡ 1
-unfolding leapDay
-rule-day y l = ap (λ b. cond b 1 0) (rule-leap y l)
-
--- The days of a month
 
 february : (y : ℕ) → monthLength y 2 ≡ 28 + leapDay y
 unfolding monthLength

@@ -4,7 +4,8 @@ use Prim.Native.Nat.{ℕ, zero, suc, _+_, _*_, _-_, _/_, _%_, _≤_}
 use native.Mathlib.{Omega.arith, Nat.zero-add, Nat.suc-add}
 use lib.Dec.{eqb}
 use borrow.Author.Tests.{eqb-true, eqb-false}
-use Rattle.date.specs.Calendar.{leap, leapDay, ofThirty, monthLength, beforeYear, firstMonths}
+use Rattle.date.specs.Calendar.{leapBy, leap, leapDay, ofThirty, monthLength, beforeYear, firstMonths}
+use Rattle.date.proofs.Leaps.{by-100, by-4}
 
 abbrev pub formula : ℕ → ℕ
 formula y = 365 * y + (y + 3) / 4 - (y + 99) / 100 + (y + 399) / 400
@@ -28,12 +29,6 @@ rises-400 y h = omega arith
 stays-400 : (y : ℕ) → (y % 400 ≡ 0 → ⊥) → (suc y + 399) / 400 ≡ (y + 399) / 400
 stays-400 y h = omega arith
 
-pub by-100 : (y : ℕ) → y % 400 ≡ 0 → y % 100 ≡ 0
-by-100 y h = omega arith
-
-pub by-4 : (y : ℕ) → y % 100 ≡ 0 → y % 4 ≡ 0
-by-4 y h = omega arith
-
 few : (y : ℕ) → (y + 99) / 100 ≤ y
 few y = omega arith
 
@@ -43,7 +38,7 @@ sum : (y a b d a′ b′ d′ l : ℕ) → b ≤ y → b′ ≤ suc y → a′ +
 sum y a b d a′ b′ d′ l h k e = omega arith
 
 counted : (y : ℕ) (a b d : Bool) → eqb (y % 400) 0 ≡ a → eqb (y % 100) 0 ≡ b → eqb (y % 4) 0 ≡ d
-    → formula y + (365 + cond (cond a true (cond b false d)) 1 0) ≡ formula (suc y)
+    → formula y + (365 + cond (leapBy a b d) 1 0) ≡ formula (suc y)
 counted y true b d e f g =
     let by400 = eqb-true (y % 400) 0 e in
     let by100 = by-100 y by400 in
