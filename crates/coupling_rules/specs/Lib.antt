@@ -1,0 +1,5 @@
+pub mod Limits
+pub mod Flights
+pub mod Rule
+pub mod Refusals
+pub mod Promises
