@@ -1,7 +1,7 @@
 //! The rules' own numbers through the library: examples/document gives the level 56.66, which is over 56.65.
 
-use okubinrafo::{read_network, read_row, write_row, Account, Along, Book, Frame, Group, Network, Refusal, Row, Sizes};
-use okubinrafo::{GROUPS, ROW_BYTES};
+use okubinrafo::{couple, name_number, read_network, read_row, write_row};
+use okubinrafo::{Account, Along, Book, Flights, Frame, Group, Network, Refusal, Row, Sizes, GROUPS, ROW_BYTES};
 
 const ROWS: usize = 10;
 const POINTS: usize = 1;
@@ -141,6 +141,39 @@ fn texts() {
     assert_eq!(read, Row { identity: 4, aircraft: 2, mass: 3000, kind: 1, time: 82_800, computed: false });
     assert_eq!(write_row(&read, &[0], 1, &mut text), Ok(&row[..]));
     assert_eq!(write_row(&read, &[1], 1, &mut text), Err(Refusal::WRONG_LEVELS));
+}
+
+/// An aeroplane that leaves before midnight and is seen behind it, its circuit, and a track that is too late.
+#[test]
+fn radar_tracks() {
+    let [runway, airport, kind] = ["06", "EHBK", "B738"].map(|name| name_number(name).expect("a name"));
+    assert_eq!((runway, name_number("EHBKX"), name_number(""), name_number("b")), (0x3036, None, None, None));
+    let [classes, kinds] = [[0; 2]; 2];
+    let [runways, airports, types] = [[runway; 2], [airport; 2], [kind; 2]];
+    let alike = |dates, times| Flights { dates, times, classes: &classes, kinds: &kinds, runways: &runways,
+        airports: &airports, types: &types };
+    let movements = alike(&[20260331, 20260331], &[86_290, 86_290]);
+    let tracks = alike(&[20260401, 20260401], &[300, 60]);
+    assert_eq!(couple(&movements, &[1, 0], &tracks), Ok(vec![None, Some(1)]));
+    assert_eq!(couple(&movements, &[0, 0], &tracks), Ok(vec![Some(1), None]));
+    assert_eq!(couple(&movements, &[0], &tracks), Err(Refusal::WRONG_FLIGHTS));
+    assert_eq!(couple(&alike(&[20260229, 20260331], &[0, 0]), &[0, 0], &tracks), Err(Refusal::WRONG_FLIGHTS));
+    let none = Flights { dates: &[], times: &[], classes: &[], kinds: &[], runways: &[], airports: &[], types: &[] };
+    assert_eq!(couple(&none, &[], &tracks), Ok(vec![]));
+    assert_eq!(couple(&movements, &[0, 0], &none), Ok(vec![None, None]));
+}
+
+/// 50,000 movements and tracks from a thread with a small stack.
+#[test]
+fn radar_tracks_from_a_small_stack() {
+    let small = std::thread::Builder::new().stack_size(64 << 10).spawn(|| {
+        let (dates, same) = (vec![20260331; 50_000], vec![0; 50_000]);
+        let all = Flights { dates: &dates, times: &same, classes: &same, kinds: &same, runways: &same,
+            airports: &same, types: &same };
+        couple(&all, &same, &all)
+    });
+    let answer = small.expect("a thread starts").join().expect("no fault");
+    assert_eq!(answer, Ok((0..50_000).map(Some).collect()));
 }
 
 /// The largest network with the most contours, from a thread with a small stack.

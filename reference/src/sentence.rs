@@ -25,6 +25,9 @@ fn of(refusal: Refusal) -> &'static str {
         Refusal::Range => "a limit is over 120.00, or a contour level is not from 0.01 to 150.00",
         Refusal::Register => "the register, limits.csv or the journal is off its layout",
         Refusal::Grid => "network: a line is off its layout, or its line end is LF where CRLF is expected",
+        Refusal::Flights => {
+            "over 50,000 movements or tracks, columns of unequal length, or a date, time, class or kind out of range"
+        }
     }
 }
 
@@ -39,10 +42,10 @@ mod tests {
 
     #[test]
     fn every_refusal_has_a_sentence_of_its_own() {
-        let sentences: Vec<_> = (1..=17).map(sentence).collect();
+        let sentences: Vec<_> = (1..=18).map(sentence).collect();
         for (place, one) in sentences.iter().enumerate() {
             assert!(!one.is_empty() && !sentences[..place].contains(one), "{}", place + 1);
         }
-        assert_eq!([sentence(0), sentence(18)], ["", ""]);
+        assert_eq!([sentence(0), sentence(19)], ["", ""]);
     }
 }
