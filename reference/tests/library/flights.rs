@@ -79,7 +79,7 @@ fn room(random: &mut Random, needed: usize) -> Vec<u32> {
 }
 
 #[test]
-fn couplings() {
+fn small_couplings() {
     const TELLING: Telling = &[
         ("couple", 3_000, &["0", "tracks are left"]),
         ("couple", 300, &["14"]),
@@ -106,7 +106,7 @@ fn couplings() {
             ],
         ),
     ];
-    compared_rounds("couplings", 6_000, TELLING, |library, random| {
+    compared_rounds("small_couplings", 6_000, TELLING, |library, random| {
         let by_name = random.once_in(2);
         let style = Style::pick(random, by_name);
         let (movements, tracks) = (random.pick(&[0, 1, 2, 6, 20, 40]), random.pick(&[0, 1, 2, 6, 20, 40]));
@@ -163,9 +163,9 @@ fn spoil(random: &mut Random, flights: &mut Flights) {
 
 /// One column wrong in length or in a value, with room that is enough or not: 18 before 14.
 #[test]
-fn couplings_refused() {
+fn refused_couplings() {
     const TELLING: Telling = &[("couple", 300, &["0", "14"]), ("couple", 1_500, &["18"])];
-    compared_rounds("couplings_refused", 4_000, TELLING, |library, random| {
+    compared_rounds("refused_couplings", 4_000, TELLING, |library, random| {
         let by_name = random.once_in(2);
         let style = Style::pick(random, by_name);
         let (movements, tracks) = (random.within(0, 12) as usize, random.within(0, 12) as usize);

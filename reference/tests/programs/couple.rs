@@ -133,7 +133,7 @@ fn compare(program: &Program, tracks: Option<&[u8]>, movements: &[u8], delivery:
 
 #[test]
 #[ignore = "needs OKUBINRAFO_COUPLE, the command of the program couple"]
-fn couplings_told() {
+fn coupled_files() {
     const TELLING: Telling = &[
         ("couple", 100, &["answered"]),
         ("couple", 5, &["16 in tracks.csv", "18 in tracks.csv", "16 in the movements", "18 in the movements"]),
@@ -146,7 +146,7 @@ fn couplings_told() {
         ("answered", 5, &["no movement", "no track"]),
     ];
     let program = Program::from_environment("OKUBINRAFO_COUPLE");
-    rounds("couplings_told", 240, TELLING, move |random| {
+    rounds("coupled_files", 240, TELLING, move |random| {
         let style = if random.once_in(5) { Style::crowded(random) } else { Style::pick(random, true) };
         let size = |random: &mut Random| random.pick(&[0, 1, 3, 20, 150, 400, 1_600, 3_000]);
         let (movements, tracks) = (size(random), size(random));
