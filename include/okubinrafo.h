@@ -122,7 +122,7 @@ uint32_t okubinrafo_write_network(OKUBINRAFO_NETWORK, uint8_t *text, size_t text
  * 1 helicopter; kinds: 0 start, 1 landing; runways, airports, types: any numbers, which agree if they are equal (a name
  * of up to four capital letters or digits is its bytes as one number, the first the most significant: "06" is 0x3036);
  * circuits: any number but 0 is a circuit.
- * tracks: one number a movement: the place of its track in the list, counted from 1, or 0 for none. Refusals: 18, 14. */
+ * tracks: one number a movement: the place of its track in the list from 1, or 0 for none. Refusals: 18, then 14. */
 uint32_t okubinrafo_couple(const uint32_t *dates, size_t dates_len, const uint32_t *times, size_t times_len,
                            const uint32_t *classes, size_t classes_len, const uint32_t *kinds, size_t kinds_len,
                            const uint32_t *runways, size_t runways_len, const uint32_t *airports, size_t airports_len,

@@ -5,7 +5,7 @@ import itertools
 import re
 from collections import abc, namedtuple
 
-from .library import TEXTS, U32, numbers, whole
+from .library import TEXTS, U32, whole
 from .refusals import Refused, ask
 from .registers import OFF_LAYOUT
 
@@ -87,14 +87,18 @@ def _of(named, name, what):
 
 def _converted(values, name, what):
     """A column as the library's numbers."""
-    convert = _CONVERSIONS[name]
-    found = []
+    convert, texts, found = _CONVERSIONS[name], {}, []
     for place, value in enumerate(values):
-        try:
-            found.append(whole(convert(_plain(value))))
-        except (TypeError, ValueError) as error:
-            raise type(error)(f"{what}[{place}], {name}: {error}") from None
-    return numbers(found)
+        number = texts.get(value) if type(value) is str else None  # most texts come again
+        if number is None:
+            try:
+                number = whole(convert(_plain(value)))
+            except (TypeError, ValueError) as error:
+                raise type(error)(f"{what}[{place}], {name}: {error}") from None
+            if type(value) is str:
+                texts[value] = number
+        found.append(number)
+    return (U32 * len(found))(*found)
 
 
 # Values
