@@ -10,10 +10,11 @@ pub struct Flights {
 }
 
 /// A date and the one after it.
-const DAYS: [(u32, u32); 12] = [
+const DAYS: [(u32, u32); 13] = [
     (20260331, 20260401),
     (20260614, 20260615),
     (20251231, 20260101),
+    (20241231, 20250101),
     (20240228, 20240229),
     (20240229, 20240301),
     (20230228, 20230301),
@@ -27,7 +28,7 @@ const DAYS: [(u32, u32); 12] = [
 
 /// Runways, airports and types as names spell them, and any numbers, which differ by few bits.
 pub const NAMES: [&[u8]; 6] = [b"06", b"24", b"6", b"EHBK", b"EHB", b"9Z0A"];
-const NUMBERS: [u32; 6] = [0, 1, 2, 0x8000_0000, 0x8000_0001, u32::MAX];
+const NUMBERS: [u32; 6] = [0, 0x8000_0000, 1, 0x8000_0001, u32::MAX, 0xffff];
 
 const SECONDS_A_DAY: u32 = 86_400;
 const MOVEMENT_COLUMNS: usize = 8;
