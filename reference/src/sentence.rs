@@ -23,10 +23,11 @@ fn of(refusal: Refusal) -> &'static str {
         Refusal::NetworkLevel => "network: a level is over 150.00, or is the no-data value",
         Refusal::Room => "the room lent for the answer is too small",
         Refusal::Range => "a limit is over 120.00, or a contour level is not from 0.01 to 150.00",
-        Refusal::Register => "the register, limits.csv or the journal is off its layout",
+        Refusal::Register => "the register, limits.csv, movements, tracks.csv or the journal is off its layout",
         Refusal::Grid => "network: a line is off its layout, or its line end is LF where CRLF is expected",
         Refusal::Flights => {
-            "over 50,000 movements or tracks, columns of unequal length, or a date, time, class or kind out of range"
+            "movements or tracks: over 50,000, columns of unequal length, class or kind over 1, \
+             second over 86,399, or no such date"
         }
     }
 }
