@@ -150,8 +150,15 @@ fn radar_tracks() {
     assert_eq!((runway, name_number("EHBKX"), name_number(""), name_number("b")), (0x3036, None, None, None));
     let [classes, kinds] = [[0; 2]; 2];
     let [runways, airports, types] = [[runway; 2], [airport; 2], [kind; 2]];
-    let alike = |dates, times| Flights { dates, times, classes: &classes, kinds: &kinds, runways: &runways,
-        airports: &airports, types: &types };
+    let alike = |dates, times| Flights {
+        dates,
+        times,
+        classes: &classes,
+        kinds: &kinds,
+        runways: &runways,
+        airports: &airports,
+        types: &types,
+    };
     let movements = alike(&[20260331, 20260331], &[86_290, 86_290]);
     let tracks = alike(&[20260401, 20260401], &[300, 60]);
     assert_eq!(couple(&movements, &[1, 0], &tracks), Ok(vec![None, Some(1)]));
@@ -168,8 +175,15 @@ fn radar_tracks() {
 fn radar_tracks_from_a_small_stack() {
     let small = std::thread::Builder::new().stack_size(64 << 10).spawn(|| {
         let (dates, same) = (vec![20260331; 50_000], vec![0; 50_000]);
-        let all = Flights { dates: &dates, times: &same, classes: &same, kinds: &same, runways: &same,
-            airports: &same, types: &same };
+        let all = Flights {
+            dates: &dates,
+            times: &same,
+            classes: &same,
+            kinds: &same,
+            runways: &same,
+            airports: &same,
+            types: &same,
+        };
         couple(&all, &same, &all)
     });
     let answer = small.expect("a thread starts").join().expect("no fault");

@@ -15,6 +15,7 @@ mod drawn;
 #[path = "../shared/flights.rs"]
 mod drawn_flights;
 mod explain;
+mod flight_files;
 mod program;
 #[path = "../shared/random.rs"]
 mod random;

@@ -27,7 +27,7 @@ const DAYS: [(u32, u32); 13] = [
 ];
 
 /// Runways, airports and types as names spell them, and any numbers, which differ by few bits.
-pub const NAMES: [&[u8]; 6] = [b"06", b"24", b"6", b"EHBK", b"EHB", b"9Z0A"];
+const NAMES: [&[u8]; 6] = [b"06", b"24", b"6", b"EHBK", b"EHB", b"9Z0A"];
 const NUMBERS: [u32; 6] = [0, 0x8000_0000, 1, 0x8000_0001, u32::MAX, 0xffff];
 
 const SECONDS_A_DAY: u32 = 86_400;
@@ -52,7 +52,7 @@ pub struct Style {
 
 impl Style {
     pub fn pick(random: &mut Random, by_name: bool) -> Style {
-        let mut values = if by_name { NAMES.map(|name| name_number(name)).to_vec() } else { NUMBERS.to_vec() };
+        let mut values = if by_name { NAMES.map(name_number).to_vec() } else { NUMBERS.to_vec() };
         values.rotate_left(random.within(0, 5) as usize);
         values.truncate(random.pick(&[1, 1, 2, 3]));
         Style {
