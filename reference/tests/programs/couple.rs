@@ -48,18 +48,18 @@ fn compare(program: &Program, tracks: Option<&[u8]>, movements: &[u8], delivery:
 #[ignore = "needs OKUBINRAFO_COUPLE, the command of the program couple"]
 fn coupled_files() {
     const TELLING: Telling = &[
-        ("couple", 100, &["answered"]),
-        ("couple", 5, &["16 in tracks.csv", "18 in tracks.csv", "16 in the movements", "18 in the movements"]),
+        ("couple", 80, &["answered"]),
+        ("couple", 4, &["16 in tracks.csv", "18 in tracks.csv", "16 in the movements", "18 in the movements"]),
         ("couple", 5, &["line 1 at fault", "a later line at fault"]),
         ("couple", 10, &["from a file", "in one piece", "cut between CR and LF", "cut between lines", "cut anywhere"]),
         ("couple", 5, &["byte by byte"]),
-        ("answered", 30, &["some with a track and some without", "a hundred with a track and more"]),
+        ("answered", 20, &["some with a track and some without", "a hundred with a track and more"]),
         ("answered", 10, &["movements over one buffer", "tracks over one buffer"]),
         ("answered", 10, &["movements without the last CRLF", "tracks without the last CRLF"]),
         ("answered", 5, &["no movement", "no track"]),
     ];
     let program = Program::from_environment("OKUBINRAFO_COUPLE");
-    rounds("coupled_files", 240, TELLING, move |random| {
+    rounds("coupled_files", 180, TELLING, move |random| {
         let style = if random.once_in(5) { Style::crowded(random) } else { Style::pick(random, true) };
         let size = |random: &mut Random| random.pick(&[0, 1, 3, 20, 150, 400, 1_600, 3_000]);
         let (movements, tracks) = (size(random), size(random));
@@ -96,14 +96,15 @@ fn with_headers(tracks: &str, movements: &str) -> (String, String) {
 #[ignore = "needs OKUBINRAFO_COUPLE, the command of the program couple"]
 fn movements_and_tracks_in_two_pieces() {
     let program = Program::from_environment("OKUBINRAFO_COUPLE");
-    directed("movements_and_tracks_in_two_pieces", &[("couple", 200, &["answered"])], move || {
+    directed("movements_and_tracks_in_two_pieces", &[("couple", 150, &["answered"])], move || {
         let (tracks, movements) = with_headers(TRACKS, MOVEMENTS);
-        for cut in 1..movements.len() {
+        // From the ends of the headers on.
+        for cut in MOVEMENTS_HEADER.len()..movements.len() {
             let pieces = Delivery::Pieces(vec![cut]);
             assert_eq!(compare(&program, Some(tracks.as_bytes()), movements.as_bytes(), &pieces), ANSWER);
             saw("couple", "answered");
         }
-        for cut in 1..tracks.len() {
+        for cut in TRACKS_HEADER.len()..tracks.len() {
             let own = program.run_beside_a_pipe("tracks.csv", tracks.as_bytes(), &[cut], movements.as_bytes());
             let own = String::from_utf8_lossy(&own);
             assert!(own == ANSWER, "the program writes {own:?} where tracks.csv comes cut at {cut}");
@@ -112,7 +113,7 @@ fn movements_and_tracks_in_two_pieces() {
     });
 }
 
-/// Both files behind rows of another airport, so that a buffer ends at every place of their last rows.
+/// Both files behind rows of another airport, so that a buffer ends at every place of a row of each.
 #[test]
 #[ignore = "needs OKUBINRAFO_COUPLE, the command of the program couple"]
 fn flights_about_a_buffers_end() {
@@ -124,8 +125,8 @@ fn flights_about_a_buffers_end() {
         (0..rows).map(|row| format!("{}{fields}", &"9999999"[..digits(row)])).collect()
     }
     let program = Program::from_environment("OKUBINRAFO_COUPLE");
-    directed("flights_about_a_buffers_end", &[("couple", 100, &["answered"])], move || {
-        for before in 0..=MOVEMENTS.len() {
+    directed("flights_about_a_buffers_end", &[("couple", 50, &["answered"])], move || {
+        for before in 0..60 {
             let padding = |header: &str| BUFFER - header.len() - 2 - before;
             let tracks = elsewhere(padding(TRACKS_HEADER), "") + TRACKS;
             let movements = elsewhere(padding(MOVEMENTS_HEADER), ",") + MOVEMENTS;
