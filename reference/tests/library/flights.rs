@@ -135,6 +135,17 @@ fn crowded_couplings() {
     });
 }
 
+/// Thousands of flights, of several classes and types, within two days or much less.
+#[test]
+fn busy_days() {
+    compared_rounds("busy_days", 24, &[("couple", 20, &["0"])], |library, random| {
+        let style = Style::pick(random, false);
+        let (movements, tracks) = (random.within(1_000, 4_000) as usize, random.within(1_000, 4_000) as usize);
+        let flights = style.flights(random, movements, tracks);
+        couple(library, &flights, &vec![77; movements]);
+    });
+}
+
 /// Spoils one column of either list: its length, or a value. What comes out may be right after all.
 fn spoil(random: &mut Random, flights: &mut Flights) {
     let column = random.within(0, 14) as usize;
