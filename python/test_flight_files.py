@@ -85,9 +85,8 @@ class Command(Case):
         circuit = MOVEMENT_LINE.replace(b"17,", b"9,").replace(b",\r", b",C\r")
         self.write("movements.csv", MOVEMENT_TEXT + circuit + MOVEMENT_LINE + MOVEMENT_LINE)
         answer = "id,track\r\n9,\r\n17,4\r\n17,\r\n"
-        counts = "movements with a track: 1; aeroplane circuits, which take none: 1; movements that found none: 1"
-        said = self.runs(0, answer, "couple", "movements.csv")
-        self.assertEqual(said, f"okubinrafo: {counts}; tracks left: 0\n")
+        counts = "movements: 1 of 3 have a track, 1 aeroplane circuits take none, 1 found none; tracks left: 0"
+        self.assertEqual(self.runs(0, answer, "couple", "movements.csv"), f"okubinrafo: {counts}\n")
         self.runs(0, "id,track\r\n", "couple", "--tracks", "tracks.csv", input=MOVEMENT_TEXT)
 
     def test_refusals_name_their_file(self):

@@ -32,10 +32,8 @@ def counted(movements, tracks, places):
     """How many movements have a track, why the others have none, and how many tracks are left."""
     found = sum(place is not None for place in places)
     circuits = sum(movement.class_ == 0 and movement.circuit for movement in movements)
-    return (
-        f"movements with a track: {found}; aeroplane circuits, which take none: {circuits}; "
-        f"movements that found none: {len(movements) - found - circuits}; tracks left: {len(tracks) - found}"
-    )
+    none = f"{circuits} aeroplane circuits take none, {len(movements) - found - circuits} found none"
+    return f"movements: {found} of {len(movements)} have a track, {none}; tracks left: {len(tracks) - found}"
 
 
 def explained(point, account):
