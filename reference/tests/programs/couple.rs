@@ -142,7 +142,7 @@ fn flights_about_a_buffers_end() {
 #[test]
 #[ignore = "needs OKUBINRAFO_COUPLE, the command of the program couple"]
 fn ranges_of_the_couple_program() {
-    const FIELDS: [(usize, &str, &str); 42] = [
+    const FIELDS: [(usize, &str, &str); 44] = [
         (0, "0", ""),
         (0, "9999999", ""),
         (0, "10000000", "16"),
@@ -165,6 +165,8 @@ fn ranges_of_the_couple_program() {
         (1, "2026-01-00", "18"),
         (1, "2026-1-01", "16"),
         (1, "10000-01-01", "16"),
+        (1, "2026.01-01", "16"),
+        (1, "2026-01/01", "16"),
         (2, "23:59:59", ""),
         (2, "00:00:00", ""),
         (2, "24:00:00", "16"),
