@@ -21,16 +21,14 @@ pub struct Flights<'a> {
     pub types: &'a [u32],
 }
 
-/// Finds the radar track of each movement (docs/RULES.md, Radar tracks). circuits: any number but 0 is a circuit.
-/// The answer has one entry a movement: the place of its track in the list, counted from 0, or None.
-pub fn couple(movements: &Flights, circuits: &[u32], tracks: &Flights) -> Answer<Vec<Option<usize>>> {
-    let mut places = vec![0; movements.dates.len()];
-    on_a_large_stack(|| couple_into(movements, circuits, tracks, &mut places))?;
-    Ok(places.into_iter().map(|place| (place as usize).checked_sub(1)).collect())
+/// Finds the radar track of each movement (docs/RULES.md, Radar tracks). `circuits` has one number a movement, any but 0
+/// being a circuit; `places` gets one a movement: the place of its track in the list, counted from 1, or 0 for none.
+pub fn couple(movements: &Flights, circuits: &[u32], tracks: &Flights, places: &mut [u32]) -> Answer<()> {
+    on_a_large_stack(|| couple_here(movements, circuits, tracks, places))
 }
 
 #[rustfmt::skip]
-fn couple_into(movements: &Flights, circuits: &[u32], tracks: &Flights, places: &mut [u32]) -> Answer<()> {
+fn couple_here(movements: &Flights, circuits: &[u32], tracks: &Flights, places: &mut [u32]) -> Answer<()> {
     let (m, t) = (movements, tracks);
     // SAFETY: each slice is lent with its own length, and the one that is written to is borrowed for that alone.
     Refusal::of(unsafe {

@@ -1,8 +1,7 @@
 //! Okubinrafo from Rust: the functions of include/okubinrafo.h as safe functions over slices.
 //!
 //! Every answer is the proved library's. The caller lends all memory; a refused call changes none of it. Levels are
-//! hundredths of a dB, times seconds of the local day, points and tracks are counted from 0. `tests/document.rs` is an
-//! example.
+//! hundredths of a dB, times seconds of the local day, points are counted from 0. `tests/document.rs` is an example.
 
 mod book;
 mod flights;

@@ -148,46 +148,36 @@ fn texts() {
 fn radar_tracks() {
     let [runway, airport, kind] = ["06", "EHBK", "B738"].map(|name| name_number(name).expect("a name"));
     assert_eq!((runway, name_number("EHBKX"), name_number(""), name_number("b")), (0x3036, None, None, None));
-    let [classes, kinds] = [[0; 2]; 2];
-    let [runways, airports, types] = [[runway; 2], [airport; 2], [kind; 2]];
-    let alike = |dates, times| Flights {
-        dates,
-        times,
-        classes: &classes,
-        kinds: &kinds,
-        runways: &runways,
-        airports: &airports,
-        types: &types,
+    let (runways, airports, types, same) = ([runway; 2], [airport; 2], [kind; 2], [0; 2]);
+    let alike = |dates, times| {
+        let [runways, airports, types] = [&runways[..], &airports, &types];
+        Flights { dates, times, classes: &same, kinds: &same, runways, airports, types }
     };
     let movements = alike(&[20260331, 20260331], &[86_290, 86_290]);
     let tracks = alike(&[20260401, 20260401], &[300, 60]);
-    assert_eq!(couple(&movements, &[1, 0], &tracks), Ok(vec![None, Some(1)]));
-    assert_eq!(couple(&movements, &[0, 0], &tracks), Ok(vec![Some(1), None]));
-    assert_eq!(couple(&movements, &[0], &tracks), Err(Refusal::WRONG_FLIGHTS));
-    assert_eq!(couple(&alike(&[20260229, 20260331], &[0, 0]), &[0, 0], &tracks), Err(Refusal::WRONG_FLIGHTS));
+    let mut places = [9; 3];
+    assert_eq!(couple(&movements, &[0], &tracks, &mut places), Err(Refusal::WRONG_FLIGHTS));
+    assert_eq!(couple(&alike(&[20260229; 2], &[0; 2]), &[0; 2], &tracks, &mut []), Err(Refusal::WRONG_FLIGHTS));
+    assert_eq!(couple(&movements, &[0; 2], &tracks, &mut places[..1]), Err(Refusal::TOO_LITTLE_ROOM));
+    assert_eq!(places, [9; 3], "a refused call changes nothing");
+    assert_eq!((couple(&movements, &[1, 0], &tracks, &mut places), places), (Ok(()), [0, 2, 9]));
+    assert_eq!((couple(&movements, &[0, 0], &tracks, &mut places), places), (Ok(()), [2, 0, 9]));
     let none = Flights { dates: &[], times: &[], classes: &[], kinds: &[], runways: &[], airports: &[], types: &[] };
-    assert_eq!(couple(&none, &[], &tracks), Ok(vec![]));
-    assert_eq!(couple(&movements, &[0, 0], &none), Ok(vec![None, None]));
+    assert_eq!((couple(&none, &[], &tracks, &mut places), places), (Ok(()), [2, 0, 9]));
+    assert_eq!((couple(&movements, &[0, 0], &none, &mut places), places), (Ok(()), [0, 0, 9]));
 }
 
 /// 50,000 movements and tracks from a thread with a small stack.
 #[test]
 fn radar_tracks_from_a_small_stack() {
     let small = std::thread::Builder::new().stack_size(64 << 10).spawn(|| {
-        let (dates, same) = (vec![20260331; 50_000], vec![0; 50_000]);
-        let all = Flights {
-            dates: &dates,
-            times: &same,
-            classes: &same,
-            kinds: &same,
-            runways: &same,
-            airports: &same,
-            types: &same,
-        };
-        couple(&all, &same, &all)
+        let (dates, same, mut places) = (vec![20260331; 50_000], vec![0; 50_000], vec![0; 50_000]);
+        let [times, classes, kinds, runways, airports, types] = [&same[..]; 6];
+        let all = Flights { dates: &dates, times, classes, kinds, runways, airports, types };
+        (couple(&all, &same, &all, &mut places), places)
     });
     let answer = small.expect("a thread starts").join().expect("no fault");
-    assert_eq!(answer, Ok((0..50_000).map(Some).collect()));
+    assert_eq!(answer, (Ok(()), (1..=50_000).collect()));
 }
 
 /// The largest network with the most contours, from a thread with a small stack.

@@ -99,7 +99,7 @@ def fields():
     row("zero in front", 0, "017", 16, "'017', expected a whole number without a zero in front")
     row("blank number", 0, "", 16, "blank, expected a whole number of one to seven digits")
     row("large number", 0, "12345678", 16, "'12345678', expected a whole number of one to seven digits")
-    layout = "expected four digits, two and two with hyphens between them, as 2026-03-31"
+    layout = "expected yyyy-mm-dd, as 2026-03-31"
     row("date", 1, "31-03-2026", 16, f"'31-03-2026', {layout}")
     row("blank date", 1, "", 16, f"blank, {layout}")
     exists = "which doesn't exist, expected a date from 1900-01-01 to 9999-12-31"
