@@ -21,8 +21,8 @@ pub struct Flights<'a> {
     pub types: &'a [u32],
 }
 
-/// Finds the radar track of each movement (docs/RULES.md, Radar tracks). `circuits` has one number a movement, any but 0
-/// being a circuit; `places` gets one a movement: the place of its track in the list, counted from 1, or 0 for none.
+/// Finds the radar track of each movement (docs/RULES.md, Radar tracks). `circuits` has one number a movement, any but
+/// 0 being a circuit; `places` gets one a movement: the place of its track in the list from 1, or 0 for none.
 pub fn couple(movements: &Flights, circuits: &[u32], tracks: &Flights, places: &mut [u32]) -> Answer<()> {
     on_a_large_stack(|| couple_here(movements, circuits, tracks, places))
 }
