@@ -34,7 +34,8 @@ enum {
     OKUBINRAFO_TOO_LITTLE_ROOM = 14,      /* less room is lent than the answer needs */
     OKUBINRAFO_WRONG_LEVEL_ASKED = 15,    /* a limit or contour level outside its range */
     OKUBINRAFO_REGISTER_OFF_LAYOUT = 16,  /* the text of a register, or a journal's numbers */
-    OKUBINRAFO_NETWORK_OFF_LAYOUT = 17    /* the text of a network */
+    OKUBINRAFO_NETWORK_OFF_LAYOUT = 17,   /* the text of a network */
+    OKUBINRAFO_WRONG_FLIGHTS = 18         /* movements or tracks: too many, columns of unequal length, a value */
 };
 
 #ifdef __cplusplus
@@ -115,6 +116,24 @@ uint32_t okubinrafo_read_network(const uint8_t *text, size_t text_len, uint32_t 
                                  uint32_t *levels, size_t levels_len);
 /* size: 1 number, the bytes written. */
 uint32_t okubinrafo_write_network(OKUBINRAFO_NETWORK, uint8_t *text, size_t text_len, uint32_t *size, size_t size_len);
+
+/* Radar tracks (RULES, Radar tracks). A movement has eight columns and a track seven, up to 50,000 of each; either list
+ * may be empty. dates: year*10000 + month*100 + day, as 20260331; times: second of that day; classes: 0 aeroplane,
+ * 1 helicopter; kinds: 0 start, 1 landing; runways, airports, types: any numbers, which agree if they are equal (a name
+ * of up to four capital letters or digits is its bytes as one number, the first the most significant: "06" is 0x3036);
+ * circuits: any number but 0 is a circuit.
+ * tracks: one number a movement: the place of its track in the list from 1, or 0 for none. Refusals: 18, then 14. */
+uint32_t okubinrafo_couple(const uint32_t *dates, size_t dates_len, const uint32_t *times, size_t times_len,
+                           const uint32_t *classes, size_t classes_len, const uint32_t *kinds, size_t kinds_len,
+                           const uint32_t *runways, size_t runways_len, const uint32_t *airports, size_t airports_len,
+                           const uint32_t *types, size_t types_len, const uint32_t *circuits, size_t circuits_len,
+                           const uint32_t *track_dates, size_t track_dates_len,
+                           const uint32_t *track_times, size_t track_times_len,
+                           const uint32_t *track_classes, size_t track_classes_len,
+                           const uint32_t *track_kinds, size_t track_kinds_len,
+                           const uint32_t *track_runways, size_t track_runways_len,
+                           const uint32_t *track_airports, size_t track_airports_len,
+                           const uint32_t *track_types, size_t track_types_len, uint32_t *tracks, size_t tracks_len);
 
 /* The sentence for a refusal's number, in English, ASCII, no line end, at most 120 bytes; size: 1 number, the bytes
  * written. A number that is no refusal: 0 bytes. 14 last. */

@@ -6,7 +6,7 @@ import threading
 import unittest
 
 import okubinrafo
-from okubinrafo import Book, Network, Refused, Row, write_row
+from okubinrafo import Book, Network, Refused, Row, couple, write_row
 
 HILL = [4000] * 4 + [5000] + [4000] * 4
 GRID = b"ncols 2\r\nnrows 2\r\nxllcenter 5\r\nyllcenter 6\r\ncellsize 100\r\n1.00 2.00\r\n3.00 4.00\r\n"
@@ -154,7 +154,7 @@ class Arguments(unittest.TestCase):
 
 
 class Threads(unittest.TestCase):
-    """Contours need almost 2 MB of stack, which the threads here don't have."""
+    """Contours and couplings need 2 or 3 MB of stack, which the threads here don't have."""
 
     def answers(self, count, ask):
         before = threading.stack_size(64 * 1024)
@@ -177,8 +177,13 @@ class Threads(unittest.TestCase):
         asked = self.answers(4, lambda: (len(board.contours(7501)), board.print_contours(7501) == text))
         self.assertEqual(asked, [(32768, True)] * 4)
 
+    def test_a_coupling_from_a_small_stack(self):
+        flight = (20260331, 0, 0, 0, 1, 1, 1)
+        movements, tracks = [(*flight, 0)] * 50_000, [flight] * 50_000
+        self.assertEqual(self.answers(2, lambda: couple(movements, tracks)), [list(range(50_000))] * 2)
+
     def test_every_other_call(self):
-        """All functions in a thread of 64 KB, since only contours have a thread of their own."""
+        """All functions in a thread of 64 KB, since only contours and couplings have a thread of their own."""
         def ask():
             answers = {}
             for name in calls():

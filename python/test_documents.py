@@ -11,7 +11,7 @@ import unittest
 
 HERE = os.path.dirname(os.path.abspath(__file__))
 TOP = os.path.dirname(HERE)
-EXAMPLES = ("quarter/register.csv", "quarter/limits.csv", "network.asc")
+EXAMPLES = ("quarter/register.csv", "quarter/limits.csv", "network.asc", "tracks/movements.csv", "tracks/tracks.csv")
 
 
 def blocks(document):
@@ -22,7 +22,7 @@ def blocks(document):
 
 @contextlib.contextmanager
 def folder_with_examples():
-    """Changes to a folder of its own that has the quarter's files and the network."""
+    """Changes to a folder of its own that has the quarter's files, the network, and the flights."""
     before = os.getcwd()
     with tempfile.TemporaryDirectory() as folder:
         for name in EXAMPLES:

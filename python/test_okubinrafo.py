@@ -82,9 +82,9 @@ class Books(Case):
                 Book(1, 1).supply(1, [wrong])
 
     def test_sentences(self):
-        sentences = [okubinrafo.sentence(number) for number in range(1, 18)]
-        self.assertEqual(len({sentence for sentence in sentences if sentence}), 17)
-        self.assertEqual([okubinrafo.sentence(number) for number in (0, 18, 2**32 - 1)], ["", "", ""])
+        sentences = [okubinrafo.sentence(number) for number in range(1, 19)]
+        self.assertEqual(len({sentence for sentence in sentences if sentence}), 18)
+        self.assertEqual([okubinrafo.sentence(number) for number in (0, 19, 2**32 - 1)], ["", "", ""])
         refused = self.refused(3, Book(1, 1).withdraw, 0)
         self.assertEqual(refused.sentence, "the identity is not from 1 to 99,999")
         self.assertEqual(str(refused), "refused (3): the identity is not from 1 to 99,999")

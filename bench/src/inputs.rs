@@ -1,4 +1,4 @@
-//! What is measured: books, registers and networks, the same in every run.
+//! What is measured: books, registers, networks and flights, the same in every run.
 
 use reference::book::Columns;
 
@@ -55,6 +55,51 @@ pub fn register(rows: u32, points: u32) -> Vec<u8> {
         text += "\r\n";
     }
     text.into_bytes()
+}
+
+/// Movements and tracks as columns.
+pub struct Flights {
+    pub movements: [Vec<u32>; 7],
+    pub circuits: Vec<u32>,
+    pub tracks: [Vec<u32>; 7],
+}
+
+/// How the times of flights lie.
+#[derive(Clone, Copy, PartialEq, Eq)]
+pub enum Spread {
+    /// Over the days of 2025, as at an airfield with two runways.
+    Year,
+    /// All alike, within 5 minutes.
+    Window,
+}
+
+pub const SPREADS: [(&str, Spread); 2] = [("over a year", Spread::Year), ("all in one window", Spread::Window)];
+
+/// As many movements as tracks; those of a year lie up to 400 seconds apart from their movement.
+pub fn flights(count: usize, spread: Spread) -> Flights {
+    let mut numbers = Numbers::new();
+    let mut flights = Flights { movements: Default::default(), circuits: vec![0; count], tracks: Default::default() };
+    for _ in 0..count {
+        let year = spread == Spread::Year;
+        let (month, day) = if year { (1 + numbers.below(12), 1 + numbers.below(28)) } else { (6, 1) };
+        let second = if year { numbers.below(86_000) } else { numbers.below(300) };
+        let later = if year { second + numbers.below(400) } else { numbers.below(300) };
+        let mut any = |values: u32| if year { numbers.below(values) } else { 0 };
+        let alike = [any(2), any(2), 6 + any(2), 7, any(12)];
+        let date = 20_250_000 + 100 * month + day;
+        for (columns, time) in [(&mut flights.movements, second), (&mut flights.tracks, later)] {
+            let [class, kind, runway, airport, designator] = alike;
+            for (column, value) in columns.iter_mut().zip([date, time, class, kind, runway, airport, designator]) {
+                column.push(value);
+            }
+        }
+    }
+    // Tracks come in an order of their own.
+    for last in (1..count).rev() {
+        let other = numbers.below(last as u32 + 1) as usize;
+        flights.tracks.iter_mut().for_each(|column| column.swap(last, other));
+    }
+    flights
 }
 
 /// The level of the contours measured.

@@ -2,6 +2,7 @@
 //! OKUBINRAFO_LIB names the library; `--networks FOLDER` only writes the networks, for the comparison with contourpy.
 
 mod books;
+mod flights;
 mod inputs;
 #[allow(dead_code)]
 #[path = "../../reference/tests/library/library.rs"]
@@ -20,10 +21,17 @@ fn main() {
 
 type Measurement = fn(&library::Library);
 
-const RATIOS: [Measurement; 5] = [books::loads, books::shifts, books::registers, networks::contours, networks::texts];
+const RATIOS: [Measurement; 6] =
+    [books::loads, books::shifts, books::registers, networks::contours, networks::texts, flights::couplings];
 
-const GROWTH: [Measurement; 5] =
-    [books::load_grows, books::shift_grows, books::register_grows, networks::contours_grow, networks::text_grows];
+const GROWTH: [Measurement; 6] = [
+    books::load_grows,
+    books::shift_grows,
+    books::register_grows,
+    networks::contours_grow,
+    networks::text_grows,
+    flights::couplings_grow,
+];
 
 fn print_tables(library: &library::Library) {
     println!("| what | library | beside it | ratio | goal |\n|---|---|---|---|---|");

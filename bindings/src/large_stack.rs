@@ -1,4 +1,4 @@
-//! Contours need almost 2 MB of stack, which not every thread has: they run in a thread of their own.
+//! Contours need almost 2 MB of stack and a coupling 3, which not every thread has: they run in a thread of their own.
 
 use std::thread;
 

@@ -90,6 +90,15 @@ exported! {
         levels: Numbers, levels_len: usize, columns: u32, rows: u32, spacing: u32, west: u32, south: u32,
         text: Text, text_len: usize, size: Room, size_len: usize,
     );
+    fn okubinrafo_couple(
+        dates: Numbers, dates_len: usize, times: Numbers, times_len: usize, classes: Numbers, classes_len: usize,
+        kinds: Numbers, kinds_len: usize, runways: Numbers, runways_len: usize, airports: Numbers, airports_len: usize,
+        types: Numbers, types_len: usize, circuits: Numbers, circuits_len: usize,
+        track_dates: Numbers, track_dates_len: usize, track_times: Numbers, track_times_len: usize,
+        track_classes: Numbers, track_classes_len: usize, track_kinds: Numbers, track_kinds_len: usize,
+        track_runways: Numbers, track_runways_len: usize, track_airports: Numbers, track_airports_len: usize,
+        track_types: Numbers, track_types_len: usize, tracks: Room, tracks_len: usize,
+    );
     fn okubinrafo_sentence(refusal: u32, text: Text, text_len: usize, size: Room, size_len: usize);
 }
 

@@ -40,6 +40,7 @@ refusals! {
     WRONG_LEVEL_ASKED = 15, "a limit or contour level is outside its range";
     REGISTER_OFF_LAYOUT = 16, "the text of a register, or a journal's numbers";
     NETWORK_OFF_LAYOUT = 17, "the text of a network";
+    WRONG_FLIGHTS = 18, "too many movements or tracks, columns of unequal length, or a value out of its range";
 }
 
 impl Refusal {
@@ -84,7 +85,7 @@ mod tests {
         let header: Vec<_> = include_str!("../../include/okubinrafo.h").lines().filter_map(named).collect();
         assert_eq!(header, Refusal::ALL);
         assert_eq!(header.last().map(|(_, refusal)| refusal.0), Some(header.len() as u32));
-        assert!(header.len() >= 17);
+        assert!(header.len() >= 18);
     }
 
     #[test]

@@ -1,7 +1,7 @@
 //! The rules' own numbers through the library: examples/document gives the level 56.66, which is over 56.65.
 
-use okubinrafo::{read_network, read_row, write_row, Account, Along, Book, Frame, Group, Network, Refusal, Row, Sizes};
-use okubinrafo::{GROUPS, ROW_BYTES};
+use okubinrafo::{couple, name_number, read_network, read_row, write_row};
+use okubinrafo::{Account, Along, Book, Flights, Frame, Group, Network, Refusal, Row, Sizes, GROUPS, ROW_BYTES};
 
 const ROWS: usize = 10;
 const POINTS: usize = 1;
@@ -141,6 +141,43 @@ fn texts() {
     assert_eq!(read, Row { identity: 4, aircraft: 2, mass: 3000, kind: 1, time: 82_800, computed: false });
     assert_eq!(write_row(&read, &[0], 1, &mut text), Ok(&row[..]));
     assert_eq!(write_row(&read, &[1], 1, &mut text), Err(Refusal::WRONG_LEVELS));
+}
+
+/// An aeroplane that leaves before midnight and is seen behind it, its circuit, and a track that is too late.
+#[test]
+fn radar_tracks() {
+    let [runway, airport, kind] = ["06", "EHBK", "B738"].map(|name| name_number(name).expect("a name"));
+    assert_eq!((runway, name_number("EHBKX"), name_number(""), name_number("b")), (0x3036, None, None, None));
+    let (runways, airports, types, same) = ([runway; 2], [airport; 2], [kind; 2], [0; 2]);
+    let alike = |dates, times| {
+        let [runways, airports, types] = [&runways[..], &airports, &types];
+        Flights { dates, times, classes: &same, kinds: &same, runways, airports, types }
+    };
+    let movements = alike(&[20260331, 20260331], &[86_290, 86_290]);
+    let tracks = alike(&[20260401, 20260401], &[300, 60]);
+    let mut places = [9; 3];
+    assert_eq!(couple(&movements, &[0], &tracks, &mut places), Err(Refusal::WRONG_FLIGHTS));
+    assert_eq!(couple(&alike(&[20260229; 2], &[0; 2]), &[0; 2], &tracks, &mut []), Err(Refusal::WRONG_FLIGHTS));
+    assert_eq!(couple(&movements, &[0; 2], &tracks, &mut places[..1]), Err(Refusal::TOO_LITTLE_ROOM));
+    assert_eq!(places, [9; 3], "a refused call changes nothing");
+    assert_eq!((couple(&movements, &[1, 0], &tracks, &mut places), places), (Ok(()), [0, 2, 9]));
+    assert_eq!((couple(&movements, &[0, 0], &tracks, &mut places), places), (Ok(()), [2, 0, 9]));
+    let none = Flights { dates: &[], times: &[], classes: &[], kinds: &[], runways: &[], airports: &[], types: &[] };
+    assert_eq!((couple(&none, &[], &tracks, &mut places), places), (Ok(()), [2, 0, 9]));
+    assert_eq!((couple(&movements, &[0, 0], &none, &mut places), places), (Ok(()), [0, 0, 9]));
+}
+
+/// 50,000 movements and tracks from a thread with a small stack.
+#[test]
+fn radar_tracks_from_a_small_stack() {
+    let small = std::thread::Builder::new().stack_size(64 << 10).spawn(|| {
+        let (dates, same, mut places) = (vec![20260331; 50_000], vec![0; 50_000], vec![0; 50_000]);
+        let [times, classes, kinds, runways, airports, types] = [&same[..]; 6];
+        let all = Flights { dates: &dates, times, classes, kinds, runways, airports, types };
+        (couple(&all, &same, &all, &mut places), places)
+    });
+    let answer = small.expect("a thread starts").join().expect("no fault");
+    assert_eq!(answer, (Ok(()), (1..=50_000).collect()));
 }
 
 /// The largest network with the most contours, from a thread with a small stack.

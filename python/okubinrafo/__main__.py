@@ -1,4 +1,4 @@
-"""python3 -m okubinrafo: the programs report and explain, for books of up to 50,000 rows."""
+"""python3 -m okubinrafo: the programs report and explain, for books of up to 50,000 rows, and couple."""
 
 import argparse
 import contextlib
@@ -7,13 +7,14 @@ import sys
 
 from . import __version__, reports
 from .books import MAX_ROWS, Book
+from .flights import couple, read_movements, read_tracks
 from .library import LibraryMissing
 from .refusals import Refused
 from .registers import OFF_LAYOUT, read_into, read_limits
 
 ANSWERED, REFUSED, USAGE, FAILED = 0, 1, 2, 3
 _INPUT, _OUTPUT = 0, 1
-_TEXTS = {"report": reports.report, "explain": reports.explain}
+_BOOK_TEXTS = {"report": reports.report, "explain": reports.explain}
 # More than any limits.csv on its layout has.
 _LIMITS_BYTES = 65_536
 _EPILOG = "Exit status: 0 answered, 1 refused, 2 wrong usage, 3 the answer was not written or the library not loaded."
@@ -34,8 +35,9 @@ def main(arguments=None):
     """Answers with the exit status."""
     parser = _parser()
     asked = parser.parse_args(arguments)
-    if asked.register is None and os.isatty(_INPUT):
-        parser.error("name a register, or give it on standard input")
+    if asked.input is None and os.isatty(_INPUT):
+        wanted = "the movements, or give them" if asked.command == "couple" else "a register, or give it"
+        parser.error(f"name {wanted} on standard input")
     try:
         text, status = _answer(asked)
     except LibraryMissing as missing:
@@ -48,32 +50,55 @@ def _parser():
     parser = _Parser(prog="python3 -m okubinrafo", description=__doc__, epilog=_EPILOG, allow_abbrev=False)
     parser.add_argument("--version", action="version", version=f"okubinrafo {__version__}")
     commands = parser.add_subparsers(dest="command", metavar="COMMAND", required=True)
-    for name, text in _TEXTS.items():
-        told = {"help": text.__doc__, "description": text.__doc__, "epilog": _EPILOG}
-        command = commands.add_parser(name, allow_abbrev=False, **told)
-        command.add_argument("register", nargs="?", metavar="REGISTER", help="standard input where none is named")
-        command.add_argument("--limits", metavar="FILE", default="limits.csv", help="limits.csv where none is named")
+    for name, text in _BOOK_TEXTS.items():
+        _add_command(commands, name, text, "REGISTER", "limits")
+    _add_command(commands, "couple", reports.coupled, "MOVEMENTS", "tracks")
     return parser
+
+
+def _add_command(commands, name, text, input_name, beside):
+    told = {"help": text.__doc__, "description": text.__doc__, "epilog": _EPILOG}
+    command = commands.add_parser(name, allow_abbrev=False, **told)
+    command.add_argument("input", nargs="?", metavar=input_name, help="standard input where none is named")
+    file = f"{beside}.csv"
+    command.add_argument(f"--{beside}", dest="beside", metavar="FILE", default=file, help=f"{file} where none is named")
 
 
 def _answer(asked):
     """The text that answers, or the line of a refusal, and the exit status."""
-    place = asked.limits
+    begun = []  # the files that are read: a refusal is of the last
     try:
-        limits = _read_limits(asked.limits)
-        place = "standard input" if asked.register is None else asked.register
-        book = Book(MAX_ROWS, len(limits.limits))
-        passed_over = _read_register(book, asked.register).passed_over
-        text = _TEXTS[asked.command](book, limits)
+        text, sentence = (_coupled if asked.command == "couple" else _of_a_book)(asked, begun.append)
     except Refused as refused:
         cause = refused.__cause__
         reason = refused.sentence if cause is None else cause.strerror or cause
-        where = f"{place}, line {refused.line}" if refused.line else place
+        where = f"{begun[-1]}, line {refused.line}" if refused.line else begun[-1]
         _say(f"okubinrafo: {where}: refused {refused.number}: {reason}")
         return f"refused,{refused.number},{refused.line or 0}\r\n", REFUSED
-    if passed_over:
-        _say(f"okubinrafo: rows of 150 kg or less that were passed over: {passed_over}")
+    if sentence:
+        _say(f"okubinrafo: {sentence}")
     return text, ANSWERED
+
+
+def _of_a_book(asked, begin):
+    """The text of report or explain, and a sentence on rows that were passed over."""
+    begin(asked.beside)
+    limits = _read_limits(asked.beside)
+    begin(asked.input or "standard input")
+    book = Book(MAX_ROWS, len(limits.limits))
+    passed_over = _read(asked.input, lambda file: read_into(book, file)).passed_over
+    text = _BOOK_TEXTS[asked.command](book, limits)
+    return text, passed_over and f"rows of 150 kg or less that were passed over: {passed_over}"
+
+
+def _coupled(asked, begin):
+    """The text of couple, and a sentence that counts what it says."""
+    begin(asked.beside)
+    tracks = _read(asked.beside, read_tracks)
+    begin(asked.input or "standard input")
+    movements = _read(asked.input, read_movements)
+    places = couple(movements, tracks)
+    return reports.coupled(movements, tracks, places), reports.counted(movements, tracks, places)
 
 
 def _read_limits(path):
@@ -93,13 +118,14 @@ def _read_limits(path):
     return limits
 
 
-def _read_register(book, path):
+def _read(path, read):
+    """What is read of a file, or of standard input where no path is named."""
     try:
         file = open(_INPUT, "rb", closefd=False) if path is None else open(path, "rb")
     except OSError as error:
         raise Refused(OFF_LAYOUT, 1) from error
     with file:
-        return read_into(book, file)
+        return read(file)
 
 
 def _written(text):

@@ -13,7 +13,8 @@ U8, U32, U64, F64 = ctypes.c_uint8, ctypes.c_uint32, ctypes.c_uint64, ctypes.c_d
 _BESIDE = os.path.join(os.path.dirname(os.path.abspath(__file__)), "libokubinrafo.so")
 _BUILD = "tools/native-lib okubinrafo python/okubinrafo/libokubinrafo.so"
 _MAX_NUMBER = 2**32 - 1
-_TEXTS = (str, bytes, bytearray, memoryview)
+# What can be gone through one by one and is no list.
+TEXTS = (str, bytes, bytearray, memoryview)
 
 # What the functions of include/okubinrafo.h take: n is a number, the other letters are slices.
 _SLICES = {"b": U8, "i": U32, "q": U64, "d": F64}
@@ -36,11 +37,12 @@ FACES = {
     "write_row": "iinbi",
     "read_network": "bii",
     "write_network": _NETWORK + "bi",
+    "couple": 16 * "i",
     "sentence": "nbi",
 }
 
-# These need almost 2 MB of stack, which not every thread has: they run in a thread of their own.
-_LARGE = ("contours", "print_contours")
+# These need 2 or 3 MB of stack, which not every thread has: they run in a thread of their own.
+_LARGE = ("contours", "print_contours", "couple")
 _LARGE_STACK = 8 << 20
 _starting = threading.Lock()
 
@@ -77,7 +79,7 @@ def whole(value):
 
 def numbers(values):
     """A slice of numbers. Text and bytes are none, though they can be gone through one by one."""
-    if isinstance(values, _TEXTS):
+    if isinstance(values, TEXTS):
         raise TypeError(f"numbers are expected, not {type(values).__name__}")
     values = [whole(value) for value in values]
     return (U32 * len(values))(*values)

@@ -1,4 +1,4 @@
-"""The texts of the programs report and explain."""
+"""The texts of the programs report, explain and couple."""
 
 _TYPES, _KINDS, _PERIODS = "GKH", "SL", ("day", "evening", "night")
 
@@ -20,6 +20,20 @@ def explain(book, limits):
     for point in range(len(limits.limits)):
         lines += explained(point + 1, book.account(point, limits.days))
     return _text(lines)
+
+
+def coupled(movements, tracks, places):
+    """A line a movement: its id and the number of its radar track, blank where it takes none."""
+    numbers = ("" if place is None else tracks[place].track for place in places)
+    return _text(["id,track", *(f"{movement.id},{number}" for movement, number in zip(movements, numbers))])
+
+
+def counted(movements, tracks, places):
+    """How many movements have a track, why the others have none, and how many tracks are left."""
+    found = sum(place is not None for place in places)
+    circuits = sum(movement.class_ == 0 and movement.circuit for movement in movements)
+    none = f"{circuits} aeroplane circuits take none, {len(movements) - found - circuits} found none"
+    return f"movements: {found} of {len(movements)} have a track, {none}; tracks left: {len(tracks) - found}"
 
 
 def explained(point, account):

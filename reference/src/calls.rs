@@ -4,6 +4,7 @@
 use crate::account::{self, Group};
 use crate::book::{read_journal, Book, Columns};
 use crate::contour;
+use crate::coupling;
 use crate::grid;
 use crate::load;
 use crate::mapping::{crossing as crossing_of, map_point as map_point_of};
@@ -141,6 +142,18 @@ fn put_text(text: &mut [u8], size: &mut [u32], written: &str) -> Answer<()> {
     put(text, written.as_bytes());
     put(size, &[written.len() as u32]);
     Ok(())
+}
+
+/// The columns of movements without their circuits, those, and the columns of tracks.
+pub fn couple(movements: coupling::Columns, circuits: &[u32], tracks: coupling::Columns, answer: &mut [u32]) -> u32 {
+    number(coupling::read_movements(movements, circuits).and_then(|movements| {
+        let tracks = coupling::read_flights(tracks)?;
+        room(answer.len() >= movements.len())?;
+        let from_1 = |place: Option<usize>| place.map_or(0, |place| place as u32 + 1);
+        let taken: Vec<u32> = coupling::couple(&movements, &tracks).into_iter().map(from_1).collect();
+        put(answer, &taken);
+        Ok(())
+    }))
 }
 
 pub fn sentence(refusal: u32, text: &mut [u8], size: &mut [u32]) -> u32 {

@@ -4,9 +4,12 @@
 pub mod account;
 pub mod big;
 pub mod book;
+pub mod calendar;
 pub mod calls;
 pub mod contour;
 pub mod contours_csv;
+pub mod couple_csv;
+pub mod coupling;
 pub mod explain;
 pub mod grid;
 pub mod level;
@@ -41,11 +44,12 @@ pub enum Refusal {
     Range = 15,
     Register = 16,
     Grid = 17,
+    Flights = 18,
 }
 
 impl Refusal {
     /// All of them, in the order of their numbers.
-    pub const ALL: [Refusal; 17] = [
+    pub const ALL: [Refusal; 18] = [
         Refusal::Movement,
         Refusal::TooLight,
         Refusal::Identity,
@@ -63,6 +67,7 @@ impl Refusal {
         Refusal::Range,
         Refusal::Register,
         Refusal::Grid,
+        Refusal::Flights,
     ];
 }
 

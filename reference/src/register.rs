@@ -2,7 +2,7 @@
 
 use crate::book::MAX_POINTS;
 use crate::movement::{check_identity, Movement, MAX_LEVEL};
-use crate::text::{level, lines, spell_level, spell_time, time, whole, without_crlf};
+use crate::text::{letter, level, lines, spell_level, spell_time, time, whole, without_crlf};
 use crate::{ensure, Answer, Refusal};
 
 const TYPES: &[u8; 3] = b"GKH";
@@ -65,11 +65,6 @@ fn spelled_row(line: &[u8], points: u32) -> Option<Row> {
         mass: whole(mass)?,
     };
     Some(Row { identity: whole(identity)?, movement, levels })
-}
-
-fn letter(field: &[u8], letters: &[u8]) -> Option<u32> {
-    let &[byte] = field else { return None };
-    letters.iter().position(|&letter| letter == byte).map(|place| place as u32)
 }
 
 /// The header of a register, without CRLF.

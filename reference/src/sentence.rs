@@ -23,8 +23,12 @@ fn of(refusal: Refusal) -> &'static str {
         Refusal::NetworkLevel => "network: a level is over 150.00, or is the no-data value",
         Refusal::Room => "the room lent for the answer is too small",
         Refusal::Range => "a limit is over 120.00, or a contour level is not from 0.01 to 150.00",
-        Refusal::Register => "the register, limits.csv or the journal is off its layout",
+        Refusal::Register => "the register, limits.csv, movements, tracks.csv or the journal is off its layout",
         Refusal::Grid => "network: a line is off its layout, or its line end is LF where CRLF is expected",
+        Refusal::Flights => {
+            "movements or tracks: over 50,000, columns of unequal length, class or kind over 1, \
+             second over 86,399, or no such date"
+        }
     }
 }
 
@@ -39,10 +43,10 @@ mod tests {
 
     #[test]
     fn every_refusal_has_a_sentence_of_its_own() {
-        let sentences: Vec<_> = (1..=17).map(sentence).collect();
+        let sentences: Vec<_> = (1..=18).map(sentence).collect();
         for (place, one) in sentences.iter().enumerate() {
             assert!(!one.is_empty() && !sentences[..place].contains(one), "{}", place + 1);
         }
-        assert_eq!([sentence(0), sentence(18)], ["", ""]);
+        assert_eq!([sentence(0), sentence(19)], ["", ""]);
     }
 }

@@ -46,6 +46,25 @@ pub fn time(field: &[u8]) -> Option<u32> {
     (hour <= 23 && minute <= 59 && second <= 59).then_some((hour * 60 + minute) * 60 + second)
 }
 
+/// yyyy-mm-dd as year·10000 + month·100 + day, whether there is such a date or not.
+pub fn date(field: &[u8]) -> Option<u32> {
+    let &[y, z, a, b, b'-', m, n, b'-', d, e] = field else { return None };
+    digits(&[y, z, a, b, m, n, d, e])
+}
+
+/// A runway, an airport or a type designator: one to four capital letters or digits, their bytes as one number.
+pub fn name(field: &[u8]) -> Option<u32> {
+    let spelled = |byte: &u8| byte.is_ascii_uppercase() || byte.is_ascii_digit();
+    let right = (1..=4).contains(&field.len()) && field.iter().all(spelled);
+    right.then(|| field.iter().fold(0, |number, &byte| number << 8 | u32::from(byte)))
+}
+
+/// One of these letters by its place.
+pub fn letter(field: &[u8], letters: &[u8]) -> Option<u32> {
+    let &[byte] = field else { return None };
+    letters.iter().position(|&letter| letter == byte).map(|place| place as u32)
+}
+
 fn digits(field: &[u8]) -> Option<u32> {
     field.iter().try_fold(0, |sum, digit| digit.is_ascii_digit().then(|| sum * 10 + u32::from(digit - b'0')))
 }
@@ -113,5 +132,23 @@ mod tests {
             assert_eq!(time(wrong), None, "{wrong:?}");
         }
         assert_eq!(spell_time(86_399), "23:59:59");
+    }
+
+    #[test]
+    fn dates() {
+        let spelled = [&b"2026-03-31"[..], b"0000-00-00", b"9999-99-99"].map(date);
+        assert_eq!(spelled, [Some(20260331), Some(0), Some(99999999)]);
+        for wrong in [&b""[..], b"2026-3-31", b"2026-03-1", b"12026-03-31", b"26-03-31", b"2026-03-31 ", b"2026.03.31"]
+        {
+            assert_eq!(date(wrong), None, "{wrong:?}");
+        }
+    }
+
+    #[test]
+    fn names() {
+        assert_eq!((name(b"EHBK"), name(b"06"), name(b"Z")), (Some(0x4548_424b), Some(0x3036), Some(0x5a)));
+        for wrong in [&b""[..], b"EHBKX", b"eh", b"06 ", b"6\xc3", b"A-B", b"@", b"[", b"/", b":"] {
+            assert_eq!(name(wrong), None, "{wrong:?}");
+        }
     }
 }

@@ -167,3 +167,33 @@ pub unsafe extern "C" fn okubinrafo_read_network(
     let (header, levels) = (from_raw_parts_mut(header, header_len), from_raw_parts_mut(levels, levels_len));
     calls::read_network(from_raw_parts(text, text_len), header, levels)
 }
+
+/// One column that is lent for reading.
+macro_rules! lent {
+    ($($column:ident $length:ident)*) => { [$(from_raw_parts($column, $length)),*] };
+}
+
+#[rustfmt::skip]
+#[no_mangle]
+pub unsafe extern "C" fn okubinrafo_couple(
+    dates: *const u32, dates_len: usize, times: *const u32, times_len: usize,
+    classes: *const u32, classes_len: usize, kinds: *const u32, kinds_len: usize,
+    runways: *const u32, runways_len: usize, airports: *const u32, airports_len: usize,
+    types: *const u32, types_len: usize, circuits: *const u32, circuits_len: usize,
+    track_dates: *const u32, track_dates_len: usize, track_times: *const u32, track_times_len: usize,
+    track_classes: *const u32, track_classes_len: usize, track_kinds: *const u32, track_kinds_len: usize,
+    track_runways: *const u32, track_runways_len: usize, track_airports: *const u32, track_airports_len: usize,
+    track_types: *const u32, track_types_len: usize, tracks: *mut u32, tracks_len: usize,
+) -> u32 {
+    let movements = lent!(
+        dates dates_len times times_len classes classes_len kinds kinds_len
+        runways runways_len airports airports_len types types_len
+    );
+    let columns = lent!(
+        track_dates track_dates_len track_times track_times_len track_classes track_classes_len
+        track_kinds track_kinds_len track_runways track_runways_len track_airports track_airports_len
+        track_types track_types_len
+    );
+    let answer = from_raw_parts_mut(tracks, tracks_len);
+    calls::couple(movements, from_raw_parts(circuits, circuits_len), columns, answer)
+}

@@ -10,6 +10,7 @@ macro_rules! with_network {
 }
 
 mod books;
+mod flights;
 mod networks;
 mod texts;
 
@@ -18,6 +19,7 @@ use crate::random::Random;
 use crate::rounds::{rounds, Telling};
 
 pub use books::{account, change, load, verdict, Book, Change};
+pub use flights::couple;
 pub use networks::{ask, contours, Asked, Rooms};
 pub use texts::{read_network, read_row, write, Written};
 

@@ -54,6 +54,11 @@ exported! {
     write_row(Numbers, usize, Numbers, usize, u32, Text, usize, Room, usize);
     read_network(Bytes, usize, Room, usize, Room, usize);
     write_network(Numbers, usize, u32, u32, u32, u32, u32, Text, usize, Room, usize);
+    couple(
+        Numbers, usize, Numbers, usize, Numbers, usize, Numbers, usize, Numbers, usize, Numbers, usize, Numbers, usize,
+        Numbers, usize, Numbers, usize, Numbers, usize, Numbers, usize, Numbers, usize, Numbers, usize, Numbers, usize,
+        Numbers, usize, Room, usize
+    );
     sentence(u32, Text, usize, Room, usize);
 }
 

@@ -10,6 +10,9 @@ mod damage;
 #[path = "../shared/drawn.rs"]
 mod drawn;
 mod drawn_books;
+#[path = "../shared/flights.rs"]
+mod drawn_flights;
+mod flights;
 mod lent;
 mod levels;
 mod library;

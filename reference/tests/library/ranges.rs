@@ -2,5 +2,6 @@
 //! rules' own, so that the reference is held to them too.
 
 mod books;
+mod flights;
 mod networks;
 mod texts;

@@ -68,7 +68,7 @@ fn explanations() {
         let limits: Vec<u32> = (0..points).map(|_| random.within(0, 12_000)).collect();
         let limits = a_limits_file(random, aim, days, &limits);
         let delivery = a_delivery(random, "explain", &register);
-        count(&agree(&program, explain, limits.as_deref(), &register, &delivery));
+        count(&agree(&program, "limits.csv", explain, limits.as_deref(), &register, &delivery));
     });
 }
 
@@ -94,7 +94,7 @@ fn the_documents_file_explained() {
             ("", "1,all,,,0,0,,0,0\r\n"),
         ] {
             let register = HEADER.to_string() + rows;
-            let answer = agree(&program, explain, Some(LIMITS), register.as_bytes(), &Delivery::File);
+            let answer = agree(&program, "limits.csv", explain, Some(LIMITS), register.as_bytes(), &Delivery::File);
             assert_eq!(answer, header.to_string() + expected);
             count(&answer);
         }

@@ -63,7 +63,7 @@ fn count(answer: &str, register: &[u8]) {
 
 /// Runs the program and compares.
 fn compare(program: &Program, limits: Option<&[u8]>, register: &[u8], delivery: &Delivery) -> String {
-    agree(program, report, limits, register, delivery)
+    agree(program, "limits.csv", report, limits, register, delivery)
 }
 
 #[test]
