@@ -20,7 +20,8 @@ use Rattle.flights.specs.Cell.{cellOf, cellAt, gotAt, valueAt}
 use Rattle.flights.specs.Row.{refusedFlight, readFlight, judgedFlight, valuesOf, rowOf, flightOf}
 use Rattle.flights.specs.declared.Flight.{Flight}
 use Rattle.flights.specs.{Spelled.column, Spelled.Spells, Exact.RowExactly}
-use Rattle.flights.proofs.{Dates.date-exact, Dates.date-back, Names.name-named, Names.named-name}
+use Rattle.flights.proofs.Dates.{date-exact, date-back, date-digits}
+use Rattle.flights.proofs.Names.{name-named, named-name}
 use Rattle.flights.proofs.Circuits.{circuit-spelled, spelled-circuit}
 
 -- a row on its layout: how many fields it has, and that each was read
@@ -110,7 +111,7 @@ module _ (columns : ℕ) (row : List ℕ) (l : Laid columns (bareLine row)) wher
         each = values-length columns (bareLine row) (l .layout);
         number = whole-exact (column row 0) (getD v 0 0) number;
         number< = whole-small (column row 0) (getD v 0 0) number;
-        date = date .0;
+        date = date .0 ∙ date-digits (getD v 1 0) (date .1);
         date< = date .1;
         time = time .0;
         time< = time .1;
@@ -136,7 +137,8 @@ module _ (columns : ℕ) (row values : List ℕ) (w : Spells columns row values)
   cell : (k : ℕ) → k < columns → cellAt (bareLine row) k ≡ Got (getD values k 0)
   unfolding cellOf
   cell zero h = rw (w .number) (whole-back (getD values 0 0) (w .number<))
-  cell (suc zero) h = rw (w .date) (date-back (getD values 1 0) (w .date<))
+  cell (suc zero) h =
+      rw (w .date ∙ sym (date-digits (getD values 1 0) (w .date<))) (date-back (getD values 1 0) (w .date<))
   cell (suc (suc zero)) h = rw (w .time) (time-back (getD values 2 0) (w .time<))
   cell (suc (suc (suc zero))) h =
       rw (w .class) (two-back 86 72 (λ e. absurd (omega arith)) (getD values 3 0) (w .class<))
