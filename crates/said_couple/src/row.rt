@@ -179,11 +179,7 @@ fn field_off(out: &mut [u8; ROOM], at: usize, k: usize, t: &[u8]) -> usize {
 // What was expected.
 fn expected(out: &mut [u8; ROOM], at: usize, k: usize) -> usize {
     if k == DATE {
-        return words(
-            out,
-            at,
-            b", expected four digits, two and two with hyphens between them, as 2026-03-31",
-        );
+        return words(out, at, b", expected yyyy-mm-dd, as 2026-03-31");
     }
     if k == CLASS {
         return words(out, at, b", expected V (aeroplane) or H (helicopter)");
