@@ -9,3 +9,5 @@ pub mod Streams
 pub mod Sames
 pub mod Indices
 pub mod Within
+pub mod Clocks
+pub mod Letters

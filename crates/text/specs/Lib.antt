@@ -4,4 +4,6 @@ pub mod Line
 pub mod Same
 pub mod Index
 pub mod Spelled
+pub mod Clock
+pub mod Letter
 pub mod InnerWithin
