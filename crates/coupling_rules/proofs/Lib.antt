@@ -12,4 +12,5 @@ pub mod Orders
 pub mod Same
 pub mod Refusing
 pub mod Packing
+pub mod Ranks
 pub mod Taking
