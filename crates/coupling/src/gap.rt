@@ -6,7 +6,7 @@ ghost use Rattle.coupling_rules.specs.Rule.{distance};
 ghost use Rattle.coupling_rules.specs.InnerSides.{headGap};
 ghost use Rattle.coupling_rules.specs.InnerPacked.{ranked, gapBetween, packedBefore, rankIn};
 ghost use Rattle.coupling.specs.InnerTurn.{wantedRank, gapFrom};
-use sorting::key_at;
+use sorting::core::key_at;
 
 // What a movement asks of a track: its class as two numbers, its moment, and its reach: one more than the seconds that
 // a track may be away, 0 where it takes none.

@@ -13,7 +13,7 @@ use crate::limits::AEROPLANE_WINDOW;
 use crate::limits::HELICOPTER_WINDOW;
 use crate::order::in_order;
 use crate::turn::turn;
-use sorting::key_at;
+use sorting::core::key_at;
 
 // The number at place i of a column; 0 past the last.
 fn value_at(column: &[u32], i: u32) -> u32

@@ -12,7 +12,7 @@ use crate::gap::comes_before;
 use crate::gap::head_gap;
 use crate::gap::same_rank;
 use crate::pack::wide;
-use sorting::copy_over;
+use sorting::core::copy_over;
 
 // The end of the run of tracks in `order`, from `at` on, of one class and moment.
 fn run_end(order: &[u32], at: usize, highs: &[u64], lows: &[u64], moments: &[u64]) -> usize
