@@ -7,3 +7,4 @@ mod maps;
 mod networks;
 mod rows;
 mod sentences;
+mod tracks;
