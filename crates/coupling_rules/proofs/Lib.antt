@@ -14,3 +14,6 @@ pub mod Refusing
 pub mod Packing
 pub mod Ranks
 pub mod Taking
+pub mod Sooner
+pub mod Fitting
+pub mod Promised
