@@ -15,7 +15,8 @@ use Rattle.flights.specs.Header.{trackHeader, movementHeader, isHeader, 
 use Rattle.flights.specs.{Row.refusedFlight, Row.flightOf, Limits.longestRow, Limits.longestHeader}
 use Rattle.flights.specs.Spelled.{Circuit}
 use Rattle.flights.specs.Spelled.Circuit.{blank, marked}
-use Rattle.flights.proofs.{Dates.date-exact, Names.name-few, Circuits.circuit-spelled, Exact.Laid, Exact.row-laid}
+use Rattle.flights.proofs.{Dates.date-exact, Names.name-few, Circuits.circuit-spelled, Exact.Laid}
+use Rattle.flights.proofs.Exact.{row-laid}
 
 -- the most bytes that column k has
 width : ℕ → ℕ
@@ -81,7 +82,8 @@ long-track row h =
     (row-laid 8 row)
 
 -- and a longer line is no header
-pub long-header : (columns : ℕ) (line : List ℕ) → longestHeader < length line → headerRefusal columns line ≡ 16
+pub long-header : (columns : ℕ) (line : List ℕ) → longestHeader < length line
+    → headerRefusal columns line ≡ 16
 unfolding isHeader
 long-header columns line h =
     let tracks = same-length line trackHeader (λ e. omega arith) in

@@ -22,7 +22,8 @@ pub data Named (text : List ℕ) (number : ℕ) : Type 0 where
   three : (a b c : ℕ) → NameByte a → NameByte b → NameByte c → text ≡ a ∷ b ∷ c ∷ []
       → number ≡ 65536 * a + 256 * b + c → Named text number
   four : (a b c d : ℕ) → NameByte a → NameByte b → NameByte c → NameByte d
-      → text ≡ a ∷ b ∷ c ∷ d ∷ [] → number ≡ 16777216 * a + 65536 * b + 256 * c + d → Named text number
+      → text ≡ a ∷ b ∷ c ∷ d ∷ [] → number ≡ 16777216 * a + 65536 * b + 256 * c + d
+      → Named text number
 
 -- C for a circuit, and nothing for any other movement
 pub data Circuit (text : List ℕ) (mark : ℕ) : Type 0 where
