@@ -11,9 +11,12 @@ pub mod Loops
 pub mod Orders
 pub mod Same
 pub mod Refusing
+pub mod Reasons
 pub mod Packing
 pub mod Ranks
+pub mod Turns
 pub mod Taking
 pub mod Sooner
 pub mod Fitting
 pub mod Promised
+pub mod Only

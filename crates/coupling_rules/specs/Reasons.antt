@@ -2,11 +2,10 @@
 -- nothing.
 use Prim.Native.Nat.{ℕ, _<_}
 use mathlib.Core.Path.{_≡_}
-use mathlib.Core.Bool.{false}
 use mathlib.Core.Logic.{_⊎_}
 use mathlib.Core.List.{List}
 use lib.ListN.{length, getD}
-use Rattle.date.specs.Calendar.{dateExists}
+use Rattle.date.specs.Promises.{OnCalendar}
 use Rattle.coupling_rules.specs.Flights.{Flights, Movements}
 use Rattle.coupling_rules.specs.Refusals.{coupleRefusal}
 
@@ -20,11 +19,11 @@ pub record Over (top : ℕ) (column : List ℕ) : Type 0 where
   pub there : place < length column
   pub over : top < getD column place 0
 
--- a place of the dates holds none
+-- a place of the dates holds none of the calendar, 1900 to 9999
 pub record NoDate (dates : List ℕ) : Type 0 where
   pub place : ℕ
   pub there : place < length dates
-  pub none : dateExists (getD dates place 0) ≡ false
+  pub none : OnCalendar (getD dates place 0) → ⊥
 
 -- what refuses a list of flights
 pub data Wrong (f : Flights) : Type 0 where
