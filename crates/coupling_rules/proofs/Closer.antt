@@ -7,8 +7,15 @@ use Prim.Native.Nat.{ℕ, _≤_, _<_}
 use native.Mathlib.Omega.{arith}
 use lib.Dec.{eqb, ltb, leb}
 use borrow.Author.Tests.{eqb-true, eq-eqb, ne-eqb, ltb-true, lt-ltb, le-leb, leb-true}
-use Rattle.coupling_rules.specs.Rule.{closer}
+use Rattle.coupling_rules.specs.Rule.{earlier, closer}
 use Rattle.coupling_rules.proofs.Members.{three-ways}
+
+-- an earlier moment
+is-earlier : (a b : ℕ) → a < b → earlier a b ≡ true
+is-earlier a b h = omega (arith, lt-ltb)
+
+earlier-true : (a b : ℕ) → earlier a b ≡ true → a < b
+earlier-true a b e = omega (arith, ltb-true)
 
 module _ (gap time : ℕ → ℕ) where
   pub closer-gap : (j k : ℕ) → gap j < gap k → closer gap time j k ≡ true
@@ -21,7 +28,7 @@ module _ (gap time : ℕ → ℕ) where
   unfolding closer
   closer-time j k e h =
       let n : time j ≡ time k → ⊥ = λ e. omega arith in
-      rw (eq-eqb (gap j) (gap k) e, ne-eqb (time j) (time k) n) (lt-ltb (time j) (time k) h)
+      rw (eq-eqb (gap j) (gap k) e, ne-eqb (time j) (time k) n) (is-earlier (time j) (time k) h)
 
   pub closer-place : (j k : ℕ) → gap j ≡ gap k → time j ≡ time k → j ≤ k → closer gap time j k ≡ true
   unfolding closer
@@ -32,10 +39,10 @@ module _ (gap time : ℕ → ℕ) where
   Closer j k = (gap j < gap k) ⊎ ((gap j ≡ gap k) × ((time j < time k) ⊎ ((time j ≡ time k) × (j ≤ k))))
 
   says-by : (j k : ℕ) (a b : Bool) → eqb (gap j) (gap k) ≡ a → eqb (time j) (time k) ≡ b
-      → cond a (cond b (leb j k) (ltb (time j) (time k))) (ltb (gap j) (gap k)) ≡ true → Closer j k
+      → cond a (cond b (leb j k) (earlier (time j) (time k))) (ltb (gap j) (gap k)) ≡ true → Closer j k
   says-by j k true true p q e =
       inr (eqb-true (gap j) (gap k) p, inr (eqb-true (time j) (time k) q, leb-true j k e))
-  says-by j k true false p q e = inr (eqb-true (gap j) (gap k) p, inl (ltb-true (time j) (time k) e))
+  says-by j k true false p q e = inr (eqb-true (gap j) (gap k) p, inl (earlier-true (time j) (time k) e))
   says-by j k false b p q e = inl (ltb-true (gap j) (gap k) e)
 
   pub closer-says : (j k : ℕ) → closer gap time j k ≡ true → Closer j k

@@ -1,20 +1,22 @@
 -- A gap in the promise's words: a track fits a movement exactly if the movement may take it and is no aeroplane's
 -- circuit,
 -- and the closer of two that fit goes before the other. Assumes nothing.
-use mathlib.Core.{Path._≡_, Path.refl, Path.sym, Path._∙_, Bool.Bool, Bool.true, Bool.false, Bool.cond, Bool.not}
+use mathlib.Core.{Path._≡_, Path.refl, Path.sym, Path.ap, Path.subst, Path._∙_, Bool.Bool, Bool.true, Bool.false}
+use mathlib.Core.{Bool.cond, Bool.not}
 use mathlib.Core.{Bool._&&_, Bool.and-false, Logic._⊎_, Logic.inl, Logic.inr, Logic.⊎-elim}
 use Prim.Native.Nat.{ℕ, _+_, _-_, _≤_, _<_}
 use native.Mathlib.Omega.{arith}
 use lib.{Dec.eqb, Dec.leb, ListN.getD}
 use borrow.Author.Tests.{eq-eqb, ne-eqb, leb-true, le-leb, not-true}
 use Rattle.refusal.proofs.Laws.{and-left, and-right}
+use Rattle.coupling_rules.specs.Limits.{aeroplaneWindow, helicopterWindow}
 use Rattle.coupling_rules.specs.Flights.{Flights, Movements, many}
-use Rattle.coupling_rules.specs.Rule.{momentOf, distance, agree, windowOf, takesNone, fits, gap}
+use Rattle.coupling_rules.specs.Rule.{momentOf, distance, agree, windowOf, leftOut, takesNone, fits, gap}
 use Rattle.coupling_rules.specs.Promises.{secondOf, Within, InWindow, Apart, Rather, MayTake}
 use Rattle.coupling_rules.specs.Promises.Rather.{nearer, earlier, lower}
 use Rattle.coupling_rules.proofs.Members.{lt-or-not, zero-or}
 use Rattle.coupling_rules.proofs.Closer.{Closer}
-use Rattle.coupling_rules.proofs.Packing.{agree-says, says-agree}
+use Rattle.coupling_rules.proofs.{Packing.agree-says, Packing.says-agree, Sooner.moment-is}
 
 -- Seconds between
 
@@ -48,31 +50,48 @@ module _ (m : Movements) (t : Flights) (i j : ℕ) where
   unfolding gap
   gap-fits h = gap-by (fits m t i j) refl h
 
-  pub gap-is : 0 < gap m t i j → gap m t i j ≡ apart + 1
+  gap-is : 0 < gap m t i j → gap m t i j ≡ apart + 1
   unfolding gap
   gap-is h = rw (gap-fits h)
 
+  -- the seconds between, by dates and times
+  far : apart ≡ distance (secondOf (m .flights) i) (secondOf t j)
+  far = rw (moment-is (m .flights) i, moment-is t j)
+
+  pub gap-far : 0 < gap m t i j → gap m t i j ≡ distance (secondOf (m .flights) i) (secondOf t j) + 1
+  gap-far h = gap-is h ∙ ap (λ (n : ℕ). n + 1) far
+
+  window-by : (b : Bool) → eqb class 0 ≡ b → windowOf class ≡ cond b aeroplaneWindow helicopterWindow
+  window-by b e = ap (λ (x : Bool). cond x aeroplaneWindow helicopterWindow) e
+
   aeroplanes : class ≡ 0 → windowOf class ≡ 300
-  aeroplanes e = rw (eq-eqb class 0 e)
+  aeroplanes e = omega (arith, window-by true (eq-eqb class 0 e))
 
   helicopters : class ≡ 1 → windowOf class ≡ 600
-  helicopters e = rw (ne-eqb class 0 (λ z. omega arith))
+  helicopters e = omega (arith, window-by false (ne-eqb class 0 (λ z. omega arith)))
+
+  in-window : (w : ℕ) → windowOf class ≡ w → apart ≤ windowOf class
+      → Within w (secondOf (m .flights) i) (secondOf t j)
+  in-window w e h =
+      within-of (secondOf (m .flights) i) (secondOf t j) w
+      (subst (λ (n : ℕ). n ≤ w) far (subst (λ (n : ℕ). apart ≤ n) e h))
+
+  of-window : (w : ℕ) → windowOf class ≡ w → Within w (secondOf (m .flights) i) (secondOf t j)
+      → apart ≤ windowOf class
+  of-window w e h =
+      subst (λ (n : ℕ). apart ≤ n) (sym e)
+      (subst (λ (n : ℕ). n ≤ w) (sym far) (of-within (secondOf (m .flights) i) (secondOf t j) w h))
 
   window-says : apart ≤ windowOf class → InWindow (m .flights) i t j
-  unfolding momentOf
   window-says h = record {
-    aeroplane = λ e. within-of (secondOf (m .flights) i) (secondOf t j) 300 (rw (aeroplanes e) at h);
-    helicopter = λ e. within-of (secondOf (m .flights) i) (secondOf t j) 600 (rw (helicopters e) at h);
+    aeroplane = λ e. in-window 300 (aeroplanes e) h;
+    helicopter = λ e. in-window 600 (helicopters e) h;
   }
 
   says-window : class ≤ 1 → InWindow (m .flights) i t j → apart ≤ windowOf class
-  unfolding momentOf
   says-window c w =
-      ⊎-elim
-      (λ e. rw (aeroplanes e) (of-within (secondOf (m .flights) i) (secondOf t j) 300 (w .aeroplane e)))
-      (λ h. let e : class ≡ 1 = omega arith in
-      rw (helicopters e) (of-within (secondOf (m .flights) i) (secondOf t j) 600 (w .helicopter e)))
-      (zero-or class)
+      ⊎-elim (λ e. of-window 300 (aeroplanes e) (w .aeroplane e))
+      (λ h. let e : class ≡ 1 = omega arith in of-window 600 (helicopters e) (w .helicopter e)) (zero-or class)
 
   -- a track that fits may be taken, and no track fits an aeroplane's circuit
   pub may-take : j < many t → 0 < gap m t i j
@@ -117,18 +136,22 @@ module _ (m : Movements) (t : Flights) (i j : ℕ) where
       ) (omega arith)
 
 -- aeroplane circuits, and every other movement
-none-by : (class circuit : ℕ) (b : Bool) → takesNone class circuit ≡ b → (class ≡ 1) ⊎ (circuit ≡ 0)
-    → b ≡ false
-unfolding takesNone
-none-by class circuit b e (inl f) = sym e ∙ rw (ne-eqb class 0 (λ z. omega arith))
-none-by class circuit b e (inr f) = sym e ∙ rw (eq-eqb circuit 0 f) (and-false (eqb class 0))
+helicopters-may : (circuit : Bool) → leftOut false circuit ≡ false
+helicopters-may circuit = refl
 
 pub may-have : (class circuit : ℕ) → (class ≡ 1) ⊎ (circuit ≡ 0) → takesNone class circuit ≡ false
-may-have class circuit w = none-by class circuit (takesNone class circuit) refl w
+unfolding takesNone
+may-have class circuit (inl e) =
+    ap (λ (b : Bool). leftOut b (not (eqb circuit 0))) (ne-eqb class 0 (λ z. omega arith))
+    ∙ helicopters-may (not (eqb circuit 0))
+may-have class circuit (inr e) =
+    ap (λ (b : Bool). leftOut (eqb class 0) (not b)) (eq-eqb circuit 0 e) ∙ and-false (eqb class 0)
 
 pub takes-none : (class circuit : ℕ) → class ≡ 0 → (circuit ≡ 0 → ⊥) → takesNone class circuit ≡ true
 unfolding takesNone
-takes-none class circuit e n = rw (eq-eqb class 0 e, ne-eqb circuit 0 n)
+takes-none class circuit e n =
+    ap (λ (b : Bool). leftOut b (not (eqb circuit 0))) (eq-eqb class 0 e)
+    ∙ ap (λ (b : Bool). leftOut true (not b)) (ne-eqb circuit 0 n)
 
 -- no track fits a movement that takes none
 pub no-gap : (m : Movements) (t : Flights) (i j : ℕ)
@@ -137,6 +160,12 @@ unfolding gap fits
 no-gap m t i j e = rw e
 
 -- Which goes before
+
+less : {a b : ℕ} (c d : ℕ) → a ≡ c + 1 → b ≡ d + 1 → a < b → c < d
+less c d e f h = omega arith
+
+alike : {a b : ℕ} (c d : ℕ) → a ≡ c + 1 → b ≡ d + 1 → a ≡ b → c ≡ d
+alike c d e f h = omega arith
 
 module _ (m : Movements) (t : Flights) (i j k : ℕ) where
   abbrev near : ℕ → ℕ
@@ -154,8 +183,17 @@ module _ (m : Movements) (t : Flights) (i j k : ℕ) where
 
   pub closer-rather : (k ≡ j → ⊥) → 0 < gap m t i j → 0 < gap m t i k → Closer (gap m t i) (momentOf t) j k
       → Rather (m .flights) t i j k
-  unfolding momentOf
   closer-rather n p q (inl h) =
-      rather n (inl (omega (arith, gap-is m t i j p, gap-is m t i k q)))
-  closer-rather n p q (inr (e, f)) =
-      rather n (inr (omega (arith, gap-is m t i j p, gap-is m t i k q), f))
+      rather n (inl (less (near j) (near k) (gap-far m t i j p) (gap-far m t i k q) h))
+  closer-rather n p q (inr (e, inl h)) =
+      rather n (inr (
+        alike (near j) (near k) (gap-far m t i j p) (gap-far m t i k q) e,
+        inl
+            (subst (λ (a : ℕ). a < secondOf t k) (moment-is t j)
+            (subst (λ (a : ℕ). momentOf t j < a) (moment-is t k) h)),
+      ))
+  closer-rather n p q (inr (e, inr (f, h))) =
+      rather n (inr (
+        alike (near j) (near k) (gap-far m t i j p) (gap-far m t i k q) e,
+        inr (sym (moment-is t j) ∙ f ∙ moment-is t k, h),
+      ))

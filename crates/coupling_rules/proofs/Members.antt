@@ -9,7 +9,7 @@ use lib.Dec.{eqb, ltb}
 use lib.ListN.{length, getD}
 use borrow.Author.Tests.{eqb-true, eqb-false, ltb-true, ltb-false}
 use Rattle.coupling_rules.specs.InnerSides.{In}
-use Rattle.coupling_rules.specs.Rule.{without, after}
+use Rattle.coupling_rules.specs.Rule.{goesWith, without, after}
 
 -- Numbers
 
@@ -63,22 +63,28 @@ at-in (x ∷ l) (suc n) h = inr (at-in l n (omega arith))
 
 -- What is left without x
 
-without-by : (x y j : ℕ) (l : List ℕ) (b : Bool) → eqb x y ≡ b
+pub goes-true : (j k : ℕ) → goesWith j k ≡ true → j ≡ k
+goes-true j k e = search (eqb-true, arith)
+
+goes-false : (j k : ℕ) → goesWith j k ≡ false → j ≡ k → ⊥
+goes-false j k e q = omega (arith, eqb-false)
+
+without-by : (x y j : ℕ) (l : List ℕ) (b : Bool) → goesWith x y ≡ b
     → In j (cond b (without x l) (y ∷ without x l))
     → (In j (without x l) → In j l × (j ≡ x → ⊥))
     → In j (y ∷ l) × (j ≡ x → ⊥)
 without-by x y j l true e h more = let m = more h in (inr (m .0), m .1)
-without-by x y j l false e (inl p) more = (inl p, λ q. eqb-false x y e (sym q ∙ p))
+without-by x y j l false e (inl p) more = (inl p, λ q. goes-false x y e (sym q ∙ p))
 without-by x y j l false e (inr h) more = let m = more h in (inr (m .0), m .1)
 
 pub without-in : (x j : ℕ) (l : List ℕ) → In j (without x l) → In j l × (j ≡ x → ⊥)
 unfolding without
 without-in x j [] h = absurd h
-without-in x j (y ∷ l) h = without-by x y j l (eqb x y) refl h (without-in x j l)
+without-in x j (y ∷ l) h = without-by x y j l (goesWith x y) refl h (without-in x j l)
 
-in-by : (x y j : ℕ) (l : List ℕ) (b : Bool) → eqb x y ≡ b → (j ≡ x → ⊥) → In j (y ∷ l)
+in-by : (x y j : ℕ) (l : List ℕ) (b : Bool) → goesWith x y ≡ b → (j ≡ x → ⊥) → In j (y ∷ l)
     → (In j l → In j (without x l)) → In j (cond b (without x l) (y ∷ without x l))
-in-by x y j l true e n (inl p) more = absurd (n (p ∙ sym (eqb-true x y e)))
+in-by x y j l true e n (inl p) more = absurd (n (p ∙ sym (goes-true x y e)))
 in-by x y j l true e n (inr h) more = more h
 in-by x y j l false e n (inl p) more = inl p
 in-by x y j l false e n (inr h) more = inr (more h)
@@ -86,7 +92,7 @@ in-by x y j l false e n (inr h) more = inr (more h)
 pub in-without : (x j : ℕ) (l : List ℕ) → (j ≡ x → ⊥) → In j l → In j (without x l)
 unfolding without
 in-without x j [] n h = h
-in-without x j (y ∷ l) n h = in-by x y j l (eqb x y) refl n h (in-without x j l n)
+in-without x j (y ∷ l) n h = in-by x y j l (goesWith x y) refl n h (in-without x j l n)
 
 -- once the track of an answer is taken
 pub after-in : (a j : ℕ) (free : List ℕ) → In j (after a free) → In j free × (a ≡ suc j → ⊥)

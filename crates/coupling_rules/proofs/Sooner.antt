@@ -1,7 +1,7 @@
 -- The turns go by date, then time, then place, as the order by moments does: day numbers rise with dates, and no second
 -- is
 -- outside its day. Assumes nothing.
-use mathlib.Core.{Path._≡_, Path.refl, Path.sym, Path.ap, Path._∙_, Bool.true, Logic._⊎_, Logic.inl, Logic.inr}
+use mathlib.Core.{Path._≡_, Path.sym, Path.ap, Path._∙_, Bool.true, Logic._⊎_, Logic.inl, Logic.inr}
 use mathlib.Core.{Logic.⊎-elim}
 use Prim.Native.Nat.{ℕ, _+_, _*_, _≤_, _<_}
 use native.Mathlib.Omega.{arith}
@@ -19,7 +19,7 @@ use Rattle.coupling_rules.proofs.Refusing.{Values, exist-at}
 
 pub moment-is : (f : Flights) (i : ℕ) → momentOf f i ≡ secondOf f i
 unfolding momentOf
-moment-is f i = refl
+moment-is f i = omega arith
 
 later-day : (d e s u : ℕ) → d < e → s ≤ 86399 → d * 86400 + s < e * 86400 + u
 later-day d e s u h k = omega arith

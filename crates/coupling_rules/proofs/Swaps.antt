@@ -6,28 +6,35 @@ use mathlib.Core.List.{List, [], _∷_}
 use mathlib.Core.Logic.{_⊎_, inl, inr, ⊎-elim}
 use Prim.Native.Nat.{ℕ, zero, suc, _≤_, _<_}
 use native.Mathlib.Omega.{arith}
-use lib.Dec.{eqb, ltb}
+use lib.Dec.{ltb}
 use lib.ListN.{set}
 use lib.Seq.{set-comm}
-use borrow.Author.Tests.{eqb-true, le-ltb, ltb-true}
+use borrow.Author.Tests.{le-ltb, ltb-true}
 use Rattle.sorting.specs.Sorted.{insert, sorted}
-use Rattle.coupling_rules.specs.Rule.{best, against, without, after, couple}
+use Rattle.coupling_rules.specs.Rule.{best, against, goesWith, without, after, couple}
+use Rattle.coupling_rules.proofs.Members.{goes-true}
 use Rattle.coupling_rules.proofs.Best.{best-in}
 
 -- taking two away, in either order
-apart-by : (j k x : ℕ) (l : List ℕ) (a b : Bool) → eqb j x ≡ a → eqb k x ≡ b
+without-cons : (j x : ℕ) (l : List ℕ) (b : Bool) → goesWith j x ≡ b
+    → without j (x ∷ l) ≡ cond b (without j l) (x ∷ without j l)
+unfolding without
+without-cons j x l b e = ap (λ (t : Bool). cond t (without j l) (x ∷ without j l)) e
+
+apart-by : (j k x : ℕ) (l : List ℕ) (a b : Bool) → goesWith j x ≡ a → goesWith k x ≡ b
     → without j (without k l) ≡ without k (without j l)
     → without j (cond b (without k l) (x ∷ without k l)) ≡ without k (cond a (without j l) (x ∷ without j l))
-unfolding without
 apart-by j k x l true true e f more = more
-apart-by j k x l true false e f more = rw e more
-apart-by j k x l false true e f more = rw f more
-apart-by j k x l false false e f more = rw (e, f) (ap (λ (t : List ℕ). x ∷ t) more)
+apart-by j k x l true false e f more = without-cons j x (without k l) true e ∙ more
+apart-by j k x l false true e f more = more ∙ sym (without-cons k x (without j l) true f)
+apart-by j k x l false false e f more =
+    without-cons j x (without k l) false e ∙ ap (λ (t : List ℕ). x ∷ t) more
+    ∙ sym (without-cons k x (without j l) false f)
 
 without-comm : (j k : ℕ) (l : List ℕ) → without j (without k l) ≡ without k (without j l)
 unfolding without
 without-comm j k [] = refl
-without-comm j k (x ∷ l) = apart-by j k x l (eqb j x) (eqb k x) refl refl (without-comm j k l)
+without-comm j k (x ∷ l) = apart-by j k x l (goesWith j x) (goesWith k x) refl refl (without-comm j k l)
 
 after-comm : (a b : ℕ) (l : List ℕ) → after a (after b l) ≡ after b (after a l)
 unfolding after
@@ -38,12 +45,12 @@ after-comm (suc a) (suc b) l = without-comm a b l
 
 -- a track that doesn't fit isn't missed
 module _ (gap time : ℕ → ℕ) where
-  missed-by : (j x : ℕ) (l : List ℕ) (b : Bool) → eqb j x ≡ b → gap j ≡ 0
+  missed-by : (j x : ℕ) (l : List ℕ) (b : Bool) → goesWith j x ≡ b → gap j ≡ 0
       → best gap time (without j l) ≡ best gap time l
       → best gap time (cond b (without j l) (x ∷ without j l)) ≡ best gap time (x ∷ l)
   unfolding best
   missed-by j x l true e z more =
-      let q : gap x ≤ 0 = omega (arith, ap gap (eqb-true j x e)) in
+      let q : gap x ≤ 0 = omega (arith, ap gap (goes-true j x e)) in
       more ∙ sym
       (ap (λ (t : Bool). cond t (against gap time x (best gap time l)) (best gap time l)) (le-ltb 0 (gap x) q))
   missed-by j x l false e z more = ap (λ (n : ℕ). cond (ltb 0 (gap x)) (against gap time x n) n) more
@@ -51,7 +58,7 @@ module _ (gap time : ℕ → ℕ) where
   missed : (j : ℕ) (l : List ℕ) → gap j ≡ 0 → best gap time (without j l) ≡ best gap time l
   unfolding without
   missed j [] z = refl
-  missed j (x ∷ l) z = missed-by j x l (eqb j x) refl z (missed j l z)
+  missed j (x ∷ l) z = missed-by j x l (goesWith j x) refl z (missed j l z)
 
   still : (b : ℕ) (l : List ℕ) → ((j : ℕ) → b ≡ suc j → gap j ≡ 0)
       → best gap time (after b l) ≡ best gap time l

@@ -35,8 +35,11 @@ abbrev pub windowOf : (class : ℕ) → ℕ
 windowOf class = cond (eqb class 0) aeroplaneWindow helicopterWindow
 
 -- an aeroplane's circuit takes no track
+abbrev pub leftOut : (aeroplane circuit : Bool) → Bool
+leftOut aeroplane circuit = aeroplane && circuit
+
 unfoldable pub takesNone : (class circuit : ℕ) → Bool
-takesNone class circuit = eqb class 0 && not (eqb circuit 0)
+takesNone class circuit = leftOut (eqb class 0) (not (eqb circuit 0))
 
 -- track j may be taken by movement i
 unfoldable pub fits : Movements → Flights → ℕ → ℕ → Bool
@@ -51,11 +54,14 @@ gap m t i j = cond (fits m t i j) (distance (momentOf (m .flights) i) (momentOf 
 
 -- Of several, the nearest in time, then the earlier, then the lower place
 
+abbrev pub earlier : (moment other : ℕ) → Bool
+earlier moment other = ltb moment other
+
 -- whether j is nearer than k, or as near and earlier, or as early too and of no higher place
 unfoldable pub closer : (gap time : ℕ → ℕ) → ℕ → ℕ → Bool
 closer gap time j k =
     cond (eqb (gap j) (gap k))
-    (cond (eqb (time j) (time k)) (leb j k) (ltb (time j) (time k)))
+    (cond (eqb (time j) (time k)) (leb j k) (earlier (time j) (time k)))
     (ltb (gap j) (gap k))
 
 -- track j, or the one of the rest (its place from 1; 0 for none) if that is closer
@@ -68,9 +74,13 @@ unfoldable pub best : (gap time : ℕ → ℕ) → List ℕ → ℕ
 best gap time [] = 0
 best gap time (j ∷ free) = cond (ltb 0 (gap j)) (against gap time j (best gap time free)) (best gap time free)
 
+-- whether track k goes where track j is taken
+abbrev pub goesWith : ℕ → ℕ → Bool
+goesWith j k = eqb j k
+
 unfoldable pub without : ℕ → List ℕ → List ℕ
 without j [] = []
-without j (k ∷ free) = cond (eqb j k) (without j free) (k ∷ without j free)
+without j (k ∷ free) = cond (goesWith j k) (without j free) (k ∷ without j free)
 
 -- what is free once the track of an answer is taken
 unfoldable pub after : ℕ → List ℕ → List ℕ
