@@ -9,3 +9,4 @@ pub mod Streams
 pub mod Sames
 pub mod Indices
 pub mod Within
+pub mod Sheets

@@ -4,4 +4,5 @@ pub mod Line
 pub mod Same
 pub mod Index
 pub mod Spelled
+pub mod Sheet
 pub mod InnerWithin
