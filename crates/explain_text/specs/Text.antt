@@ -16,7 +16,8 @@ use Rattle.load_rules.specs.Load.{countsOf, scaledEnergy, scaledSum, totalOf}
 use Rattle.load_rules.specs.Account.{groupsOf}
 use Rattle.text.specs.Number.{showNumber}
 use Rattle.text.specs.Spelled.{bytes}
-use Rattle.register.specs.Letter.{typeLetters, kindLetters, showLetter}
+use Rattle.text.specs.Letter.{showLetter}
+use Rattle.register.specs.Letter.{typeLetters, kindLetters}
 use Rattle.register.specs.declared.limits_csv.LimitsFile.{LimitsFile}
 use Rattle.report_text.specs.Text.{ended, line, refusedText, bookRefusal}
 use Rattle.explain_text.specs.declared.amounts.Amounts.{Amounts}

@@ -15,7 +15,7 @@ ghost use Prim.Native.Nat.{_+_, _≤_, _<_};
 ghost use lib.ListN.{length};
 ghost use Rattle.movement.specs.Limits.{groupCount, maxPoints};
 ghost use Rattle.movement.specs.Group.{groupPeriod};
-ghost use Rattle.register.specs.Letter.{showLetter};
+ghost use Rattle.text.specs.Letter.{showLetter};
 ghost use Rattle.report_text.specs.Text.{comma, lineEnd, ended, line};
 ghost use Rattle.text.specs.InnerWithin.{WroteWithin};
 ghost use Rattle.explain_text.specs.Text.{periodText, factorText, groupFields, allFields, stands};

@@ -14,8 +14,8 @@ use Rattle.text.proofs.Shown.{whole-back, level-back, shown-width, level-most, 
 use Rattle.text.proofs.{Exact.whole-exact, Exact.level-exact, Exact.level-small, Free.shown-free, Free.level-free}
 use Rattle.register.specs.Cell.{levelOrBlank, rowCell, limitsCell, shownCell, cellText}
 use Rattle.register.specs.InnerCell.{blankCell, topOf}
-use Rattle.register.proofs.Clocks.{time-back, time-free, time-exact}
-use Rattle.register.proofs.Letters.{letter-exact, type-back, kind-back, type-free, kind-free}
+use Rattle.text.proofs.{Clocks.time-back, Clocks.time-free, Clocks.time-exact, Letters.letter-exact}
+use Rattle.register.proofs.Letters.{type-back, kind-back, type-free, kind-free}
 
 -- the columns from the sixth on are levels
 sixth : (P : ℕ → Type 0) → ((i : ℕ) → P (suc (suc (suc (suc (suc i)))))) → (k : ℕ) → 5 ≤ k → P k

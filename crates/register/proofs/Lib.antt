@@ -1,5 +1,4 @@
 -- Laws that the proofs of several functions and of other crates cite.
-pub mod Clocks
 pub mod Letters
 pub mod Columns
 pub mod Writes

@@ -11,14 +11,14 @@ use Rattle.text.specs.{Field.countOf, Field.fieldOf, Index.every, Line.firstLin
 use Rattle.text.specs.declared.number.Number.{Number}
 use Rattle.text.specs.declared.number.Number.the-variants.{Got, Off}
 use Rattle.text.proofs.Digits.{either, whole-small, got-value}
-use Rattle.text.proofs.{Exact.whole-exact, Exact.level-exact, Exact.level-small, Fields.fields-joined}
+use Rattle.text.proofs.{Exact.whole-exact, Exact.level-exact, Exact.level-small, Fields.widest, Fields.line-within}
 use Rattle.text.proofs.{Indices.every-each, Lines.lines-first, Lines.lines-next, Lines.lines-rest, Lines.lines-one}
 use Rattle.text.proofs.Shown.{shown-width, level-most}
 use Rattle.register.specs.Cell.{limitsCell, cellAt, gotAt, valueAt, cellsOf}
 use Rattle.register.specs.Header.{headerOf, limitsHeader}
 use Rattle.register.specs.LimitsFile.{secondLimits, headedLimits, limitsOf}
 use Rattle.register.specs.declared.cell.Table.the-variants as table
-use Rattle.register.proofs.{Longest.span, Longest.line-within, Writes.comma-most, Rows.header-range}
+use Rattle.register.proofs.Rows.{header-range}
 
 -- the first line of a front of the text: the same where its CRLF is in the front, and else as long as the front
 front-line : (m : ℕ) (s : List ℕ) → length (firstLine s) + 2 ≤ m → firstLine (take m s) ≡ firstLine s
@@ -57,10 +57,10 @@ unfolding limitsCell width
 cell-within zero t v e = omega (arith, ap length (whole-exact t v e), shown-width 7 6 v (whole-small t v e))
 cell-within (suc k) t v e = omega (arith, ap length (level-exact t v e), level-most v (level-small t v e))
 
-span-most : (n : ℕ) → span width (suc n) ≤ 7 + 7 * n
-unfolding span width
-span-most zero = omega arith
-span-most (suc n) = omega (arith, span-most n, comma-most (suc n))
+widest-most : (n : ℕ) → widest width n ≤ 7 + 7 * n
+unfolding widest width
+widest-most zero = omega arith
+widest-most (suc n) = omega (arith, widest-most n)
 
 pub limits-short : (n : ℕ) (s : List ℕ) → n ≤ 8 → cellsOf table.LimitsFile (1 + n) s .read ≡ true
     → length s ≤ 63
@@ -70,12 +70,12 @@ limits-short n s few e =
     let b = every (gotAt table.LimitsFile s) (1 + n) in
     either (a && b)
     (λ fine. let count : countOf 44 s ≡ n = omega (arith, eqb-true (countOf 44 s + 1) (1 + n) (and-left a b fine)) in
-    let all = line-within width (λ k. fieldOf 44 k s) (suc n) (λ i h.
+    let all = line-within 44 n s width count (λ i h.
     let l : i < 1 + n = omega arith in
     cell-within i (fieldOf 44 i s) (valueAt table.LimitsFile s i)
     (got-value (cellAt table.LimitsFile s i)
     (every-each (gotAt table.LimitsFile s) i (1 + n) l (and-right a b fine)))) in
-    omega (arith, ap length (fields-joined 44 n s count), all, span-most n))
+    omega (arith, all, widest-most n))
     (λ bad. let z : false ≡ true = rw bad at e in let y : _≡_ {A = ℕ} 0 1 = cc in absurd (omega arith))
 
 long-off : (n : ℕ) (s : List ℕ) → n ≤ 8 → 63 < length s → cellsOf table.LimitsFile (1 + n) s .read ≡ false

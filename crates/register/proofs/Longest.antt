@@ -1,23 +1,21 @@
 -- The longest row has 84 bytes before its CRLF: a longer one is off its layout. Assumes nothing.
 use Prim.Native.Nat.{ℕ, zero, suc, _+_, _*_, _≤_, _<_}
-use mathlib.Core.{Path._≡_, Path.ap, List.List, List._++_}
-use native.Mathlib.{Numerals.add-one, Omega.arith}
+use mathlib.Core.{Path._≡_, Path.ap, List.List}
+use native.Mathlib.Omega.{arith}
 use borrow.Author.Tests.{eqb-true}
-use lib.{ListN.length, ListN.length-append, Dec.leb, Dec.eqb}
+use lib.{ListN.length, Dec.leb, Dec.eqb}
 use Rattle.refusal.proofs.Laws.{and-right}
-use Rattle.text.specs.{Field.countOf, Field.fieldOf, Field.joinedBy, Index.listing, Line.bareLine}
+use Rattle.text.specs.{Field.countOf, Field.fieldOf, Line.bareLine}
 use Rattle.text.specs.declared.number.Number.the-variants.{Got}
-use Rattle.text.proofs.{Digits.either, Digits.got-value, Fields.fields-joined}
-use Rattle.text.proofs.{Indices.listing-none, Indices.every-each, Shown.shown-width, Shown.level-most}
+use Rattle.text.proofs.{Digits.either, Digits.got-value, Fields.widest, Fields.line-within}
+use Rattle.text.proofs.{Indices.every-each, Shown.shown-width, Shown.level-most}
 use Rattle.register.specs.Cell.{rowCell, cellAt, gotAt, valueAt, shownCell, cellsOf}
 use Rattle.register.specs.InnerCell.{blankCell, topOf}
 use Rattle.register.specs.Row.{pointsFit, rowLayout, cellsLayout, layoutOf, offLayout}
-use Rattle.register.specs.InnerCell.{commaAt}
 use Rattle.register.specs.declared.cell.Table.the-variants.{Register}
-use Rattle.register.proofs.{Columns.cell-exact, Writes.joined-more, Writes.comma-most, Rows.layout-points}
-use Rattle.register.proofs.Converse.{marked}
+use Rattle.register.proofs.{Columns.cell-exact, Rows.layout-points, Converse.marked}
 
--- the most bytes that column k has, and what k columns of such widths have with their commas
+-- the most bytes that column k has
 width : ℕ → ℕ
 width zero = 7
 width (suc zero) = 1
@@ -25,10 +23,6 @@ width (suc (suc zero)) = 7
 width (suc (suc (suc zero))) = 1
 width (suc (suc (suc (suc zero)))) = 8
 width (suc (suc (suc (suc (suc i))))) = 6
-
-unfoldable pub span : (ℕ → ℕ) → ℕ → ℕ
-span w zero = 0
-span w (suc k) = span w k + length (commaAt k) + w k
 
 shown-within : (k v : ℕ) → v < topOf k → length (shownCell k v) ≤ width k
 unfolding shownCell topOf width
@@ -46,47 +40,23 @@ cell-within k t v e =
     (λ yes. let z = eqb-true (length t) 0 (and-right (leb 5 k) (eqb (length t) 0) yes) in omega arith)
     (λ no. let p = cell-exact k t v e no in omega (arith, ap length (p .0), shown-within k v (p .1)))
 
-pub line-within : (w : ℕ → ℕ) (f : ℕ → List ℕ) (k : ℕ)
-    → ((i : ℕ) → i < k → length (f i) ≤ w i) → length (joinedBy 44 (listing f k)) ≤ span w k
-unfolding span joinedBy
-line-within w f zero h = rw (listing-none f) (omega arith)
-line-within w f (suc k) h =
-    let text = joinedBy 44 (listing f k) in
-    let e = rw (add-one k) at (joined-more f k) in
-    omega (
-      arith,
-      ap length e,
-      length-append text (commaAt k ++ f k),
-      length-append (commaAt k) (f k),
-      line-within w f k (λ i l. h i (omega arith)),
-      h k (omega arith),
-    )
-
 -- the head of a row and seven bytes for each level
-span-most : (n : ℕ) → span width (suc (suc (suc (suc (suc n))))) ≤ 28 + 7 * n
-unfolding span width
-span-most zero = omega arith
-span-most (suc n) = omega (arith, span-most n, comma-most (suc (suc (suc (suc (suc n))))))
+widest-most : (n : ℕ) → widest width (suc (suc (suc (suc n)))) ≤ 28 + 7 * n
+unfolding widest width
+widest-most zero = omega arith
+widest-most (suc n) = omega (arith, widest-most n)
 
 -- a row on its layout has at most 84 bytes before its CRLF
 pub row-short : (n : ℕ) (s : List ℕ) → layoutOf n s .refusal ≡ 0 → length (bareLine s) ≤ 84
 row-short n s e =
     let t = bareLine s in
     let o = marked n s e .1 in
-    let count : countOf 44 t ≡ 4 + n = omega (arith, o .count) in
-    let all = line-within width (λ k. fieldOf 44 k t) (suc (4 + n)) (λ i h.
+    let count : countOf 44 t ≡ suc (suc (suc (suc n))) = omega (arith, o .count) in
+    let all = line-within 44 (suc (suc (suc (suc n)))) t width count (λ i h.
     let b : i < 5 + n = omega arith in
     cell-within i (fieldOf 44 i t) (valueAt Register t i)
     (got-value (cellAt Register t i) (every-each (gotAt Register t) i (5 + n) b (o .got)))) in
-    let five : suc (4 + n) ≡ suc (suc (suc (suc (suc n)))) = omega arith in
-    omega (
-      arith,
-      ap length (fields-joined 44 (4 + n) t count),
-      all,
-      ap (span width) five,
-      span-most n,
-      layout-points n s e .1,
-    )
+    omega (arith, all, widest-most n, layout-points n s e .1)
 
 -- so a longer one is off its layout
 off-else : (n : ℕ) (s : List ℕ) → (layoutOf n s .refusal ≡ 0 → ⊥) → layoutOf n s ≡ offLayout

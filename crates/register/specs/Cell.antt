@@ -11,8 +11,9 @@ use Rattle.text.specs.Index.{every, many, listing}
 use Rattle.text.specs.Spelled.{byte}
 use Rattle.text.specs.declared.number.Number.{Number}
 use Rattle.text.specs.declared.number.Number.the-variants.{Got}
-use Rattle.register.specs.Clock.{timeOf, showTime}
-use Rattle.register.specs.Letter.{typeLetters, kindLetters, letterOf, showLetter}
+use Rattle.text.specs.Clock.{timeOf, showTime}
+use Rattle.text.specs.Letter.{letterOf, showLetter}
+use Rattle.register.specs.Letter.{typeLetters, kindLetters}
 use Rattle.register.specs.Column.{levelColumns, maxColumns, inColumn}
 use Rattle.register.specs.declared.cell.Table.{Table}
 use Rattle.register.specs.declared.cell.Table.the-variants.{Register, LimitsFile}

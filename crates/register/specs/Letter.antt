@@ -1,12 +1,7 @@
--- Types and kinds as text: one letter, which stands for its place among the letters of its column. Assumes nothing.
-use Prim.Native.Nat.{ℕ, suc}
-use mathlib.Core.List.{List, [], _∷_}
-use mathlib.Core.Bool.{cond}
-use lib.ListN.{length, getD}
-use lib.Dec.{eqb}
+-- The letters of a register's types and kinds. Assumes nothing.
+use Prim.Native.Nat.{ℕ}
+use mathlib.Core.List.{List}
 use Rattle.text.specs.Spelled.{bytes}
-use Rattle.text.specs.declared.number.Number.{Number}
-use Rattle.text.specs.declared.number.Number.the-variants.{Got, Off}
 
 -- types G, K, H are 0 large, 1 small, 2 helicopter; kinds S, L are 0 start, 1 landing
 abbrev pub typeLetters : List ℕ
@@ -14,18 +9,3 @@ typeLetters = bytes "GKH"
 
 abbrev pub kindLetters : List ℕ
 kindLetters = bytes "SL"
-
-abbrev pub later : Number → Number
-later Off = Off
-later (Got n) = Got (suc n)
-
--- the place of a byte in a list
-unfoldable pub placeOf : ℕ → List ℕ → Number
-placeOf c [] = Off
-placeOf c (l ∷ ls) = cond (eqb c l) (Got 0) (later (placeOf c ls))
-
-unfoldable pub letterOf : List ℕ → List ℕ → Number
-letterOf letters t = cond (eqb (length t) 1) (placeOf (getD t 0 0) letters) Off
-
-abbrev pub showLetter : List ℕ → ℕ → List ℕ
-showLetter letters n = getD letters n 0 ∷ []

@@ -1,4 +1,3 @@
-pub mod Clock
 pub mod Letter
 pub mod Column
 pub mod Cell

@@ -1,5 +1,4 @@
 // The columns of a register's row and of the second line of limits.csv, read field by field.
-use crate::clock::time;
 use crate::column::IDENTITY;
 use crate::column::KIND;
 use crate::column::LEVELS;
@@ -7,8 +6,9 @@ use crate::column::MASS;
 use crate::column::MAX_COLUMNS;
 use crate::column::TIME;
 use crate::column::TYPE;
-use crate::letter::letter;
+use text::clock::time;
 use text::core::field_end;
+use text::core::letter;
 use text::number::Number;
 use text::number::level;
 use text::number::whole;

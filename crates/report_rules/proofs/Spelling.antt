@@ -7,7 +7,8 @@ use native.Mathlib.Omega.{arith}
 use lib.{ListN.length, ListN.getD, ListN.replicate, Dec.eqb}
 use borrow.Author.Tests.{eqb-true, lt-leb, le-leb}
 use Rattle.text.specs.{Line.bareLine, Field.fieldOf, Index.listing, Number.showWhole, Number.showLevel, Spelled.bytes}
-use Rattle.register.specs.{Clock.showTime, Cell.cellAt, Cell.gotAt, Cell.valueAt, Cell.shownCell}
+use Rattle.text.specs.Clock.{showTime}
+use Rattle.register.specs.Cell.{cellAt, gotAt, valueAt, shownCell}
 use Rattle.text.proofs.{Digits.got-value, Indices.every-each}
 use Rattle.register.specs.{InnerCell.blankCell, InnerCell.topOf, Row.eightFrom, Row.rowLayout, Row.layoutOf}
 use Rattle.register.specs.declared.cell.Table.the-variants.{Register}

@@ -10,3 +10,5 @@ pub mod Sames
 pub mod Indices
 pub mod Within
 pub mod Sheets
+pub mod Clocks
+pub mod Letters

@@ -5,4 +5,6 @@ pub mod Same
 pub mod Index
 pub mod Spelled
 pub mod Sheet
+pub mod Clock
+pub mod Letter
 pub mod InnerWithin

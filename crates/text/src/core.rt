@@ -1,5 +1,6 @@
-// Parts that ask something of their caller: a run of digits, a number with decimals, where a field or a line ends, and
-// writers into a buffer that has room. A writer writes from a place on and answers the place past its text.
+// Parts that ask something of their caller: a run of digits, a number with decimals, a letter among a few, where a
+// field or a line ends, and writers into a buffer that has room. A writer writes from a place on and answers the place
+// past its text.
 use crate::number::Number;
 use crate::number::whole;
 ghost use mathlib.Core.Path.{_≡_};
@@ -8,6 +9,7 @@ ghost use mathlib.Core.List.{[], _∷_};
 ghost use lib.ListN.{length, drop};
 ghost use Rattle.text.specs.Number.{digitsOf, maxDecimals, decimalOf, showNumber, showWhole};
 ghost use Rattle.text.specs.Number.{showDigits, showDecimal, showLevel};
+ghost use Rattle.text.specs.Letter.{letterOf};
 ghost use Rattle.text.specs.Field.{upTo};
 ghost use Rattle.text.specs.Line.{endAt, firstLine};
 ghost use Rattle.text.specs.Spelled.{byte, crlf};
@@ -73,6 +75,25 @@ pub fn decimal(s: &[u8], d: usize) -> Number
         return Number::Off;
     };
     Number::Got(units * power(d) + parts)
+}
+
+// The place of a letter among a few.
+pub fn letter(t: &[u8], letters: &[u8]) -> Number
+    requires { ⌜ length (now letters) ≤ 3 ⌝ }
+    ensures { λ r. ⌜ r ≡ letterOf (now (letters .entry)) (now (t .entry)) ⌝ }
+{
+    if t.len() != 1 {
+        return Number::Off;
+    }
+    let c = t[0];
+    let mut i = 0;
+    while i < letters.len() {
+        if c == letters[i] {
+            return Number::Got(i as u32);
+        }
+        i += 1;
+    }
+    Number::Off
 }
 
 // The place of the next parting byte `d` at or after `at`, or the text's length.

@@ -1,18 +1,18 @@
 -- Laws of times of day: what is written reads back, and what is read is what is written. Assumes nothing.
-use Prim.Native.Nat.{ℕ, _+_, _-_, _*_, _/_, _%_, _≤_, _<_}
+use Prim.Native.Nat.{ℕ, suc, _+_, _-_, _*_, _/_, _%_, _≤_, _<_}
 use mathlib.Core.{Path._≡_, Path.refl, Path.sym, Path.ap, Path._∙_, List.List, List.[], List._∷_, List._++_}
 use mathlib.Core.Bool.{_&&_}
-use native.Mathlib.Omega.{arith}
+use native.Mathlib.{Numerals.add-one, Omega.arith}
 use borrow.Author.Tests.{lt-ltb, ltb-true, eqb-true}
 use lib.ListN.{length, getD, take, drop, length-drop}
 use lib.{Seq.length-take-le, Seq.split-at, Seq.drop-drop, Seq.getD-drop, Seq.take-all, Dec.ltb, Dec.eqb}
 use Rattle.refusal.proofs.Laws.{and-left, and-right}
 use Rattle.text.specs.{Number.digitsOf, Number.showDigits, Field.countOf}
 use Rattle.text.specs.declared.number.Number.{Number}
 use Rattle.text.specs.declared.number.Number.the-variants.{Got, Off}
 use Rattle.text.proofs.{Digits.passed, Shown.digits-back, Exact.digits-text}
 use Rattle.text.proofs.Free.{byte-free, digits-free, nil-free}
-use Rattle.register.specs.Clock.{under, twoAt, clock, timeOf, showTime}
+use Rattle.text.specs.Clock.{under, twoAt, clock, timeOf, showTime}
 
 -- a number under its bound was read, and is under it
 under-got : (bound n : ℕ) (r : Number) → under bound r ≡ Got n → (r ≡ Got n) × (n < bound)
@@ -70,22 +70,28 @@ clock-got (Got h) Off c n e = let z : _≡_ {A = ℕ} 0 1 = cc in absurd (omega 
 clock-got (Got h) (Got m) Off n e = let z : _≡_ {A = ℕ} 0 1 = cc in absurd (omega arith)
 clock-got (Got h) (Got m) (Got s) n e = let q : h * 3600 + m * 60 + s ≡ n = cc in (h, m, s, refl, refl, refl, sym q)
 
--- a text of eight bytes, apart at its colons
-eight-apart : (s : List ℕ) → length s ≡ 8
-    → s ≡ take 2 (drop 0 s) ++ (getD s 2 0 ∷ (take 2 (drop 3 s) ++ (getD s 5 0 ∷ take 2 (drop 6 s))))
-eight-apart s l =
-    let three : length (drop 3 s) ≡ 5 = length-drop 3 s ∙ (let w : length s - 3 ≡ 5 = omega arith in w) in
-    let six : length (drop 6 s) ≡ 2 = length-drop 6 s ∙ (let w : length s - 6 ≡ 2 = omega arith in w) in
-    let last : drop 3 s ≡ take 2 (drop 3 s) ++ (getD s 5 0 ∷ take 2 (drop 6 s)) =
-    split-at (drop 3 s) 2 0 (omega arith)
-    ∙ rw (getD-drop 3 s 2 0, drop-drop 3 3 s, take-all 2 (drop 6 s) (omega arith)) in
-    split-at s 2 0 (omega arith) ∙ ap (λ t. take 2 s ++ (getD s 2 0 ∷ t)) last
+-- a text of three parts, apart at the two bytes between them
+pub three-parts : (a b c : ℕ) (s : List ℕ) → length s ≡ a + 1 + b + 1 + c
+    → s ≡ take a (drop 0 s) ++ (getD s a 0 ∷ (take b (drop (a + 1) s)
+    ++ (getD s (a + 1 + b) 0 ∷ take c (drop (a + 1 + b + 1) s))))
+three-parts a b c s l =
+    let m = a + 1 in
+    let rest : length (drop m s) ≡ b + 1 + c =
+    length-drop m s ∙ (let w : length s - m ≡ b + 1 + c = omega arith in w) in
+    let tail : length (drop (m + b + 1) s) ≡ c =
+    length-drop (m + b + 1) s ∙ (let w : length s - (m + b + 1) ≡ c = omega arith in w) in
+    let past : drop (suc b) (drop m s) ≡ take c (drop (m + b + 1) s) =
+    drop-drop (suc b) m s ∙ (let w : m + suc b ≡ m + b + 1 = omega arith in rw w)
+    ∙ sym (take-all c (drop (m + b + 1) s) (omega arith)) in
+    let last : drop m s ≡ take b (drop m s) ++ (getD s (m + b) 0 ∷ take c (drop (m + b + 1) s)) =
+    split-at (drop m s) b 0 (omega arith) ∙ rw (getD-drop m s b 0, past) in
+    split-at s a 0 (omega arith) ∙ rw (← add-one a) (ap (λ t. take a s ++ (getD s a 0 ∷ t)) last)
 
 time-text : (s : List ℕ) (h m x : ℕ) → length s ≡ 8 → getD s 2 0 ≡ 58 → getD s 5 0 ≡ 58
     → take 2 (drop 0 s) ≡ showDigits 2 h → take 2 (drop 3 s) ≡ showDigits 2 m
     → take 2 (drop 6 s) ≡ showDigits 2 x
     → s ≡ showDigits 2 h ++ (58 ∷ showDigits 2 m) ++ (58 ∷ showDigits 2 x)
-time-text s h m x l one two th tm tx = eight-apart s l ∙ rw (th, tm, tx, one, two)
+time-text s h m x l one two th tm tx = three-parts 2 2 2 s l ∙ rw (th, tm, tx, one, two)
 
 -- a text that reads as a time is that time's text, and it is a second of the day
 pub time-exact : (s : List ℕ) (n : ℕ) → timeOf s ≡ Got n → (s ≡ showTime n) × (n < 86400)

@@ -1,14 +1,14 @@
--- `register::clock::time` meets its contract: the three tests, and then the three numbers. Assumes nothing.
+-- `text::clock::time` meets its contract: the three tests, and then the three numbers. Assumes nothing.
 use Prim.Native.Nat.{_<_}
 use mathlib.Core.Path.{_≡_, sym, _∙_}
 use native.Mathlib.Omega.{arith}
 use borrow.Author.{Tests.eq-eqb, Tests.ne-eqb, Needs.needs}
 use lib.ListN.{length, getD}
-use Rattle.register.specs.Clock.{timeOf, twoAt, clock}
+use Rattle.text.specs.Clock.{timeOf, twoAt, clock}
 use Rattle.text.specs.declared.number.Number.the-variants.{Got, Off}
-use Rattle.register.proofs.Clocks.{two-under}
-use Rattle.register.proofs.clock.time.Statement.{statement}
-use Rattle.register.proofs.clock.time.Tie as tie
+use Rattle.text.proofs.Clocks.{two-under}
+use Rattle.text.proofs.clock.time.Statement.{statement}
+use Rattle.text.proofs.clock.time.Tie as tie
 
 returns-2 : tie.Need-returns-2
 unfolding timeOf

@@ -1,13 +1,13 @@
--- `register::clock::two_at` meets its contract: what `digits` answered, and the bound. Assumes nothing.
+-- `text::clock::two_at` meets its contract: what `digits` answered, and the bound. Assumes nothing.
 use Prim.Native.Nat.{_+_, _-_}
 use mathlib.Core.Path.{_≡_, sym, _∙_}
 use native.Mathlib.Omega.{arith}
 use borrow.Author.{Tests.lt-ltb, Tests.le-ltb, Needs.needs}
 use lib.ListN.{take, drop}
 use Rattle.text.specs.Number.{digitsOf}
-use Rattle.register.specs.Clock.{twoAt}
-use Rattle.register.proofs.clock.two_at.Statement.{statement}
-use Rattle.register.proofs.clock.two_at.Tie as tie
+use Rattle.text.specs.Clock.{twoAt}
+use Rattle.text.proofs.clock.two_at.Statement.{statement}
+use Rattle.text.proofs.clock.two_at.Tie as tie
 
 -- the part that is read is two bytes
 two-of : (c : tie.After-digits)

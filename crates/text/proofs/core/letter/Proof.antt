@@ -1,14 +1,14 @@
--- `register::letter::letter` meets its contract. The invariant: the letter's place is among the letters still to
+-- `text::core::letter` meets its contract. The invariant: the letter's place is among the letters still to
 -- come. Assumes nothing.
 use Prim.Native.Nat.{_-_, _≤_}
 use mathlib.Core.Path.{_≡_, sym, _∙_}
 use native.Mathlib.Omega.{arith}
 use borrow.Author.{Tests.eq-eqb, Tests.ne-eqb, Needs.needs}
 use lib.ListN.{length, drop}
-use Rattle.register.specs.Letter.{placeOf, letterOf}
-use Rattle.register.proofs.Letters.{moved, moved-none, place-hit, place-miss, place-end}
-use Rattle.register.proofs.letter.letter.Statement.{statement}
-use Rattle.register.proofs.letter.letter.Tie as tie
+use Rattle.text.specs.Letter.{placeOf, letterOf}
+use Rattle.text.proofs.Letters.{moved, moved-none, place-hit, place-miss, place-end}
+use Rattle.text.proofs.core.letter.Statement.{statement}
+use Rattle.text.proofs.core.letter.Tie as tie
 
 abbrev Inv-loop : tie.InvT-loop
 Inv-loop t letters c i₀ i = (letterOf letters t ≡ moved i (placeOf c (drop i letters))) × (i ≤ length letters)

@@ -1,0 +1,9 @@
+pub mod Limits
+pub mod Column
+pub mod Date
+pub mod Name
+pub mod Cell
+pub mod Row
+pub mod Header
+pub mod Spelled
+pub mod Exact
