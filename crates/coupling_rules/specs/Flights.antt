@@ -3,7 +3,7 @@ use Prim.Native.Nat.{ℕ}
 use mathlib.Core.List.{List}
 use lib.ListN.{length}
 use denote.Ref.{RefT, now}
-use denote.Triple.Both.{Both}
+use Rattle.room.specs.Lent.{Lent}
 
 -- seven columns, a number each for one flight: date (year·10000 + month·100 + day), second of that day, class (0
 -- aeroplane, 1 helicopter), kind (0 start, 1 landing), runway, airport and type designator
@@ -25,23 +25,26 @@ pub record Movements : Type 0 where
 abbrev pub many : Flights → ℕ
 many f = length (f .dates)
 
--- the flights of seven lent columns, before the call
-abbrev pub LentColumn : Type 0
-LentColumn = Both (RefT (List ℕ)) (RefT (List ℕ))
-
-abbrev pub flightsBefore : (dates times classes kinds runways airports types : LentColumn) → Flights
-flightsBefore ds ts cs ks rs as′ ys = record {
-  dates = now (ds .entry);
-  times = now (ts .entry);
-  classes = now (cs .entry);
-  kinds = now (ks .entry);
-  runways = now (rs .entry);
-  airports = now (as′ .entry);
-  types = now (ys .entry);
+-- the flights of seven lent columns
+abbrev pub flightsNow : (dates times classes kinds runways airports types : RefT (List ℕ)) → Flights
+flightsNow ds ts cs ks rs ps ys = record {
+  dates = now ds;
+  times = now ts;
+  classes = now cs;
+  kinds = now ks;
+  runways = now rs;
+  airports = now ps;
+  types = now ys;
 }
 
-abbrev pub movementsBefore : (dates times classes kinds runways airports types circuits : LentColumn) → Movements
-movementsBefore ds ts cs ks rs as′ ys os = record {
-  flights = flightsBefore ds ts cs ks rs as′ ys;
-  circuits = now (os .entry);
-}
+abbrev pub movementsNow : (dates times classes kinds runways airports types circuits : RefT (List ℕ)) → Movements
+movementsNow ds ts cs ks rs ps ys os = record { flights = flightsNow ds ts cs ks rs ps ys; circuits = now os }
+
+-- and before a call
+abbrev pub flightsBefore : (dates times classes kinds runways airports types : Lent) → Flights
+flightsBefore ds ts cs ks rs ps ys =
+    flightsNow (ds .entry) (ts .entry) (cs .entry) (ks .entry) (rs .entry) (ps .entry) (ys .entry)
+
+abbrev pub movementsBefore : (dates times classes kinds runways airports types circuits : Lent) → Movements
+movementsBefore ds ts cs ks rs ps ys os =
+    record { flights = flightsBefore ds ts cs ks rs ps ys; circuits = now (os .entry) }

@@ -3,3 +3,7 @@ pub mod Flights
 pub mod Rule
 pub mod Refusals
 pub mod Promises
+pub mod Reasons
+pub mod Tables
+pub mod InnerSides
+pub mod InnerPacked

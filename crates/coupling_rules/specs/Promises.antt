@@ -16,7 +16,8 @@ secondOf f i = dayNumber (getD (f .dates) i 0) * 86400 + getD (f .times) i 0
 pub data Sooner (f : Flights) (i k : ℕ) : Type 0 where
   date : getD (f .dates) i 0 < getD (f .dates) k 0 → Sooner f i k
   time : getD (f .dates) i 0 ≡ getD (f .dates) k 0 → getD (f .times) i 0 < getD (f .times) k 0 → Sooner f i k
-  place : getD (f .dates) i 0 ≡ getD (f .dates) k 0 → getD (f .times) i 0 ≡ getD (f .times) k 0 → i < k → Sooner f i k
+  place : getD (f .dates) i 0 ≡ getD (f .dates) k 0 → getD (f .times) i 0 ≡ getD (f .times) k 0 → i < k
+      → Sooner f i k
 
 -- movement i and track j are alike
 pub record Alike (m : Flights) (i : ℕ) (t : Flights) (j : ℕ) : Type 0 where
@@ -67,7 +68,8 @@ pub record Coupled (m : Movements) (t : Flights) (answer : List ℕ) : Type 0 wh
   pub once : (h i j : ℕ) → h < many (m .flights) → i < many (m .flights)
       → getD answer h 0 ≡ suc j → getD answer i 0 ≡ suc j → h ≡ i
   -- a movement and its track agree and lie within the window, and the track was free at the movement's turn
-  pub agrees : (i j : ℕ) → i < many (m .flights) → getD answer i 0 ≡ suc j → MayTake m t i j × FreeFor m answer i j
+  pub agrees : (i j : ℕ) → i < many (m .flights) → getD answer i 0 ≡ suc j
+      → MayTake m t i j × FreeFor m answer i j
   -- no other track that was free then and may be taken goes before it
   pub nearest : (i j k : ℕ) → i < many (m .flights) → getD answer i 0 ≡ suc j → (k ≡ j → ⊥)
       → MayTake m t i k → FreeFor m answer i k → Rather (m .flights) t i j k

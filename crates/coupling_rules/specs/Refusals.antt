@@ -27,7 +27,8 @@ shapeFits f =
 
 -- dates that exist, seconds of a day, classes and kinds 0 or 1
 unfoldable pub valuesFit : Flights → Bool
-valuesFit f = allExist (f .dates) && (allWithin 86399 (f .times) && (allWithin 1 (f .classes) && allWithin 1 (f .kinds)))
+valuesFit f =
+    allExist (f .dates) && (allWithin 86399 (f .times) && (allWithin 1 (f .classes) && allWithin 1 (f .kinds)))
 
 unfoldable pub flightsFit : Flights → Bool
 flightsFit f = shapeFits f && valuesFit f

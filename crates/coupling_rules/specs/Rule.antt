@@ -11,9 +11,12 @@ use Rattle.sorting.specs.Sorted.{sorted}
 use Rattle.coupling_rules.specs.Limits.{aeroplaneWindow, helicopterWindow}
 use Rattle.coupling_rules.specs.Flights.{Flights, Movements, many}
 
--- the second of a flight, numbered through the calendar
+-- the second of a day, numbered through the calendar
+abbrev pub moment : (date time : ℕ) → ℕ
+moment date time = dayNumber date * secondsADay + time
+
 unfoldable pub momentOf : Flights → ℕ → ℕ
-momentOf f i = dayNumber (getD (f .dates) i 0) * secondsADay + getD (f .times) i 0
+momentOf f i = moment (getD (f .dates) i 0) (getD (f .times) i 0)
 
 -- the seconds between two moments
 abbrev pub distance : ℕ → ℕ → ℕ

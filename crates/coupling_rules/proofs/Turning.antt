@@ -1,0 +1,127 @@
+-- A whole turn, from what the first half hands on. Assumes nothing.
+use mathlib.Core.Path.{_≡_, refl, sym, ap, subst, _∙_}
+use mathlib.Core.Bool.{Bool, true, false, cond}
+use mathlib.Core.List.{List, [], _∷_}
+use mathlib.Core.Logic.{_⊎_, inl, inr, ⊎-elim}
+use Prim.Native.Nat.{ℕ, zero, suc, _+_, _≤_, _<_}
+use native.Mathlib.Omega.{arith}
+use native.Mathlib.Numerals.{add-one}
+use lib.Dec.{eqb, leb}
+use lib.ListN.{length, drop, getD}
+use lib.Seq.{drop-cons}
+use borrow.Author.Tests.{eqb-true, eqb-false, leb-true, leb-false}
+use Rattle.coupling_rules.specs.Rule.{after}
+use Rattle.coupling_rules.specs.InnerSides.{In, Split, Below, From, headGap, nearer, Pulled, Turned}
+use Rattle.coupling_rules.proofs.Sides.{Gaps, neither, left-best, right-best, left-taken, right-taken}
+
+-- what `nearer` says
+nearer-by : (a b : ℕ) (p q r : Bool) → eqb a 0 ≡ p → eqb b 0 ≡ q → leb a b ≡ r → (n : ℕ)
+    → cond p (cond q 0 2) (cond q 1 (cond r 1 2)) ≡ n
+    → ((n ≡ 0) × ((a ≡ 0) × (b ≡ 0))) ⊎
+    (((n ≡ 1) × ((0 < a) × ((b ≡ 0) ⊎ (a ≤ b)))) ⊎ ((n ≡ 2) × ((0 < b) × ((a ≡ 0) ⊎ (b < a)))))
+nearer-by a b true true r e f g n h = inl (sym h, (eqb-true a 0 e, eqb-true b 0 f))
+nearer-by a b true false r e f g n h =
+    let m : b ≡ 0 → ⊥ = eqb-false b 0 f in inr (inr (sym h, (omega arith, inl (eqb-true a 0 e))))
+nearer-by a b false true r e f g n h =
+    let m : a ≡ 0 → ⊥ = eqb-false a 0 e in inr (inl (sym h, (omega arith, inl (eqb-true b 0 f))))
+nearer-by a b false false true e f g n h =
+    let m : a ≡ 0 → ⊥ = eqb-false a 0 e in inr (inl (sym h, (omega arith, inr (leb-true a b g))))
+nearer-by a b false false false e f g n h =
+    let m : b ≡ 0 → ⊥ = eqb-false b 0 f in inr (inr (sym h, (omega arith, inr (leb-false a b g))))
+
+says : (a b n : ℕ) → n ≡ nearer a b
+    → ((n ≡ 0) × ((a ≡ 0) × (b ≡ 0))) ⊎
+    (((n ≡ 1) × ((0 < a) × ((b ≡ 0) ⊎ (a ≤ b)))) ⊎ ((n ≡ 2) × ((0 < b) × ((a ≡ 0) ⊎ (b < a)))))
+unfolding nearer
+says a b n e = nearer-by a b (eqb a 0) (eqb b 0) (leb a b) refl refl refl n (sym e)
+
+pub says-none : (a b n : ℕ) → n ≡ nearer a b → n ≡ 0 → (a ≡ 0) × (b ≡ 0)
+says-none a b n e h =
+    ⊎-elim (λ x. x .1) (⊎-elim (λ x. absurd (omega (arith, x .0))) (λ x. absurd (omega (arith, x .0))))
+    (says a b n e)
+
+pub says-first : (a b n : ℕ) → n ≡ nearer a b → n ≡ 1 → (0 < a) × ((b ≡ 0) ⊎ (a ≤ b))
+says-first a b n e h =
+    ⊎-elim (λ x. absurd (omega (arith, x .0))) (⊎-elim (λ x. x .1) (λ x. absurd (omega (arith, x .0))))
+    (says a b n e)
+
+pub says-second : (a b n : ℕ) → n ≡ nearer a b → (n ≡ 0 → ⊥) → (n ≡ 1 → ⊥)
+    → (0 < b) × ((a ≡ 0) ⊎ (b < a))
+says-second a b n e h k =
+    ⊎-elim (λ x. absurd (h (x .0))) (⊎-elim (λ x. absurd (k (x .0))) (λ x. x .1)) (says a b n e)
+
+-- a list with a first that fits has a first
+has-by : (gap : ℕ → ℕ) (l : List ℕ) → 0 < headGap gap l → 0 < length l
+has-by gap [] h = absurd (omega arith)
+has-by gap (x ∷ l) h = omega arith
+
+module _ (rank gap time : ℕ → ℕ) (at base : ℕ) (g : Gaps rank gap time at base) (left right : List ℕ) where
+  pub turned-none : (left′ right′ : List ℕ) → Pulled rank at left right left′ right′
+      → headGap gap left′ ≡ 0 → headGap gap right′ ≡ 0
+      → Turned rank gap time at 0 left right left′ right′
+  unfolding after
+  turned-none left′ right′ p e h =
+      record {
+        is-best =
+            λ free s b. neither rank gap time at base g free left′ right′ (p .split free s) (p .below b)
+            (p .from (s .up)) e h;
+        split = λ free s b. p .split free s;
+        below = λ free s b. p .below b;
+      }
+
+  left-cons : (x : ℕ) (l right′ : List ℕ) → Pulled rank at left right (x ∷ l) right′ → 0 < gap x
+      → (headGap gap right′ ≡ 0) ⊎ (gap x ≤ headGap gap right′)
+      → Turned rank gap time at (suc x) left right l right′
+  unfolding after
+  left-cons x l right′ p h w =
+      record {
+        is-best =
+            λ free s b. left-best rank gap time at base g free x l right′ (p .split free s) (p .below b)
+            (p .from (s .up)) h w;
+        split = λ free s b. left-taken rank free x l right′ (p .split free s);
+        below = λ free s b j m. p .below b j (inr m);
+      }
+
+  right-cons : (left′ : List ℕ) (y : ℕ) (l : List ℕ) → Pulled rank at left right left′ (y ∷ l)
+      → 0 < gap y → (headGap gap left′ ≡ 0) ⊎ (gap y < headGap gap left′)
+      → Turned rank gap time at (suc y) left right left′ l
+  unfolding after
+  right-cons left′ y l p h w =
+      record {
+        is-best =
+            λ free s b. right-best rank gap time at base g free left′ y l (p .split free s) (p .below b)
+            (p .from (s .up)) h w;
+        split = λ free s b. right-taken rank free left′ y l (p .split free s);
+        below = λ free s b. p .below b;
+      }
+
+  pub turned-left : (stack : List ℕ) (t : ℕ) (right′ : List ℕ) → t < length stack
+      → Pulled rank at left right (drop t stack) right′ → 0 < headGap gap (drop t stack)
+      → (headGap gap right′ ≡ 0) ⊎ (headGap gap (drop t stack) ≤ headGap gap right′)
+      → Turned rank gap time at (getD stack t 0 + 1) left right (drop (t + 1) stack) right′
+  turned-left stack t right′ k p h w =
+      let d = drop-cons stack t 0 k in
+      let x = getD stack t 0 in
+      subst (λ (n : ℕ). Turned rank gap time at n left right (drop (t + 1) stack) right′) (sym (add-one x))
+      (subst (λ (n : ℕ). Turned rank gap time at (suc x) left right (drop n stack) right′) (sym (add-one t))
+      (left-cons x (drop (suc t) stack) right′
+      (subst (λ (l : List ℕ). Pulled rank at left right l right′) d p)
+      (subst (λ (l : List ℕ). 0 < headGap gap l) d h)
+      (subst (λ (l : List ℕ). (headGap gap right′ ≡ 0) ⊎ (headGap gap l ≤ headGap gap right′)) d w)))
+
+  pub turned-right : (order : List ℕ) (r : ℕ) (left′ : List ℕ) → r < length order
+      → Pulled rank at left right left′ (drop r order) → 0 < headGap gap (drop r order)
+      → (headGap gap left′ ≡ 0) ⊎ (headGap gap (drop r order) < headGap gap left′)
+      → Turned rank gap time at (getD order r 0 + 1) left right left′ (drop (r + 1) order)
+  turned-right order r left′ k p h w =
+      let d = drop-cons order r 0 k in
+      let x = getD order r 0 in
+      subst (λ (n : ℕ). Turned rank gap time at n left right left′ (drop (r + 1) order)) (sym (add-one x))
+      (subst (λ (n : ℕ). Turned rank gap time at (suc x) left right left′ (drop n order)) (sym (add-one r))
+      (right-cons left′ x (drop (suc r) order)
+      (subst (λ (l : List ℕ). Pulled rank at left right left′ l) d p)
+      (subst (λ (l : List ℕ). 0 < headGap gap l) d h)
+      (subst (λ (l : List ℕ). (headGap gap left′ ≡ 0) ⊎ (headGap gap l < headGap gap left′)) d w)))
+
+pub has-first : (gap : ℕ → ℕ) (l : List ℕ) (t : ℕ) → 0 < headGap gap (drop t l) → 0 < length (drop t l)
+has-first gap l t h = has-by gap (drop t l) h
