@@ -1,0 +1,4 @@
+pub mod Tables
+pub mod Takes
+pub mod Longest
+pub mod Putting

@@ -1,0 +1,4 @@
+pub mod Table
+pub mod Sheet
+pub mod InnerTable
+pub mod InnerSheet
