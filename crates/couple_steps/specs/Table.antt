@@ -2,7 +2,7 @@
 -- of the movements 9. Assumes nothing.
 use Prim.Native.Nat.{ℕ, _+_}
 use mathlib.Core.Bool.{cond}
-use mathlib.Core.List.{List, [], _∷_, _++_}
+use mathlib.Core.List.{List, [], _∷_, _++_, map}
 use lib.ListN.{getD}
 use lib.Dec.{eqb, leb}
 use Rattle.refusal.specs.Refuse.{refuse, first}
@@ -46,9 +46,8 @@ longestText = 51
 
 -- Rows as the columns of the coupling: number, date, time, class, kind, runway, airport, type and circuit
 
-unfoldable pub columnOf : ℕ → Rows → List ℕ
-columnOf k [] = []
-columnOf k (row ∷ rows) = getD row k 0 ∷ columnOf k rows
+abbrev pub columnOf : ℕ → Rows → List ℕ
+columnOf k rows = map (λ row. getD row k 0) rows
 
 abbrev pub flightsOf : Rows → Flights
 flightsOf rows = record {

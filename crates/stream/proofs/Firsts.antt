@@ -107,7 +107,8 @@ module _ {A : Type 0} (step : Step A) where
 
   -- A text that is not refused
 
-  lines-fine : (s : Reading A) (ls : List (List ℕ)) → linesRead step s ls .refusal ≡ 0
+  -- no line of some is refused that are read without a refusal
+  pub lines-fine : (s : Reading A) (ls : List (List ℕ)) → linesRead step s ls .refusal ≡ 0
       → (i : ℕ) → i < length ls
       → step .refusal (s .line + i) (linesRead step s (take i ls) .held) (getD ls i []) ≡ 0
   unfolding linesRead
