@@ -8,4 +8,5 @@ pub mod Lines
 pub mod Says
 pub mod Running
 pub mod Answering
+pub mod Flat
 pub mod Putting
