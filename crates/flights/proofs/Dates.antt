@@ -1,7 +1,7 @@
 -- Laws of dates as text: what is written reads back, and what is read is what is written. Assumes nothing.
 use Prim.Native.Nat.{ℕ, _+_, _-_, _*_, _/_, _%_, _^_, _≤_, _<_}
-use mathlib.Core.{Path._≡_, Path.refl, Path.sym, Path._∙_, List.List, List._∷_, List._++_, Bool._&&_}
-use native.Mathlib.Omega.{arith}
+use mathlib.Core.{Path._≡_, Path.refl, Path.sym, Path._∙_, List.List, List.[], List._∷_, List._++_, Bool._&&_}
+use native.Mathlib.{Nat.div-div-eq-div-mul, Omega.arith}
 use borrow.Author.Tests.{eqb-true}
 use lib.{ListN.length, ListN.getD, ListN.take, ListN.drop, ListN.length-drop, Seq.length-take-le, Dec.eqb}
 use Rattle.refusal.proofs.Laws.{and-left, and-right}
@@ -10,6 +10,7 @@ use Rattle.text.specs.declared.number.Number.{Number}
 use Rattle.text.specs.declared.number.Number.the-variants.{Got, Off}
 use Rattle.text.proofs.{Digits.passed, Shown.digits-back, Exact.digits-text, Clocks.three-parts}
 use Rattle.flights.specs.Date.{digitsAt, dated, dateOf, showDate}
+use Rattle.flights.specs.Spelled.{digit}
 
 -- digits at a place that were read have their text, and make a number of so many digits
 pub part-text : (s : List ℕ) (at count n : ℕ) → at + count ≤ length s → digitsAt s at count ≡ Got n
@@ -64,4 +65,44 @@ date-back n h =
       digits-back 2 (n / 100 % 100) (omega arith),
       digits-back 2 (n % 100) (omega arith),
       w,
+    )
+
+-- the digits of a number of two, and of one of four
+two-digits : (n : ℕ) → showDigits 2 (n % 100) ≡ digit (n / 10) ∷ digit n ∷ []
+two-digits n =
+    let a : n % 100 / 10 ≡ n / 10 % 10 = omega arith in
+    let b : n % 100 % 10 ≡ n % 10 = omega arith in
+    rw (a, b)
+
+four-digits : (n : ℕ) → n < 10000
+    → showDigits 4 n ≡ digit (n / 1000) ∷ digit (n / 100) ∷ digit (n / 10) ∷ digit n ∷ []
+four-digits n h = rw (thousands, hundreds, tens n, units n)
+  where
+    thousands : n / 1000 % 10 ≡ n / 1000
+    thousands = omega arith
+
+    hundreds : n % 1000 / 100 ≡ n / 100 % 10
+    hundreds = omega arith
+
+    tens : (n : ℕ) → n % 1000 % 100 / 10 ≡ n / 10 % 10
+    tens n = omega arith
+
+    units : (n : ℕ) → n % 1000 % 100 % 10 ≡ n % 10
+    units n = omega arith
+
+hyphened : {a b c d e f : List ℕ} → a ≡ d → b ≡ e → c ≡ f
+    → a ++ (45 ∷ b) ++ (45 ∷ c) ≡ d ++ (45 ∷ e) ++ (45 ∷ f)
+hyphened p q r = cc
+
+-- so the digits of a date stand as they do in its number
+pub date-digits : (n : ℕ) → n < 100000000
+    → showDate n ≡ digit (n / 10000000) ∷ digit (n / 1000000) ∷ digit (n / 100000) ∷ digit (n / 10000) ∷ 45
+    ∷ digit (n / 1000) ∷ digit (n / 100) ∷ 45 ∷ digit (n / 10) ∷ digit n ∷ []
+date-digits n h =
+    hyphened (four-digits (n / 10000) (omega arith)) (two-digits (n / 100)) (two-digits n)
+    ∙ rw (
+      div-div-eq-div-mul n 10000 1000,
+      div-div-eq-div-mul n 10000 100,
+      div-div-eq-div-mul n 10000 10,
+      div-div-eq-div-mul n 100 10,
     )

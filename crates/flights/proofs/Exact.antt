@@ -9,18 +9,18 @@ use lib.{Seq.ext-getD, Dec.eqb, Dec.ltb}
 use Rattle.refusal.proofs.Laws.{and-left, and-right}
 use Rattle.date.specs.Calendar.{dateExists}
 use Rattle.text.specs.{Line.bareLine, Field.countOf, Index.every, Index.listing, Number.isGot, Number.valueOf}
-use Rattle.text.specs.Spelled.{bytes}
 use Rattle.text.specs.declared.number.Number.the-variants.{Got}
 use Rattle.text.proofs.Digits.{either, got-value, whole-small}
 use Rattle.text.proofs.Indices.{every-each, every-all, listing-at, length-listing}
 use Rattle.text.proofs.{Exact.whole-exact, Shown.whole-back, Clocks.time-exact, Clocks.time-back}
 use Rattle.text.proofs.Letters.{letter-exact, two-back}
 use Rattle.flights.specs.Column.{hasLayout}
-use Rattle.flights.specs.Cell.{cellOf, cellAt, gotAt, valueAt}
+use Rattle.flights.specs.Cell.{classLetters, kindLetters, cellOf, cellAt, gotAt, valueAt}
 use Rattle.flights.specs.Row.{refusedFlight, readFlight, judgedFlight, valuesOf, rowOf, flightOf}
 use Rattle.flights.specs.declared.Flight.{Flight}
 use Rattle.flights.specs.{Spelled.column, Spelled.Spells, Exact.RowExactly}
-use Rattle.flights.proofs.{Dates.date-exact, Dates.date-back, Names.name-named, Names.named-name}
+use Rattle.flights.proofs.Dates.{date-exact, date-back, date-digits}
+use Rattle.flights.proofs.Names.{name-named, named-name}
 use Rattle.flights.proofs.Circuits.{circuit-spelled, spelled-circuit}
 
 -- a row on its layout: how many fields it has, and that each was read
@@ -102,15 +102,15 @@ module _ (columns : ℕ) (row : List ℕ) (l : Laid columns (bareLine row)) wher
       let number = read-at 0 (omega arith) in
       let date = date-exact (column row 1) (getD v 1 0) (read-at 1 (omega arith)) in
       let time = time-exact (column row 2) (getD v 2 0) (read-at 2 (omega arith)) in
-      let class = letter-exact (bytes "VH") (column row 3) (getD v 3 0) (read-at 3 (omega arith)) in
-      let kind = letter-exact (bytes "SL") (column row 4) (getD v 4 0) (read-at 4 (omega arith)) in
+      let class = letter-exact classLetters (column row 3) (getD v 3 0) (read-at 3 (omega arith)) in
+      let kind = letter-exact kindLetters (column row 4) (getD v 4 0) (read-at 4 (omega arith)) in
       record {
         layout = l .layout;
         commas = l .count;
         each = values-length columns (bareLine row) (l .layout);
         number = whole-exact (column row 0) (getD v 0 0) number;
         number< = whole-small (column row 0) (getD v 0 0) number;
-        date = date .0;
+        date = date .0 ∙ date-digits (getD v 1 0) (date .1);
         date< = date .1;
         time = time .0;
         time< = time .1;
@@ -136,12 +136,13 @@ module _ (columns : ℕ) (row values : List ℕ) (w : Spells columns row values)
   cell : (k : ℕ) → k < columns → cellAt (bareLine row) k ≡ Got (getD values k 0)
   unfolding cellOf
   cell zero h = rw (w .number) (whole-back (getD values 0 0) (w .number<))
-  cell (suc zero) h = rw (w .date) (date-back (getD values 1 0) (w .date<))
+  cell (suc zero) h =
+      rw (w .date ∙ sym (date-digits (getD values 1 0) (w .date<))) (date-back (getD values 1 0) (w .date<))
   cell (suc (suc zero)) h = rw (w .time) (time-back (getD values 2 0) (w .time<))
   cell (suc (suc (suc zero))) h =
-      rw (w .class) (two-back 86 72 (λ e. absurd (omega arith)) (getD values 3 0) (w .class<))
+      rw (w .class) (two-back _ _ (λ e. absurd (omega arith)) (getD values 3 0) (w .class<))
   cell (suc (suc (suc (suc zero)))) h =
-      rw (w .kind) (two-back 83 76 (λ e. absurd (omega arith)) (getD values 4 0) (w .kind<))
+      rw (w .kind) (two-back _ _ (λ e. absurd (omega arith)) (getD values 4 0) (w .kind<))
   cell (suc (suc (suc (suc (suc zero))))) h = named-name (column row 5) (getD values 5 0) (w .runway)
   cell (suc (suc (suc (suc (suc (suc zero)))))) h = named-name (column row 6) (getD values 6 0) (w .airport)
   cell (suc (suc (suc (suc (suc (suc (suc zero))))))) h = named-name (column row 7) (getD values 7 0) (w .type)

@@ -7,3 +7,4 @@ pub mod Exact
 pub mod Ranges
 pub mod Longest
 pub mod Headers
+pub mod Shown

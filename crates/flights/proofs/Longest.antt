@@ -1,15 +1,19 @@
--- The longest row has 48 bytes before its CRLF, 46 in tracks.csv: a longer one is off its layout. Assumes nothing.
+-- The longest row has 48 bytes before its CRLF, 46 in tracks.csv, and the longest header 51: a longer line is off its
+-- layout. Assumes nothing.
 use Prim.Native.Nat.{ℕ, zero, suc, _≤_, _<_}
-use mathlib.Core.{Path._≡_, Path.ap, List.List, Logic.⊎-elim}
+use mathlib.Core.{Path._≡_, Path.ap, List.List, Bool.and-false, Logic.⊎-elim}
 use native.Mathlib.Omega.{arith}
-use lib.ListN.{length}
+use lib.{ListN.length, Dec.eqb}
 use Rattle.text.specs.{Field.countOf, Field.fieldOf, Line.bareLine}
 use Rattle.text.specs.declared.number.Number.the-variants.{Got}
-use Rattle.text.proofs.{Digits.got-value, Digits.whole-small, Exact.whole-exact, Shown.shown-width}
+use Rattle.text.proofs.Digits.{either, got-value, whole-small}
+use Rattle.text.proofs.{Exact.whole-exact, Shown.shown-width, Sames.same-length}
 use Rattle.text.proofs.{Fields.widest, Fields.line-within, Indices.every-each}
 use Rattle.text.proofs.{Clocks.time-exact, Letters.letter-exact}
 use Rattle.flights.specs.Cell.{cellOf, cellAt, gotAt, valueAt}
-use Rattle.flights.specs.{Row.refusedFlight, Row.flightOf, Limits.longestRow, Spelled.Circuit}
+use Rattle.flights.specs.Header.{trackHeader, movementHeader, isHeader, headerRefusal}
+use Rattle.flights.specs.{Row.refusedFlight, Row.flightOf, Limits.longestRow, Limits.longestHeader}
+use Rattle.flights.specs.Spelled.{Circuit}
 use Rattle.flights.specs.Spelled.Circuit.{blank, marked}
 use Rattle.flights.proofs.{Dates.date-exact, Names.name-few, Circuits.circuit-spelled, Exact.Laid, Exact.row-laid}
 
@@ -75,3 +79,13 @@ long-track row h =
     ⊎-elim (λ off. off)
     (λ on. absurd (omega (arith, laid-within 8 (bareLine row) (on .0) 7 (omega arith), track-most)))
     (row-laid 8 row)
+
+-- and a longer line is no header
+pub long-header : (columns : ℕ) (line : List ℕ) → longestHeader < length line → headerRefusal columns line ≡ 16
+unfolding isHeader
+long-header columns line h =
+    let tracks = same-length line trackHeader (λ e. omega arith) in
+    let movements = same-length line movementHeader (λ e. omega arith) in
+    either (eqb columns 8)
+    (λ yes. rw (yes, tracks))
+    (λ no. rw (no, movements, and-false (eqb columns 9)))

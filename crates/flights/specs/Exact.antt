@@ -3,7 +3,7 @@ use Prim.Native.Nat.{ℕ}
 use mathlib.Core.Path.{_≡_}
 use mathlib.Core.Bool.{true, false}
 use mathlib.Core.Logic.{_↔_}
-use mathlib.Core.List.{List}
+use mathlib.Core.List.{List, [], _∷_}
 use lib.ListN.{getD, replicate}
 use Rattle.date.specs.Calendar.{dateExists}
 use Rattle.text.specs.Spelled.{bytes}
@@ -45,3 +45,20 @@ pub record NamesAre : Type 0 where
   -- 0x4548424B and 0x3036
   pub airport : nameOf (bytes "EHBK") ≡ Got 1162363467
   pub runway : nameOf (bytes "06") ≡ Got 12342
+
+-- The rows that the rules show, and dates that don't exist
+pub record ShownRows : Type 0 where
+  pub movement : flightOf 9 (bytes "17,2026-03-31,23:58:10,V,S,06,EHBK,B738,") ≡ record {
+    refusal = 0;
+    values = 17 ∷ 20260331 ∷ 86290 ∷ 0 ∷ 0 ∷ 12342 ∷ 1162363467 ∷ 1110913848 ∷ 0 ∷ [];
+  }
+  pub circuit : flightOf 9 (bytes "18,2026-04-01,00:00:00,H,L,06,EHBK,R44,C") ≡ record {
+    refusal = 0;
+    values = 18 ∷ 20260401 ∷ 0 ∷ 1 ∷ 1 ∷ 12342 ∷ 1162363467 ∷ 5387316 ∷ 1 ∷ [];
+  }
+  pub track : flightOf 8 (bytes "4,2026-04-01,00:01:00,V,S,06,EHBK,B738") ≡ record {
+    refusal = 0;
+    values = 4 ∷ 20260401 ∷ 60 ∷ 0 ∷ 0 ∷ 12342 ∷ 1162363467 ∷ 1110913848 ∷ 0 ∷ [];
+  }
+  pub february : flightOf 8 (bytes "4,2026-02-30,00:01:00,V,S,06,EHBK,B738") .refusal ≡ 18
+  pub nought : flightOf 8 (bytes "4,0000-00-00,00:01:00,V,S,06,EHBK,B738") .refusal ≡ 18

@@ -29,6 +29,10 @@ pub data Circuit (text : List ℕ) (mark : ℕ) : Type 0 where
   blank : text ≡ [] → mark ≡ 0 → Circuit text mark
   marked : text ≡ bytes "C" → mark ≡ 1 → Circuit text mark
 
+-- the last digit of a number
+abbrev pub digit : ℕ → ℕ
+digit n = 48 + n % 10
+
 -- column k of a row, counted from 0, between its commas
 abbrev pub column : List ℕ → ℕ → List ℕ
 column row k = fieldOf 44 k (bareLine row)
@@ -41,10 +45,11 @@ pub record Spells (columns : ℕ) (row values : List ℕ) : Type 0 where
   -- up to seven digits, and no needless zero in front
   pub number : column row 0 ≡ showWhole (getD values 0 0)
   pub number< : getD values 0 0 < 10000000
-  -- the year in four digits, the month and the day in two, hyphens between them
-  pub date : column row 1
-      ≡ showDigits 4 (getD values 1 0 / 10000) ++ (45 ∷ showDigits 2 (getD values 1 0 / 100 % 100))
-      ++ (45 ∷ showDigits 2 (getD values 1 0 % 100))
+  -- the eight digits of the date, with a hyphen behind its year and one behind its month
+  pub date : let d = getD values 1 0 in
+      column row 1
+      ≡ digit (d / 10000000) ∷ digit (d / 1000000) ∷ digit (d / 100000) ∷ digit (d / 10000) ∷ 45
+      ∷ digit (d / 1000) ∷ digit (d / 100) ∷ 45 ∷ digit (d / 10) ∷ digit d ∷ []
   pub date< : getD values 1 0 < 100000000
   -- hours, minutes and seconds in two digits, colons between them
   pub time : column row 2

@@ -29,7 +29,7 @@ fn circuit(t: &[u8]) -> Number
 }
 
 // What stands in column `k` of a row.
-pub(crate) fn cell(k: usize, t: &[u8]) -> Number
+pub fn cell(k: usize, t: &[u8]) -> Number
     ensures { λ r. ⌜ r ≡ cellOf k (now (t .entry)) ⌝ }
 {
     if k == NUMBER {

@@ -14,7 +14,7 @@ ghost use Rattle.flights.specs.Column.{movementColumns, hasLayout};
 ghost use Rattle.flights.specs.Row.{refusedFlight, judgedFlight, rowOf, flightOf};
 ghost use Rattle.flights.specs.Header.{isHeader, headerRefusal};
 
-mod cell;
+pub mod cell;
 pub mod column;
 mod day;
 mod name;

@@ -4,6 +4,7 @@ use crate::note::shown;
 use crate::note::words;
 use crate::part::has;
 use crate::part::is_digits;
+use text::number::Number;
 
 // ` is 'found'`.
 pub fn found(out: &mut [u8; ROOM], at: usize, t: &[u8]) -> usize {
@@ -41,6 +42,20 @@ pub fn whole(out: &mut [u8; ROOM], at: usize, t: &[u8]) -> usize {
         next,
         b", expected a whole number of one to seven digits",
     )
+}
+
+// A field that should be a kind.
+pub fn kind(out: &mut [u8; ROOM], at: usize, t: &[u8]) -> usize {
+    let next = found(out, at, t);
+    words(out, next, b", expected S (start) or L (landing)")
+}
+
+// Whether a field was read.
+pub fn is_number(n: Number) -> bool {
+    match n {
+        Number::Got(_) => true,
+        Number::Off => false,
+    }
 }
 
 // A field that should be a level.

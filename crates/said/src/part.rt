@@ -46,6 +46,47 @@ pub fn line(s: &[u8], k: u64) -> Part
     Part { start, end }
 }
 
+// Of the `left` bytes from `at` on the first line, and whether all of it is there; `ended` says whether the bytes are
+// the last. An empty one where they don't stand in the text.
+pub struct Cut {
+    pub start: usize,
+    pub end: usize,
+    pub whole: bool,
+}
+
+pub fn first_line(s: &[u8], at: usize, left: usize, ended: bool) -> Cut
+    ensures { λ r. ⌜ (r .start ≤ r .end) × (r .end ≤ length (now (s .entry))) ⌝ }
+{
+    if s.len() < at {
+        return Cut {
+            start: 0,
+            end: 0,
+            whole: ended,
+        };
+    }
+    if s.len() - at < left {
+        return Cut {
+            start: at,
+            end: at,
+            whole: ended,
+        };
+    }
+    let size = row_end(&s[at..at + left], 0);
+    Cut {
+        start: at,
+        end: at + size,
+        whole: either(ended, size < left),
+    }
+}
+
+// Whether one of the two holds.
+fn either(a: bool, b: bool) -> bool {
+    if a {
+        return true;
+    }
+    b
+}
+
 // The number of the last column, counted from 0.
 pub fn last(s: &[u8], d: u8) -> usize {
     let mut count = 0;

@@ -2,10 +2,10 @@
 use crate::row::column_is;
 use crate::row::fields;
 use crate::row::header;
+use crate::table::LIMITS;
 use crate::table::Sought;
 use crate::table::Table;
 use crate::table::first;
-use crate::table::names;
 use movement::limits::MAX_POINTS;
 use said::note::ROOM;
 use said::note::below;
@@ -18,6 +18,7 @@ use said::odd;
 use said::part::last;
 use said::part::line;
 use said::part::one_more;
+use said::row::empty;
 
 // A header, off its layout.
 fn header_off(out: &mut [u8; ROOM], at: usize, row: &[u8]) -> usize {
@@ -34,12 +35,6 @@ fn header_off(out: &mut [u8; ROOM], at: usize, row: &[u8]) -> usize {
         middle,
         b", expected 2 to 9: days, and p1 to p8 at most",
     )
-}
-
-// A line without bytes.
-fn empty(out: &mut [u8; ROOM], at: usize, end: usize) -> usize {
-    let next = words(out, at, b"the line is empty or missing, expected ");
-    names(out, next, Table::LimitsFile, end)
 }
 
 // The number of the last column of the header.
@@ -64,7 +59,7 @@ fn layout(out: &mut [u8; ROOM], at: usize, number: u64, text: &[u8], row: &[u8])
     }
     let end = last_of(text);
     if row.len() == 0 {
-        return empty(out, at, end);
+        return empty(out, at, &LIMITS, end, true);
     }
     fields(out, at, Table::LimitsFile, row, end)
 }

@@ -3,16 +3,15 @@ use crate::row::column_is;
 use crate::row::count_off;
 use crate::row::fields;
 use crate::row::header;
+use crate::table::REGISTER;
 use crate::table::Sought;
 use crate::table::Table;
 use crate::table::first;
-use crate::table::names;
 use movement::limits::MAX_MASS;
 use register::column::IDENTITY;
 use register::column::LEVELS;
 use register::column::MASS;
 use register::header::register_points;
-use said::core::row_end;
 use said::note::ROOM;
 use said::note::below;
 use said::note::byte;
@@ -24,7 +23,9 @@ use said::note::send;
 use said::note::shown;
 use said::note::words;
 use said::odd;
+use said::part::first_line;
 use said::part::last;
+use said::row::empty;
 use text::number::Number;
 
 // The number of points in the header and in limits.csv.
@@ -46,16 +47,6 @@ fn header_off(out: &mut [u8; ROOM], at: usize, line: &[u8], points: u32, end: us
         return header(out, at, Table::Register, line);
     }
     count_off(out, at, Table::Register, got, end)
-}
-
-// A line without bytes.
-fn empty(out: &mut [u8; ROOM], at: usize, number: u64, end: usize) -> usize {
-    if number == 1 {
-        let next = words(out, at, b"the line is empty or missing, expected ");
-        return names(out, next, Table::Register, end);
-    }
-    let next = words(out, at, b"the line is empty, expected ");
-    names(out, next, Table::Register, end)
 }
 
 // A line off its layout; `whole` says whether these are all of its bytes.
@@ -80,7 +71,7 @@ fn layout(
     }
     let end = LEVELS - 1 + points as usize;
     if line.len() == 0 {
-        return empty(out, at, number, end);
+        return empty(out, at, &REGISTER, end, number == 1);
     }
     if number == 1 {
         return header_off(out, at, line, points, end);
@@ -200,27 +191,17 @@ pub fn refused_in(
     refusal: u32,
     points: u32,
 ) {
-    if bytes.len() < at {
-        return;
-    }
-    if bytes.len() - at < left {
-        return;
-    }
-    first_line(file, &bytes[at..at + left], ended, number, refusal, points);
-}
-
-fn first_line(file: &[u8], rest: &[u8], ended: bool, number: u64, refusal: u32, points: u32) {
-    let end = row_end(rest, 0);
-    let whole = either(ended, end < rest.len());
-    refused(file, number, refusal, &rest[0..end], whole, points);
-}
-
-// Whether one of the two holds.
-fn either(a: bool, b: bool) -> bool {
-    if a {
-        return true;
-    }
-    b
+    let line = first_line(bytes, at, left, ended);
+    let start = line.start;
+    let end = line.end;
+    refused(
+        file,
+        number,
+        refusal,
+        &bytes[start..end],
+        line.whole,
+        points,
+    );
 }
 
 // The register can't be read on.

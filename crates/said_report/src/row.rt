@@ -1,23 +1,23 @@
 // What is wrong with a line of a register or of limits.csv whose bytes are not odd as a whole.
-use crate::clock;
+use crate::table::LIMITS;
+use crate::table::REGISTER;
 use crate::table::Sought;
 use crate::table::Table;
 use crate::table::first;
 use crate::table::levels_from;
 use crate::table::name;
-use crate::table::names;
 use register::column::KIND;
 use register::column::TIME;
 use register::column::TYPE;
+use said::clock;
 use said::field;
 use said::note::ROOM;
 use said::note::byte;
-use said::note::number;
 use said::note::shown;
 use said::note::words;
 use said::part::column;
 use said::part::last;
-use said::part::one_more;
+use said::row;
 
 // A wrong number of columns: the last is number `got`, counted from 0, and should be number `end`.
 pub(crate) fn count_off(
@@ -27,12 +27,10 @@ pub(crate) fn count_off(
     got: usize,
     end: usize,
 ) -> usize {
-    let start = words(out, at, b"the number of columns is ");
-    let middle = number(out, start, one_more(got as u64));
-    let comma = words(out, middle, b", expected ");
-    let colon = number(out, comma, one_more(end as u64));
-    let list = words(out, colon, b": ");
-    names(out, list, table, end)
+    match table {
+        Table::Register => row::count_off(out, at, &REGISTER, got, end),
+        Table::LimitsFile => row::count_off(out, at, &LIMITS, got, end),
+    }
 }
 
 // What column k has, as a file has it.
@@ -74,8 +72,7 @@ fn row_field(out: &mut [u8; ROOM], at: usize, k: usize, t: &[u8]) -> usize {
         );
     }
     if k == KIND {
-        let next = field::found(out, at, t);
-        return words(out, next, b", expected S (start) or L (landing)");
+        return field::kind(out, at, t);
     }
     field::whole(out, at, t)
 }
@@ -111,25 +108,19 @@ pub(crate) fn column_is(
     k: usize,
     expected: &[u8],
 ) -> usize {
-    let title = name(out, at, table, k);
-    let part = column(line, k, b',');
-    let start = part.start;
-    let end = part.end;
-    let next = field::found(out, title, &line[start..end]);
-    words(out, next, expected)
+    match table {
+        Table::Register => row::column_is(out, at, &REGISTER, line, k, expected),
+        Table::LimitsFile => row::column_is(out, at, &LIMITS, line, k, expected),
+    }
 }
 
 // A header whose columns are not those that they should be.
 pub(crate) fn header(out: &mut [u8; ROOM], at: usize, table: Table, line: &[u8]) -> usize {
     let k = first(Sought::Misnamed, table, line, 0);
-    let word = words(out, at, b"column ");
-    let place = number(out, word, one_more(k as u64));
-    let part = column(line, k, b',');
-    let start = part.start;
-    let end = part.end;
-    let next = field::found(out, place, &line[start..end]);
-    let comma = words(out, next, b", expected ");
-    name(out, comma, table, k)
+    match table {
+        Table::Register => row::misnamed(out, at, &REGISTER, line, k),
+        Table::LimitsFile => row::misnamed(out, at, &LIMITS, line, k),
+    }
 }
 
 // A row whose last column should be number `end`.

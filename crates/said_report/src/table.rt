@@ -1,5 +1,4 @@
 // The columns of a register and of limits.csv: their names, and the first one that is not as it should be.
-use crate::clock::is_time;
 use movement::limits::MAX_LEVEL;
 use register::column::IDENTITY;
 use register::column::KIND;
@@ -7,13 +6,13 @@ use register::column::LEVELS;
 use register::column::MASS;
 use register::column::TIME;
 use register::column::TYPE;
+use said::field::is_number;
 use said::note::ROOM;
-use said::note::words;
 use said::part::column;
 use said::part::has;
 use said::part::is_digits;
+use said::row;
 use text::number::Number;
-use text::same::same_text;
 ghost use Prim.Native.Nat.{_<_};
 
 // Whose columns.
@@ -21,6 +20,11 @@ pub enum Table {
     Register,
     LimitsFile,
 }
+
+// Their headers, as long as they may be.
+pub(crate) const REGISTER: [u8; 46] = *b"id,type,mtow,kind,time,l1,l2,l3,l4,l5,l6,l7,l8";
+
+pub(crate) const LIMITS: [u8; 28] = *b"days,p1,p2,p3,p4,p5,p6,p7,p8";
 
 // What a column is looked for: a header's with another name, one off its layout, a level that is blank or over 120.00,
 // and a level that a decimal comma cuts in two.
@@ -43,65 +47,19 @@ pub(crate) fn levels_from(table: Table) -> usize {
     }
 }
 
-// The names of the first k columns and one more; or of that one alone.
-fn put_names(out: &mut [u8; ROOM], at: usize, header: &[u8], k: usize, alone: bool) -> usize {
-    let part = column(header, k, b',');
-    let start = part.start;
-    let end = part.end;
-    if alone {
-        return words(out, at, &header[start..end]);
-    }
-    words(out, at, &header[0..end])
-}
-
-// The same, of a table.
-fn names_of(out: &mut [u8; ROOM], at: usize, table: Table, k: usize, alone: bool) -> usize {
-    match table {
-        Table::Register => put_names(
-            out,
-            at,
-            b"id,type,mtow,kind,time,l1,l2,l3,l4,l5,l6,l7,l8",
-            k,
-            alone,
-        ),
-        Table::LimitsFile => put_names(out, at, b"days,p1,p2,p3,p4,p5,p6,p7,p8", k, alone),
-    }
-}
-
 // The name of column k.
 pub(crate) fn name(out: &mut [u8; ROOM], at: usize, table: Table, k: usize) -> usize {
-    names_of(out, at, table, k, true)
-}
-
-// The names up to column k.
-pub(crate) fn names(out: &mut [u8; ROOM], at: usize, table: Table, k: usize) -> usize {
-    names_of(out, at, table, k, false)
-}
-
-// Whether column k of two lines has the same text.
-fn is_same(line: &[u8], k: usize, header: &[u8]) -> bool {
-    let mine = column(line, k, b',');
-    let start = mine.start;
-    let end = mine.end;
-    let its = column(header, k, b',');
-    let from = its.start;
-    let to = its.end;
-    same_text(&line[start..end], &header[from..to])
+    match table {
+        Table::Register => row::name(out, at, &REGISTER, k),
+        Table::LimitsFile => row::name(out, at, &LIMITS, k),
+    }
 }
 
 // Whether column k has the name that it should have.
 fn is_named(table: Table, line: &[u8], k: usize) -> bool {
     match table {
-        Table::Register => is_same(line, k, b"id,type,mtow,kind,time,l1,l2,l3,l4,l5,l6,l7,l8"),
-        Table::LimitsFile => is_same(line, k, b"days,p1,p2,p3,p4,p5,p6,p7,p8"),
-    }
-}
-
-// Whether a text is a number.
-fn is_number(n: Number) -> bool {
-    match n {
-        Number::Got(_) => true,
-        Number::Off => false,
+        Table::Register => row::is_named(line, k, &REGISTER),
+        Table::LimitsFile => row::is_named(line, k, &LIMITS),
     }
 }
 
@@ -128,7 +86,7 @@ fn fits_row(t: &[u8], k: usize) -> bool {
         return is_letter(t, b"SL");
     }
     if k == TIME {
-        return is_time(t);
+        return is_number(text::clock::time(t));
     }
     if t.len() == 0 {
         return true;

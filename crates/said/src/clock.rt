@@ -1,10 +1,10 @@
 // What is wrong with a time of day.
-use said::field::found;
-use said::note::ROOM;
-use said::note::words;
-use said::part::column;
-use said::part::is_digits;
-use said::part::last;
+use crate::field::found;
+use crate::note::ROOM;
+use crate::note::words;
+use crate::part::column;
+use crate::part::is_digits;
+use crate::part::last;
 
 // Whether a text is two digits, of which the first is under `bound`.
 fn is_two(t: &[u8], bound: u8) -> bool {
@@ -30,29 +30,12 @@ fn is_hour(t: &[u8]) -> bool {
     false
 }
 
-// Whether part k of a time is what it should be.
-fn fits(t: &[u8], k: usize) -> bool {
-    let part = column(t, k, b':');
+// Whether a time begins with an hour.
+fn has_hour(t: &[u8]) -> bool {
+    let part = column(t, 0, b':');
     let start = part.start;
     let end = part.end;
-    if k == 0 {
-        return is_hour(&t[start..end]);
-    }
-    is_two(&t[start..end], b'6')
-}
-
-// Whether a text is a time of day.
-pub(crate) fn is_time(t: &[u8]) -> bool {
-    if last(t, b':') != 2 {
-        return false;
-    }
-    if !fits(t, 0) {
-        return false;
-    }
-    if !fits(t, 1) {
-        return false;
-    }
-    fits(t, 2)
+    is_hour(&t[start..end])
 }
 
 // Whether the hour has one digit.
@@ -67,7 +50,7 @@ fn is_short(t: &[u8]) -> bool {
 }
 
 // A text that should be a time of day.
-pub(crate) fn off(out: &mut [u8; ROOM], at: usize, t: &[u8]) -> usize {
+pub fn off(out: &mut [u8; ROOM], at: usize, t: &[u8]) -> usize {
     let next = found(out, at, t);
     if is_short(t) {
         return words(
@@ -79,7 +62,7 @@ pub(crate) fn off(out: &mut [u8; ROOM], at: usize, t: &[u8]) -> usize {
     if last(t, b':') != 2 {
         return words(out, next, b", expected hh:mm:ss, as 07:00:00");
     }
-    if !fits(t, 0) {
+    if !has_hour(t) {
         return words(out, next, b", expected an hour from 00 to 23, as 07:00:00");
     }
     words(
