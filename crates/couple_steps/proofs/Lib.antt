@@ -10,3 +10,4 @@ pub mod Running
 pub mod Answering
 pub mod Flat
 pub mod Putting
+pub mod Order

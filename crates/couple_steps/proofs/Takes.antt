@@ -1,6 +1,6 @@
 -- A line of a file: the header, a row that is refused, one too many, or a row that is stored. Assumes nothing.
 use Prim.Native.Nat.{ℕ, _+_, _-_, _≤_, _<_}
-use mathlib.Core.{Path._≡_, Path.refl, Path.sym, Path.ap, Path._∙_, List.List, List.[], List._∷_, List._++_}
+use mathlib.Core.{Path._≡_, Path.refl, Path.sym, Path.ap, Path.subst, Path._∙_, List.List, List.[], List._∷_, List._++_}
 use native.Mathlib.Omega.{arith}
 use lib.{ListN.length, ListN.getD, Dec.eqb}
 use borrow.Author.Tests.{eq-eqb, ne-eqb, le-leb, lt-leb}
@@ -9,9 +9,12 @@ use Rattle.text.proofs.Digits.{either}
 use Rattle.coupling_rules.specs.Limits.{maxFlights}
 use Rattle.flights.specs.declared.Flight.{Flight}
 use Rattle.flights.specs.{Row.flightOf, Header.headerRefusal}
-use Rattle.stream.specs.InnerTaken.{LineTaken}
+use Rattle.channel.specs.{System.Origin, System.Broken, Input.Came}
+use Rattle.stream.specs.declared.Turn.{Turn}
+use Rattle.stream.specs.{InnerTaken.LineTaken, InnerFeeding.failedAt, InnerFeeding.Turned}
+use Rattle.stream.proofs.Turns.{turn-failed}
 use Rattle.couple_steps.specs.Table.{Rows, lineRefusal, lineAfter, tableStep}
-use Rattle.couple_steps.specs.InnerTable.{rowsIn, heldIn, nextLine, Roomy}
+use Rattle.couple_steps.specs.InnerTable.{rowsIn, heldIn, readingIn, nextLine, Roomy}
 
 module _ (columns n : ℕ) (flat line : List ℕ) where
   pub header-taken : {r : ℕ} → n ≡ 1 → r ≡ headerRefusal columns line
@@ -71,3 +74,15 @@ module _ (columns : ℕ) {n r : ℕ} {a : Rows} {line : List ℕ} (flat : List �
 pub roomy-as : {columns : ℕ} {flat flat′ : List ℕ} → Roomy columns flat → length flat′ ≡ length flat
     → Roomy columns flat′
 roomy-as room e = record { few = room .few; room = omega (arith, room .room, e) }
+
+-- a read that failed leaves the table as it was
+pub table-failed : (columns : ℕ) (flat : List ℕ) {origin : Origin} {row line taken taken′ : ℕ} {waited bytes : List ℕ}
+    {t : Turn} → t ≡ failedAt line → ((old : List ℕ) → Came origin taken old → Broken origin old)
+    → Turned origin (tableStep columns) row (readingIn columns 0 line flat) waited taken t
+    (heldIn columns flat (t .line)) bytes taken′
+table-failed columns flat {origin} {row} {line} {taken} {taken′} {waited} {bytes} {t} e broken =
+    let same : line ≡ t .line = sym (ap (λ (x : Turn). x .line) e) in
+    subst
+    (λ (n : ℕ). Turned origin (tableStep columns) row (readingIn columns 0 line flat) waited taken t
+    (heldIn columns flat n) bytes taken′)
+    same (turn-failed e broken)

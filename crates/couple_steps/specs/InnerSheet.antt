@@ -6,13 +6,15 @@ use mathlib.Core.List.{List, _++_}
 use lib.ListN.{length, take, drop}
 use Rattle.text.specs.Index.{listing}
 use Rattle.text.specs.Sheet.{ended}
+use Rattle.text.specs.Spelled.{bytes}
 use Rattle.couple_steps.specs.declared.core.put.Part.{Part}
 use Rattle.couple_steps.specs.Sheet.{flightLine}
 
--- the heading with its CRLF, and the longest line with its CRLF: two numbers, a comma and the CRLF
-abbrev pub headingSize : ℕ
-headingSize = 10
+-- the heading with its CRLF
+abbrev pub headingText : List ℕ
+headingText = bytes "id,track\r\n"
 
+-- the longest line with its CRLF: two numbers of up to 20 digits, a comma and the CRLF
 abbrev pub longestFlight : ℕ
 longestFlight = 43
 

@@ -1,0 +1,4 @@
+mod feed;
+mod print;
+
+fn main() {}
