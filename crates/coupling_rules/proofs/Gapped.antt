@@ -8,7 +8,7 @@ use native.Mathlib.Omega.{arith}
 use lib.Dec.{eqb, ltb}
 use borrow.Author.Tests.{eqb-true, eq-eqb, ltb-true, lt-ltb}
 use Rattle.coupling_rules.specs.Rule.{distance}
-use Rattle.coupling_rules.specs.InnerPacked.{ranked, packedGap}
+use Rattle.coupling_rules.specs.InnerPacked.{ranked, gapBetween, packedGap}
 use Rattle.coupling_rules.proofs.Members.{three-ways}
 use Rattle.coupling_rules.proofs.Sides.{Gaps}
 
@@ -21,6 +21,10 @@ ranked-high c t d u h k = omega arith
 pub ranked-low : (c t u : ℕ) → t < u → ranked c t < ranked c u
 unfolding ranked
 ranked-low c t u h = omega arith
+
+pub ranked-low-le : (c t u : ℕ) → t ≤ u → ranked c t ≤ ranked c u
+unfolding ranked
+ranked-low-le c t u h = omega arith
 
 pub ranked-same : (c t d u : ℕ) → t < 18446744073709551616 → u < 18446744073709551616
     → ranked c t ≡ ranked d u
@@ -72,11 +76,11 @@ module _ (classes moments : ℕ → ℕ) (class moment reach : ℕ) where
   says-by j false b e f d h = absurd (omega arith)
 
   pub gap-says : (j : ℕ) → 0 < packedGap classes moments class moment reach j → Fitting j
-  unfolding packedGap
+  unfolding gapBetween
   gap-says j h = says-by j (eqb (classes j) class) (ltb (distance moment (moments j)) reach) refl refl refl h
 
   fitting : (j : ℕ) → classes j ≡ class → distance moment (moments j) < reach → 0 < g j
-  unfolding packedGap
+  unfolding gapBetween
   fitting j e h =
       rw (eq-eqb (classes j) class e, lt-ltb (distance moment (moments j)) reach h) (omega arith)
 

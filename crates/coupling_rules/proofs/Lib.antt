@@ -12,4 +12,8 @@ pub mod Orders
 pub mod Same
 pub mod Refusing
 pub mod Packing
+pub mod Ranks
 pub mod Taking
+pub mod Sooner
+pub mod Fitting
+pub mod Promised

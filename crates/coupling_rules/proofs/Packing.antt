@@ -5,7 +5,7 @@ use mathlib.Core.{Bool.not, Bool._&&_, List.List, Logic._⊎_, Logic.inl, Logic.
 use Prim.Native.Nat.{ℕ, _+_, _*_, _-_, _≤_, _<_}
 use native.Mathlib.Omega.{arith}
 use lib.Dec.{eqb, ltb, leb}
-use lib.ListN.{length, getD, replicate}
+use lib.ListN.{length, getD, replicate, length-replicate}
 use borrow.Author.Tests.{eqb-true, eqb-false, eq-eqb, ltb-true, ltb-false, le-ltb, le-leb, lt-leb}
 use Rattle.refusal.proofs.{Laws.and-left, Laws.and-right, Ranges.within-at}
 use Rattle.sorting.specs.Sorted.{keyOf, sorted}
@@ -14,11 +14,11 @@ use Rattle.coupling_rules.specs.Flights.{Flights, Movements, many}
 use Rattle.coupling_rules.specs.Rule.{momentOf, moment, distance, agree, windowOf, takesNone, fits, gap, couple}
 use Rattle.coupling_rules.specs.Rule.{places, turnsOf, tracksFor}
 use Rattle.coupling_rules.specs.InnerPacked.{ranked, highOf, lowOf, Packed, Packs, classIn, momentIn, reachOf}
-use Rattle.coupling_rules.specs.{InnerPacked.packedGap, InnerPacked.gapsIn, InnerSides.In}
+use Rattle.coupling_rules.specs.{InnerPacked.gapBetween, InnerPacked.gapsIn, InnerSides.In}
 use Rattle.coupling_rules.proofs.Gapped.{ranked-same}
 use Rattle.coupling_rules.proofs.Refusing.{Values}
 use Rattle.coupling_rules.proofs.Orders.{sorted-in, in-sorted, places-in, in-places}
-use Rattle.coupling_rules.proofs.Same.{sorted-same, couple-same, couple-front}
+use Rattle.coupling_rules.proofs.Same.{sorted-same, couple-same, length-couple, couple-front}
 
 -- Numbers put together
 
@@ -143,7 +143,7 @@ module _ (m : Movements) (t : Flights) (pm pt : Packed) (vm : Values (m .flights
 
   gap-same : (i j : ℕ) → i < many (m .flights) → j < many t
       → gapsIn pt pm (m .flights .classes) (m .circuits) i j ≡ gap m t i j
-  unfolding packedGap gap fits reachOf
+  unfolding gapBetween gap fits reachOf
   gap-same i j hi hj =
       let class = getD (m .flights .classes) i 0 in
       rw (class-agrees (m .flights) t pm pt vm vt nm nt km kt i j hi hj, moment-m i hi, moment-t j hj)
@@ -169,3 +169,10 @@ module _ (m : Movements) (t : Flights) (pm pt : Packed) (vm : Values (m .flights
       (λ j q. moment-t j (places-in (many t) j q))
       ∙ couple-front (gap m t) (momentOf t) turns (places (many t)) room n h inside
       (λ i p. in-sorted (momentOf (m .flights)) i (places n) (in-places n i p))
+
+-- one number a movement
+pub length-tracks : (m : Movements) (t : Flights) → length (tracksFor m t) ≡ many (m .flights)
+unfolding tracksFor
+length-tracks m t =
+    length-couple (gap m t) (momentOf t) (turnsOf (m .flights)) (places (many t)) (replicate (many (m .flights)) 0)
+    ∙ length-replicate {A = ℕ} (many (m .flights)) 0

@@ -7,7 +7,7 @@ use Prim.Native.Nat.{ℕ, zero, suc, _+_, _≤_, _<_}
 use native.Mathlib.Omega.{arith}
 use native.Mathlib.Numerals.{add-one}
 use lib.Dec.{eqb, leb}
-use lib.ListN.{length, drop, getD}
+use lib.ListN.{length, drop, getD, length-drop}
 use lib.Seq.{drop-cons}
 use borrow.Author.Tests.{eqb-true, eqb-false, leb-true, leb-false}
 use Rattle.coupling_rules.specs.Rule.{after}
@@ -35,17 +35,17 @@ says : (a b n : ℕ) → n ≡ nearer a b
 unfolding nearer
 says a b n e = nearer-by a b (eqb a 0) (eqb b 0) (leb a b) refl refl refl n (sym e)
 
-pub says-none : (a b n : ℕ) → n ≡ nearer a b → n ≡ 0 → (a ≡ 0) × (b ≡ 0)
+says-none : (a b n : ℕ) → n ≡ nearer a b → n ≡ 0 → (a ≡ 0) × (b ≡ 0)
 says-none a b n e h =
     ⊎-elim (λ x. x .1) (⊎-elim (λ x. absurd (omega (arith, x .0))) (λ x. absurd (omega (arith, x .0))))
     (says a b n e)
 
-pub says-first : (a b n : ℕ) → n ≡ nearer a b → n ≡ 1 → (0 < a) × ((b ≡ 0) ⊎ (a ≤ b))
+says-first : (a b n : ℕ) → n ≡ nearer a b → n ≡ 1 → (0 < a) × ((b ≡ 0) ⊎ (a ≤ b))
 says-first a b n e h =
     ⊎-elim (λ x. absurd (omega (arith, x .0))) (⊎-elim (λ x. x .1) (λ x. absurd (omega (arith, x .0))))
     (says a b n e)
 
-pub says-second : (a b n : ℕ) → n ≡ nearer a b → (n ≡ 0 → ⊥) → (n ≡ 1 → ⊥)
+says-second : (a b n : ℕ) → n ≡ nearer a b → (n ≡ 0 → ⊥) → (n ≡ 1 → ⊥)
     → (0 < b) × ((a ≡ 0) ⊎ (b < a))
 says-second a b n e h k =
     ⊎-elim (λ x. absurd (h (x .0))) (⊎-elim (λ x. absurd (k (x .0))) (λ x. x .1)) (says a b n e)
@@ -55,8 +55,11 @@ has-by : (gap : ℕ → ℕ) (l : List ℕ) → 0 < headGap gap l → 0 < length
 has-by gap [] h = absurd (omega arith)
 has-by gap (x ∷ l) h = omega arith
 
+has-first : (gap : ℕ → ℕ) (l : List ℕ) (t : ℕ) → 0 < headGap gap (drop t l) → t < length l
+has-first gap l t h = let k = has-by gap (drop t l) h in omega (arith, length-drop t l)
+
 module _ (rank gap time : ℕ → ℕ) (at base : ℕ) (g : Gaps rank gap time at base) (left right : List ℕ) where
-  pub turned-none : (left′ right′ : List ℕ) → Pulled rank at left right left′ right′
+  turned-none : (left′ right′ : List ℕ) → Pulled rank at left right left′ right′
       → headGap gap left′ ≡ 0 → headGap gap right′ ≡ 0
       → Turned rank gap time at 0 left right left′ right′
   unfolding after
@@ -95,7 +98,7 @@ module _ (rank gap time : ℕ → ℕ) (at base : ℕ) (g : Gaps rank gap time a
         below = λ free s b. p .below b;
       }
 
-  pub turned-left : (stack : List ℕ) (t : ℕ) (right′ : List ℕ) → t < length stack
+  turned-left : (stack : List ℕ) (t : ℕ) (right′ : List ℕ) → t < length stack
       → Pulled rank at left right (drop t stack) right′ → 0 < headGap gap (drop t stack)
       → (headGap gap right′ ≡ 0) ⊎ (headGap gap (drop t stack) ≤ headGap gap right′)
       → Turned rank gap time at (getD stack t 0 + 1) left right (drop (t + 1) stack) right′
@@ -109,7 +112,7 @@ module _ (rank gap time : ℕ → ℕ) (at base : ℕ) (g : Gaps rank gap time a
       (subst (λ (l : List ℕ). 0 < headGap gap l) d h)
       (subst (λ (l : List ℕ). (headGap gap right′ ≡ 0) ⊎ (headGap gap l ≤ headGap gap right′)) d w)))
 
-  pub turned-right : (order : List ℕ) (r : ℕ) (left′ : List ℕ) → r < length order
+  turned-right : (order : List ℕ) (r : ℕ) (left′ : List ℕ) → r < length order
       → Pulled rank at left right left′ (drop r order) → 0 < headGap gap (drop r order)
       → (headGap gap left′ ≡ 0) ⊎ (headGap gap (drop r order) < headGap gap left′)
       → Turned rank gap time at (getD order r 0 + 1) left right left′ (drop (r + 1) order)
@@ -123,5 +126,61 @@ module _ (rank gap time : ℕ → ℕ) (at base : ℕ) (g : Gaps rank gap time a
       (subst (λ (l : List ℕ). 0 < headGap gap l) d h)
       (subst (λ (l : List ℕ). (headGap gap left′ ≡ 0) ⊎ (headGap gap l < headGap gap left′)) d w)))
 
-pub has-first : (gap : ℕ → ℕ) (l : List ℕ) (t : ℕ) → 0 < headGap gap (drop t l) → 0 < length (drop t l)
-has-first gap l t h = has-by gap (drop t l) h
+-- What a turn comes to by the nearer n of the two firsts, at t of the stack and at r of the order
+pub record Chosen (Turns : (answer : ℕ) (left right : List ℕ) → Type 0) (stack order : List ℕ)
+    (t r n : ℕ) : Type 0 where
+  pub none : n ≡ 0 → Turns 0 (drop t stack) (drop r order)
+  pub left-there : n ≡ 1 → t < length stack
+  pub left : {x : ℕ} → n ≡ 1 → x ≡ getD stack t 0 → Turns (x + 1) (drop (t + 1) stack) (drop r order)
+  pub right-there : (n ≡ 0 → ⊥) → (n ≡ 1 → ⊥) → r < length order
+  pub right : {x : ℕ} → (n ≡ 0 → ⊥) → (n ≡ 1 → ⊥) → x ≡ getD order r 0
+      → Turns (x + 1) (drop t stack) (drop (r + 1) order)
+
+-- What the code finds: the tracks before the movement pulled over, the gaps a and b of the two firsts, and the nearer
+module _ (rank gap time : ℕ → ℕ) (at base : ℕ) (g : Gaps rank gap time at base)
+    (left right stack order : List ℕ)
+    (t r : ℕ) (p : Pulled rank at left right (drop t stack) (drop r order)) (a b n : ℕ) (e : n ≡ nearer a b)
+    (first : a ≡ headGap gap (drop t stack)) (second : b ≡ headGap gap (drop r order)) where
+  takes-none : n ≡ 0 → Turned rank gap time at 0 left right (drop t stack) (drop r order)
+  takes-none h =
+      let z = says-none a b n e h in
+      turned-none rank gap time at base g left right (drop t stack) (drop r order) p (sym first ∙ z .0)
+      (sym second ∙ z .1)
+
+  left-fits : n ≡ 1 → 0 < headGap gap (drop t stack)
+  left-fits h = subst (λ (m : ℕ). 0 < m) first (says-first a b n e h .0)
+
+  left-there : n ≡ 1 → t < length stack
+  left-there h = has-first gap stack t (left-fits h)
+
+  takes-left : {x : ℕ} → n ≡ 1 → x ≡ getD stack t 0
+      → Turned rank gap time at (x + 1) left right (drop (t + 1) stack) (drop r order)
+  takes-left {x} h q =
+      let w : (headGap gap (drop r order) ≡ 0) ⊎ (headGap gap (drop t stack) ≤ headGap gap (drop r order)) =
+      ⊎-elim (λ z. inl (sym second ∙ z)) (λ z. inr (omega arith)) (says-first a b n e h .1) in
+      subst (λ (m : ℕ). Turned rank gap time at (m + 1) left right (drop (t + 1) stack) (drop r order)) (sym q)
+      (turned-left rank gap time at base g left right stack t (drop r order) (left-there h) p (left-fits h) w)
+
+  module _ (h : n ≡ 0 → ⊥) (k : n ≡ 1 → ⊥) where
+    right-fits : 0 < headGap gap (drop r order)
+    right-fits = subst (λ (m : ℕ). 0 < m) second (says-second a b n e h k .0)
+
+    right-there : r < length order
+    right-there = has-first gap order r right-fits
+
+    takes-right : {x : ℕ} → x ≡ getD order r 0
+        → Turned rank gap time at (x + 1) left right (drop t stack) (drop (r + 1) order)
+    takes-right {x} q =
+        let w : (headGap gap (drop t stack) ≡ 0) ⊎ (headGap gap (drop r order) < headGap gap (drop t stack)) =
+        ⊎-elim (λ z. inl (sym first ∙ z)) (λ z. inr (omega arith)) (says-second a b n e h k .1) in
+        subst (λ (m : ℕ). Turned rank gap time at (m + 1) left right (drop t stack) (drop (r + 1) order)) (sym q)
+        (turned-right rank gap time at base g left right order r (drop t stack) right-there p right-fits w)
+
+  pub chosen : Chosen (λ (x : ℕ) (l m : List ℕ). Turned rank gap time at x left right l m) stack order t r n
+  chosen = record {
+    none = takes-none;
+    left-there = left-there;
+    left = takes-left;
+    right-there = right-there;
+    right = λ h k q. takes-right h k q;
+  }

@@ -6,11 +6,11 @@ use mathlib.Core.Bool.{cond}
 use mathlib.Core.List.{List}
 use lib.Dec.{eqb, ltb}
 use lib.ListN.{getD}
-use Rattle.sorting.specs.Sorted.{keyOf}
+use Rattle.sorting.specs.Sorted.{keyOf, sorted}
 use Rattle.room.specs.Lent.{Lent}
 use denote.Ref.{RefT, now}
 use Rattle.coupling_rules.specs.Flights.{Flights, Movements, many}
-use Rattle.coupling_rules.specs.Rule.{moment, distance, windowOf, takesNone}
+use Rattle.coupling_rules.specs.Rule.{moment, distance, windowOf, takesNone, places}
 
 -- two numbers as one, the first the weightier
 unfoldable pub ranked : (high low : ℕ) → ℕ
@@ -47,6 +47,10 @@ momentIn p j = keyOf (p .moments) j
 abbrev pub rankIn : Packed → ℕ → ℕ
 rankIn p j = ranked (classIn p j) (momentIn p j)
 
+-- the first n places by class and moment, equal ones by place
+abbrev pub inOrder : Packed → ℕ → List ℕ
+inOrder p n = sorted (keyOf (p .highs)) (sorted (keyOf (p .lows)) (sorted (keyOf (p .moments)) (places n)))
+
 -- a column holds what `f` says of the first n places
 abbrev pub Filled : (f : ℕ → ℕ) (n : ℕ) (column : List ℕ) → Type 0
 Filled f n column = (i : ℕ) → i < n → keyOf column i ≡ f i
@@ -62,12 +66,14 @@ pub record Packs (f : Flights) (p : Packed) : Type 0 where
 unfoldable pub reachOf : (class circuit : ℕ) → ℕ
 reachOf class circuit = cond (takesNone class circuit) 0 (windowOf class + 1)
 
--- 0 where track j doesn't fit a movement of that class, moment and reach, else one more than the seconds between
-unfoldable pub packedGap : (classes moments : ℕ → ℕ) (class moment reach : ℕ) → ℕ → ℕ
-packedGap classes moments class moment reach j =
-    cond (eqb (classes j) class)
-    (cond (ltb (distance moment (moments j)) reach) (distance moment (moments j) + 1) 0)
-    0
+-- 0 where a track of another class or out of reach doesn't fit, else one more than the seconds between
+unfoldable pub gapBetween : (class moment reach theirs at : ℕ) → ℕ
+gapBetween class moment reach theirs at =
+    cond (eqb theirs class) (cond (ltb (distance moment at) reach) (distance moment at + 1) 0) 0
+
+-- the gap of track j from a movement of that class, moment and reach
+abbrev pub packedGap : (classes moments : ℕ → ℕ) (class moment reach : ℕ) → ℕ → ℕ
+packedGap classes moments class moment reach j = gapBetween class moment reach (classes j) (moments j)
 
 -- the gap of track j from movement i
 abbrev pub gapsIn : (tracks movements : Packed) (classes circuits : List ℕ) → ℕ → ℕ → ℕ

@@ -1,109 +1,124 @@
--- The law of day numbers: from a date that exists to the next they rise by one. Assumes nothing.
-use mathlib.Core.Path.{_≡_, refl, sym, ap, _∙_}
-use mathlib.Core.Bool.{Bool, true, false, cond}
-use Prim.Native.Nat.{ℕ, zero, suc, _+_, _*_, _-_, _/_, _%_, _≤_, _<_}
+-- Every date but the last has a next one, a day on: in the month, in the next month or in the next year. That none lies
+-- between follows from the day numbers, which rise. Assumes nothing.
+use mathlib.Core.{Path._≡_, Path.refl, Path.sym, Path.ap, Path._∙_, Bool.Bool, Bool.true, Bool.false}
+use Prim.Native.Nat.{ℕ, suc, _+_, _-_, _≤_, _<_}
 use native.Mathlib.Omega.{arith}
-use lib.Dec.{eqb, leb}
-use borrow.Author.Tests.{eqb-true, eqb-false, leb-true}
-use Rattle.date.specs.Calendar.{leapDay, monthLength, dateExists, beforeYear, firstMonths, dayNumber, nextDate, yearOf, monthOf, dayOf}
-use Rattle.date.proofs.Years.{month-at-most, months-more}
+use lib.Dec.{ltb, leb}
+use borrow.Author.Tests.{ltb-true, ltb-false, leb-true, leb-false}
+use Rattle.date.specs.Calendar.{monthLength, dateExists, beforeYear, firstMonths, dayNumber}
+use Rattle.date.specs.Calendar.{yearOf, monthOf, dayOf}
+use Rattle.date.specs.Promises.{Next}
+use Rattle.date.proofs.Years.{month-at-least, months-more, twelve}
+use Rattle.date.proofs.Dates.{Valid, written, whole, valid, exists, number, written-number}
+use Rattle.date.proofs.Rising.{rising, rising-back}
 
--- what a date that exists has
-pub record Exists (date : ℕ) : Type 0 where
-  pub year-low : 1900 ≤ yearOf date
-  pub year-high : yearOf date ≤ 9999
-  pub month-low : 1 ≤ monthOf date
-  pub month-high : monthOf date ≤ 12
-  pub day-low : 1 ≤ dayOf date
-  pub day-high : dayOf date ≤ monthLength (yearOf date) (monthOf date)
+module _ {y m d y′ m′ d′ : ℕ} (v : Valid y m d) (v′ : Valid y′ m′ d′)
+    (one : number y′ m′ d′ ≡ number y m d + 1) where
+  one-more : dayNumber (written y′ m′ d′) ≡ dayNumber (written y m d) + 1
+  one-more = written-number v′ ∙ one ∙ ap (λ n. n + 1) (sym (written-number v))
 
-both : (a b : Bool) → cond a b false ≡ true → (a ≡ true) × (b ≡ true)
-both true b e = (refl, e)
-both false b e = let z : _≡_ {A = ℕ} 0 1 = cc in absurd (omega arith)
+  none-between : (other : ℕ) → dateExists other ≡ true → written y m d < other
+      → (t : Bool) → leb (written y′ m′ d′) other ≡ t → written y′ m′ d′ ≤ other
+  none-between other o l true e = leb-true (written y′ m′ d′) other e
+  none-between other o l false e =
+      absurd (omega (
+        arith,
+        one-more,
+        rising (written y m d) other (exists v) o l,
+        rising other (written y′ m′ d′) o (exists v′) (leb-false (written y′ m′ d′) other e),
+      ))
 
-pub parts : (date : ℕ) → dateExists date ≡ true → Exists date
-unfolding dateExists
-parts date e =
-    let a = both _ _ e in
-    let b = both _ _ (a .1) in
-    let d = both _ _ (b .1) in
-    let f = both _ _ (d .1) in
-    let g = both _ _ (f .1) in
-    record {
-      year-low = leb-true 1900 (yearOf date) (a .0);
-      year-high = leb-true (yearOf date) 9999 (b .0);
-      month-low = leb-true 1 (monthOf date) (d .0);
-      month-high = leb-true (monthOf date) 12 (f .0);
-      day-low = leb-true 1 (dayOf date) (g .0);
-      day-high = leb-true (dayOf date) (monthLength (yearOf date) (monthOf date)) (g .1);
-    }
+  next-at : Next (written y m d) (written y′ m′ d′)
+  next-at = record {
+    exists = exists v′;
+    later = rising-back (written y m d) (written y′ m′ d′) (exists v) (exists v′) (omega (arith, one-more));
+    none-between = λ other o l. none-between other o l (leb (written y′ m′ d′) other) refl;
+    one-more = one-more;
+  }
 
--- the parts of a date that is put together
-put-year : (y m d : ℕ) → m < 100 → d < 100 → yearOf (y * 10000 + m * 100 + d) ≡ y
-put-year y m d h k = omega arith
+-- One day more in each of the three
 
-put-month : (y m d : ℕ) → m < 100 → d < 100 → monthOf (y * 10000 + m * 100 + d) ≡ m
-put-month y m d h k = omega arith
-
-put-day : (y m d : ℕ) → m < 100 → d < 100 → dayOf (y * 10000 + m * 100 + d) ≡ d
-put-day y m d h k = omega arith
-
-unfoldable number : ℕ → ℕ → ℕ → ℕ
-number y m d = beforeYear y + firstMonths y (m - 1) + d
-
-put-number : (y m d : ℕ) → m < 100 → d < 100 → dayNumber (y * 10000 + m * 100 + d) ≡ number y m d
-unfolding dayNumber number
-put-number y m d h k = rw (put-year y m d h k, put-month y m d h k, put-day y m d h k)
-
-whole : (date : ℕ) → date ≡ yearOf date * 10000 + monthOf date * 100 + dayOf date
-whole date = omega arith
-
-twelve : (y : ℕ) → firstMonths y 12 ≡ 365 + leapDay y
-unfolding firstMonths monthLength
-twelve y = omega arith
-
--- one more day in each of the three cases
-in-month : (y m d : ℕ) → number y m (d + 1) ≡ number y m d + 1
+day-on : (y m d : ℕ) → number y m (d + 1) ≡ number y m d + 1
 unfolding number
-in-month y m d = omega arith
+day-on y m d = omega arith
 
-to-month : (y m d : ℕ) → 1 ≤ m → d ≡ monthLength y m → number y (m + 1) 1 ≡ number y m d + 1
+month-on : (y m d : ℕ) → 1 ≤ m → d ≡ monthLength y m → number y (m + 1) 1 ≡ number y m d + 1
 unfolding number
-to-month y m d h e = let f : m + 1 - 1 ≡ m = omega arith in omega (arith, ap (firstMonths y) f, months-more y m h)
+month-on y m d h e =
+    let f : m + 1 - 1 ≡ m = omega arith in omega (arith, ap (firstMonths y) f, months-more y m h)
 
-to-year : (y d : ℕ) → d ≡ monthLength y 12 → number (y + 1) 1 1 ≡ number y 12 d + 1
+year-on : (y m d : ℕ) → m ≡ 12 → d ≡ monthLength y m → number (y + 1) 1 1 ≡ number y m d + 1
 unfolding number beforeYear firstMonths
-to-year y d e = let f : y + 1 ≡ suc y = omega arith in omega (arith, ap beforeYear f, months-more y 12 (omega arith), twelve y)
+year-on y m d h e =
+    let f : y + 1 ≡ suc y = omega arith in
+    omega (arith, ap beforeYear f, months-more y m (omega arith), ap (firstMonths y) h, twelve y)
 
-own-number : (date : ℕ) → dayNumber date ≡ number (yearOf date) (monthOf date) (dayOf date)
-unfolding dayNumber number
-own-number date = refl
+december : (y m : ℕ) → m ≡ 12 → monthLength y m ≡ 31
+unfolding monthLength
+december y m h = rw h
 
-by-cases : (date : ℕ) (s t : Bool) → eqb (dayOf date) (monthLength (yearOf date) (monthOf date)) ≡ s → eqb (monthOf date) 12 ≡ t → Exists date → dayOf date ≤ 31
-    → dayNumber (cond s (cond t ((yearOf date + 1) * 10000 + 101) (yearOf date * 10000 + (monthOf date + 1) * 100 + 1)) (date + 1)) ≡ dayNumber date + 1
-by-cases date false t f g p b =
+module _ {y m d : ℕ} (v : Valid y m d) (not-last : written y m d ≡ 99991231 → ⊥) where
+  in-month : d < monthLength y m → (next : ℕ) × Next (written y m d) next
+  in-month h =
+      let v′ : Valid y m (d + 1) =
+      record {
+        year-low = v .year-low;
+        year-high = v .year-high;
+        month-low = v .month-low;
+        month-high = v .month-high;
+        day-low = omega arith;
+        day-high = omega arith;
+      } in
+      (written y m (d + 1), next-at v v′ (day-on y m d))
+
+  to-month : d ≡ monthLength y m → m < 12 → (next : ℕ) × Next (written y m d) next
+  to-month e h =
+      let v′ : Valid y (m + 1) 1 =
+      record {
+        year-low = v .year-low;
+        year-high = v .year-high;
+        month-low = omega arith;
+        month-high = omega arith;
+        day-low = omega arith;
+        day-high = omega (arith, month-at-least y (m + 1));
+      } in
+      (written y (m + 1) 1, next-at v v′ (month-on y m d (v .month-low) e))
+
+  to-year : d ≡ monthLength y m → m ≡ 12 → y < 9999 → (next : ℕ) × Next (written y m d) next
+  to-year e f h =
+      let v′ : Valid (y + 1) 1 1 =
+      record {
+        year-low = omega (arith, v .year-low);
+        year-high = omega arith;
+        month-low = omega arith;
+        month-high = omega arith;
+        day-low = omega arith;
+        day-high = omega (arith, month-at-least (y + 1) 1);
+      } in
+      (written (y + 1) 1 1, next-at v v′ (year-on y m d f e))
+
+  full : ltb d (monthLength y m) ≡ false → d ≡ monthLength y m
+  full e = omega (arith, v .day-high, ltb-false d (monthLength y m) e)
+
+  not-last-year : d ≡ monthLength y m → m ≡ 12 → (t : Bool) → ltb y 9999 ≡ t → y < 9999
+  not-last-year e f true g = ltb-true y 9999 g
+  not-last-year e f false g =
+      let last : y ≡ 9999 = omega (arith, v .year-high, ltb-false y 9999 g) in
+      absurd (not-last (omega (arith, december y m f)))
+
+  next-of : (s t : Bool) → ltb d (monthLength y m) ≡ s → ltb m 12 ≡ t
+      → (next : ℕ) × Next (written y m d) next
+  next-of true t e f = in-month (ltb-true d (monthLength y m) e)
+  next-of false true e f = to-month (full e) (ltb-true m 12 f)
+  next-of false false e f =
+      let twelfth : m ≡ 12 = omega (arith, v .month-high, ltb-false m 12 f) in
+      to-year (full e) twelfth (not-last-year (full e) twelfth (ltb y 9999) refl)
+
+pub following : (date : ℕ) → dateExists date ≡ true → (date ≡ 99991231 → ⊥)
+    → (next : ℕ) × Next date next
+following date e not-last =
     let y = yearOf date in
     let m = monthOf date in
-    let d = dayOf date in
-    let w : date + 1 ≡ y * 10000 + m * 100 + (d + 1) = omega (arith, whole date) in
-    omega (arith, ap dayNumber w, put-number y m (d + 1) (omega arith) (omega arith), in-month y m d, own-number date)
-by-cases date true true f g p b =
-    let y = yearOf date in
-    let m = monthOf date in
-    let d = dayOf date in
-    let e : m ≡ 12 = eqb-true m 12 g in
-    let w : (y + 1) * 10000 + 101 ≡ (y + 1) * 10000 + 1 * 100 + 1 = omega arith in
-    let l : d ≡ monthLength y 12 = eqb-true d (monthLength y m) f ∙ ap (monthLength y) e in
-    omega (arith, ap dayNumber w, put-number (y + 1) 1 1 (omega arith) (omega arith), to-year y d l, own-number date, ap (λ n. number y n d) e)
-by-cases date true false f g p b =
-    let y = yearOf date in
-    let m = monthOf date in
-    let d = dayOf date in
-    omega (arith, put-number y (m + 1) 1 (omega arith) (omega arith), to-month y m d (p .month-low) (eqb-true d (monthLength y m) f), own-number date)
-
-pub following : (date : ℕ) → dateExists date ≡ true → dayNumber (nextDate date) ≡ dayNumber date + 1
-unfolding nextDate
-following date e =
-    let p = parts date e in
-    let b : dayOf date ≤ 31 = omega (arith, month-at-most (yearOf date) (monthOf date)) in
-    by-cases date (eqb (dayOf date) (monthLength (yearOf date) (monthOf date))) (eqb (monthOf date) 12) refl refl p b
+    rw (whole date)
+    (next-of (valid date e) (λ h. not-last (whole date ∙ h))
+    (ltb (dayOf date) (monthLength y m)) (ltb m 12) refl refl)

@@ -1,4 +1,9 @@
-// Dates of the Gregorian calendar, 1900 to 9999: which exist, and their day numbers.
+// Dates of the Gregorian calendar, each one number: year * 10,000 + month * 100 + day. Which exist, and the number of a
+// day.
+pub mod limits;
+
+use crate::limits::MAX_YEAR;
+use crate::limits::MIN_YEAR;
 ghost use mathlib.Core.Path.{_≡_};
 ghost use Prim.Native.Nat.{_<_};
 ghost use Rattle.date.specs.Calendar.{leapDay, monthLength, dateExists, beforeYear, dayNumber};
@@ -38,17 +43,17 @@ fn month_length(y: u32, m: u32) -> u32
     31
 }
 
-// Whether the date exists, in years 1900 to 9999.
+// Whether a number is a date.
 pub fn date_exists(date: u32) -> bool
     ensures { λ r. ⌜ r ≡ dateExists date ⌝ }
 {
     let y = date / 10000;
     let m = date / 100 % 100;
     let d = date % 100;
-    if y < 1900 {
+    if y < MIN_YEAR {
         return false;
     }
-    if 9999 < y {
+    if MAX_YEAR < y {
         return false;
     }
     if m < 1 {

@@ -29,9 +29,9 @@ subject-test : (other k : ℕ) → Bool
 subject-test other k = agree (said other (suc k)) (eqb (suc k) other)
 
 subjects-test : ℕ → Bool
-subjects-test other = every (subject-test other) 17
+subjects-test other = every (subject-test other) 18
 
-all-subjects : every subjects-test 18 ≡ true
+all-subjects : every subjects-test 19 ≡ true
 unfolding every subjects-test subject-test said agree says sameText sentenceOf sentences subjects
 all-subjects = refl
 
@@ -40,8 +40,8 @@ each-subject : (number other : ℕ) → 1 ≤ number → number ≤ maxRefusal �
 unfolding subjects-test subject-test said
 each-subject zero other low high o = absurd (omega arith)
 each-subject (suc k) other low high o =
-    let tests = every-each subjects-test other 18 (omega arith) all-subjects in
-    agreed (said other (suc k)) (eqb (suc k) other) (every-each (subject-test other) k 17 (omega arith) tests)
+    let tests = every-each subjects-test other 19 (omega arith) all-subjects in
+    agreed (said other (suc k)) (eqb (suc k) other) (every-each (subject-test other) k 18 (omega arith) tests)
 
 -- The bounds of each
 
@@ -51,7 +51,7 @@ bound-test number i = says (framed (sentenceOf number)) (getD (getD bounds numbe
 bounds-test : ℕ → Bool
 bounds-test number = every (bound-test number) (length (getD bounds number []))
 
-all-bounds : every bounds-test 18 ≡ true
+all-bounds : every bounds-test 19 ≡ true
 unfolding every bounds-test bound-test says sameText sentenceOf sentences bounds
 all-bounds = refl
 
@@ -60,7 +60,7 @@ each-bound : (number i : ℕ) → number ≤ maxRefusal → i < length (getD bou
 unfolding bounds-test bound-test
 each-bound number i high h =
     every-each (bound-test number) i (length (getD bounds number []))
-    h (every-each bounds-test number 18 (omega arith) all-bounds)
+    h (every-each bounds-test number 19 (omega arith) all-bounds)
 
 -- Plain and short
 
@@ -70,14 +70,14 @@ plain-byte b = leb 32 b && leb b 126
 plain-test : ℕ → Bool
 plain-test number = every (λ i. plain-byte (getD (sentenceOf number) i 0)) (length (sentenceOf number))
 
-all-plain : every plain-test 18 ≡ true
+all-plain : every plain-test 19 ≡ true
 unfolding every plain-test plain-byte sentenceOf sentences
 all-plain = refl
 
 short-test : ℕ → Bool
 short-test number = leb (length (sentenceOf number)) maxSentence
 
-all-short : every short-test 18 ≡ true
+all-short : every short-test 19 ≡ true
 unfolding every short-test sentenceOf sentences
 all-short = refl
 
@@ -88,23 +88,23 @@ past-all number h = let beyond : length sentences ≤ number = omega arith in Li
 pub each-short : (number : ℕ) → length (sentenceOf number) ≤ maxSentence
 unfolding short-test
 each-short number =
-    either (ltb number 18)
+    either (ltb number 19)
     (λ h. leb-true (length (sentenceOf number)) maxSentence
-    (every-each short-test number 18 (ltb-true number 18 h) all-short))
-    (λ h. let none = past-all number (omega (arith, ltb-false number 18 h)) in rw none (omega arith))
+    (every-each short-test number 19 (ltb-true number 19 h) all-short))
+    (λ h. let none = past-all number (omega (arith, ltb-false number 19 h)) in rw none (omega arith))
 
 each-plain : (number i : ℕ) → i < length (sentenceOf number)
     → (32 ≤ getD (sentenceOf number) i 0) × (getD (sentenceOf number) i 0 ≤ 126)
 unfolding plain-test plain-byte
 each-plain number i h =
-    either (ltb number 18)
+    either (ltb number 19)
     (λ low.
     let b = getD (sentenceOf number) i 0 in
-    let tests = every-each plain-test number 18 (ltb-true number 18 low) all-plain in
+    let tests = every-each plain-test number 19 (ltb-true number 19 low) all-plain in
     let plain = every-each (λ j. plain-byte (getD (sentenceOf number) j 0)) i (length (sentenceOf number)) h tests in
     (leb-true 32 b (and-left (leb 32 b) (leb b 126) plain), leb-true b 126 (and-right (leb 32 b) (leb b 126) plain)))
     (λ high.
-    let none = ap length (past-all number (omega (arith, ltb-false number 18 high))) in
+    let none = ap length (past-all number (omega (arith, ltb-false number 19 high))) in
     absurd (omega arith))
 
 pub each-says : EachSays

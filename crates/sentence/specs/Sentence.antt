@@ -8,7 +8,11 @@ use Rattle.text.specs.Spelled.{bytes}
 abbrev pub ofNetwork : List ℕ → List ℕ
 ofNetwork what = bytes "network: " ++ what
 
--- from 0, which is no refusal, to 17
+-- flights to be coupled, and what is wrong with them
+abbrev pub ofFlights : List ℕ → List ℕ
+ofFlights what = bytes "movements or tracks: " ++ what
+
+-- from 0, which is no refusal, to 18
 unfoldable pub sentences : List (List ℕ)
 sentences =
     []
@@ -28,8 +32,10 @@ sentences =
     ∷ ofNetwork (bytes "a level is over 150.00, or is the no-data value")
     ∷ bytes "the room lent for the answer is too small"
     ∷ bytes "a limit is over 120.00, or a contour level is not from 0.01 to 150.00"
-    ∷ bytes "the register, limits.csv or the journal is off its layout"
+    ∷ bytes "the register, limits.csv, movements, tracks.csv or the journal is off its layout"
     ∷ ofNetwork (bytes "a line is off its layout, or its line end is LF where CRLF is expected")
+    ∷ ofFlights
+    (bytes "over 50,000, columns of unequal length, class or kind over 1, second over 86,399, or no such date")
     ∷ []
 
 -- a number that is no refusal has no sentence

@@ -11,7 +11,7 @@ use Rattle.sentence.specs.Sentence.{sentenceOf, maxSentence}
 
 -- the largest refusal number in use
 abbrev pub maxRefusal : ℕ
-maxRefusal = 17
+maxRefusal = 18
 
 -- what each refusal is about, from 0, which is none
 unfoldable pub subjects : List (List ℕ)
@@ -34,6 +34,7 @@ subjects =
     ∷ bytes "a limit is over"
     ∷ bytes "register"
     ∷ bytes "CRLF"
+    ∷ bytes "movements or tracks"
     ∷ []
 
 -- a text between two spaces, 32
@@ -62,6 +63,12 @@ bounds =
     ∷ (bytes " a limit is over 120.00," ∷ bytes " is not from 0.01 to 150.00 " ∷ [])
     ∷ (bytes " is off its layout " ∷ [])
     ∷ (bytes " is off its layout," ∷ [])
+    ∷ (bytes " over 50,000,"
+    ∷ bytes " columns of unequal length,"
+    ∷ bytes " class or kind over 1,"
+    ∷ bytes " second over 86,399,"
+    ∷ bytes " or no such date "
+    ∷ [])
     ∷ []
 
 -- whether a word stands somewhere in a text

@@ -1,9 +1,10 @@
 // The sentences, put to the front of a buffer that has room for any. A number that is no refusal has none.
 use text::core::put_text;
-ghost use Prim.Native.Nat.{_≤_, _<_};
+ghost use mathlib.Core.List.{_++_};
+ghost use Prim.Native.Nat.{_+_, _≤_, _<_};
 ghost use lib.ListN.{length};
 ghost use Rattle.room.specs.Room.{Wrote};
-ghost use Rattle.sentence.specs.Sentence.{maxSentence, ofNetwork, sentenceOf};
+ghost use Rattle.sentence.specs.Sentence.{maxSentence, sentenceOf};
 
 // The sentence of any number.
 pub fn put_any(out: &mut [u8], number: u32) -> usize
@@ -73,26 +74,31 @@ fn of_load(out: &mut [u8], number: u32) -> usize
     }
 }
 
-// What is wrong with a network.
-fn put_network(out: &mut [u8], what: &[u8]) -> usize
-    requires { ⌜ length (ofNetwork (now what)) ≤ length (now out) ⌝ }
-    ensures { λ r. ⌜ Wrote (now (out .entry)) 0 (ofNetwork (now (what .entry))) (now (out .exit)) r ⌝ }
+// What a sentence is about, and what is wrong with it.
+fn put_about(out: &mut [u8], about: &[u8], what: &[u8]) -> usize
+    requires { ⌜ length (now about) + length (now what) ≤ length (now out) ⌝ }
+    ensures { λ r. ⌜ Wrote (now (out .entry)) 0 (now (about .entry) ++ now (what .entry)) (now (out .exit)) r ⌝ }
 {
-    let next = put_text(out, 0, b"network: ");
+    let next = put_text(out, 0, about);
     put_text(out, next, what)
 }
 
-// From 12 on: networks, lent room, limits and contour levels, and the layouts of files.
+// From 12 on: networks, lent room, limits and contour levels, the layouts of files, and flights to be coupled.
 fn of_file(out: &mut [u8], number: u32) -> usize
     requires { ⌜ (12 ≤ number) × (maxSentence ≤ length (now out)) ⌝ }
     ensures { λ r. ⌜ Wrote (now (out .entry)) 0 (sentenceOf number) (now (out .exit)) r ⌝ }
 {
     match number {
-        12 => put_network(
+        12 => put_about(
             out,
+            b"network: ",
             b"size (2 to 256 a side), spacing (1 to 500 m), origin (0 to 900,000 m) or the count of values is wrong",
         ),
-        13 => put_network(out, b"a level is over 150.00, or is the no-data value"),
+        13 => put_about(
+            out,
+            b"network: ",
+            b"a level is over 150.00, or is the no-data value",
+        ),
         14 => put_text(out, 0, b"the room lent for the answer is too small"),
         15 => put_text(
             out,
@@ -102,11 +108,17 @@ fn of_file(out: &mut [u8], number: u32) -> usize
         16 => put_text(
             out,
             0,
-            b"the register, limits.csv or the journal is off its layout",
+            b"the register, limits.csv, movements, tracks.csv or the journal is off its layout",
         ),
-        17 => put_network(
+        17 => put_about(
             out,
+            b"network: ",
             b"a line is off its layout, or its line end is LF where CRLF is expected",
+        ),
+        18 => put_about(
+            out,
+            b"movements or tracks: ",
+            b"over 50,000, columns of unequal length, class or kind over 1, second over 86,399, or no such date",
         ),
         _ => 0,
     }

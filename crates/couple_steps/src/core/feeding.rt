@@ -1,5 +1,6 @@
 // The bytes of a file as they come: its lines, one after another, into a table. What is read of all pieces is what is
 // read of the whole. A table is one flat list, column after column, with room for 50,000 numbers in each column.
+use coupling::limits::MAX_FLIGHTS;
 use flights::MOVEMENT_COLUMNS;
 use flights::header_refusal;
 use flights::read_flight;
@@ -17,8 +18,6 @@ ghost use Rattle.stream.specs.Reading.{Unended};
 ghost use Rattle.stream.specs.InnerTaken.{LineTaken, LinesTaken, LastTaken, PieceTaken};
 ghost use Rattle.couple_steps.specs.Table.{tableStep, longestText};
 ghost use Rattle.couple_steps.specs.InnerTable.{rowsIn, heldIn, readingIn, nextLine, Roomy};
-
-const MAX_FLIGHTS: usize = 50_000;
 
 // The longest line on its layout, with its CRLF: the header of the movements.
 const LONGEST_LINE: usize = 51 + 2;

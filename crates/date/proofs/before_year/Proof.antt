@@ -1,22 +1,11 @@
--- `dates::before_year` meets its contract. Assumes nothing.
+-- `date::before_year` meets its contract: the formula is the sum of the years' days. Assumes nothing.
 use mathlib.Core.Path.{sym}
 use borrow.Author.Needs.{needs}
 use Rattle.date.proofs.Years.{before-formula}
 use Rattle.date.proofs.before_year.Statement.{statement}
 use Rattle.date.proofs.before_year.Tie as tie
 
-returns : tie.Need-returns
-returns c = sym (before-formula _)
-
 pub before-year-spec : {M : Type 1} → statement M
 before-year-spec =
-    tie.close
-    (tie.spec
-    (λ c. search needs)
-    (λ c. search needs)
-    (λ c. search needs)
-    (λ c. search needs)
-    (λ c. search needs)
-    (λ c. search needs)
-    (λ c. search needs)
-    returns)
+    tie.close (tie.spec (λ c. search needs) (λ c. search needs) (λ c. search needs) (λ c. search needs)
+    (λ c. search needs) (λ c. search needs) (λ c. search needs) (λ c. sym (before-formula _)))

@@ -1,4 +1,4 @@
--- `dates::month_length` meets its contract. Assumes nothing.
+-- `date::month_length` meets its contract: the tests are the definition's, in its order. Assumes nothing.
 use native.Mathlib.Omega.{arith}
 use mathlib.Core.Path.{ap}
 use Prim.Native.Nat.{_+_}
@@ -8,9 +8,6 @@ use Rattle.date.specs.Calendar.{monthLength}
 use Rattle.date.proofs.Years.{leap-at-most}
 use Rattle.date.proofs.month_length.Statement.{statement}
 use Rattle.date.proofs.month_length.Tie as tie
-
-add-result : tie.Need-add-result
-add-result c = omega (arith, leap-at-most (c .before .before .args .y))
 
 returns : tie.Need-returns
 unfolding monthLength
@@ -22,22 +19,51 @@ returns-2 c = simp (ne-eqb _ _ (c .before .if1 .left), eq-eqb _ _ (c .if2 .taken
 
 returns-3 : tie.Need-returns-3
 unfolding monthLength
-returns-3 c = simp (ne-eqb _ _ (c .before .before .if1 .left), ne-eqb _ _ (c .before .if2 .left), eq-eqb _ _ (c .if3 .taken))
+returns-3 c =
+    let two = c .before in
+    simp (ne-eqb _ _ (two .before .if1 .left), ne-eqb _ _ (two .if2 .left), eq-eqb _ _ (c .if3 .taken))
 
 returns-4 : tie.Need-returns-4
 unfolding monthLength
 returns-4 c =
-    simp (ne-eqb _ _ (c .before .before .before .if1 .left), ne-eqb _ _ (c .before .before .if2 .left), ne-eqb _ _ (c .before .if3 .left), eq-eqb _ _ (c .if4 .taken))
+    let three = c .before in
+    let two = three .before in
+    simp (
+      ne-eqb _ _ (two .before .if1 .left),
+      ne-eqb _ _ (two .if2 .left),
+      ne-eqb _ _ (three .if3 .left),
+      eq-eqb _ _ (c .if4 .taken),
+    )
 
 returns-5 : tie.Need-returns-5
 unfolding monthLength
 returns-5 c =
-    simp (ne-eqb _ _ (c .before .before .before .before .if1 .left), ne-eqb _ _ (c .before .before .before .if2 .left), ne-eqb _ _ (c .before .before .if3 .left), ne-eqb _ _ (c .before .if4 .left), eq-eqb _ _ (c .if5 .taken))
+    let four = c .before in
+    let three = four .before in
+    let two = three .before in
+    simp (
+      ne-eqb _ _ (two .before .if1 .left),
+      ne-eqb _ _ (two .if2 .left),
+      ne-eqb _ _ (three .if3 .left),
+      ne-eqb _ _ (four .if4 .left),
+      eq-eqb _ _ (c .if5 .taken),
+    )
 
 returns-6 : tie.Need-returns-6
 unfolding monthLength
 returns-6 c =
-    simp (ne-eqb _ _ (c .before .before .before .before .if1 .left), ne-eqb _ _ (c .before .before .before .if2 .left), ne-eqb _ _ (c .before .before .if3 .left), ne-eqb _ _ (c .before .if4 .left), ne-eqb _ _ (c .if5 .left))
+    let four = c .before in
+    let three = four .before in
+    let two = three .before in
+    simp (
+      ne-eqb _ _ (two .before .if1 .left),
+      ne-eqb _ _ (two .if2 .left),
+      ne-eqb _ _ (three .if3 .left),
+      ne-eqb _ _ (four .if4 .left),
+      ne-eqb _ _ (c .if5 .left),
+    )
 
 pub month-length-spec : {M : Type 1} → statement M
-month-length-spec = tie.close (tie.spec (λ c κs. search needs) add-result returns returns-2 returns-3 returns-4 returns-5 returns-6)
+month-length-spec =
+    tie.close (tie.spec (λ c κs. search needs) (λ c. omega (arith, leap-at-most (c .before .before .args .y)))
+    returns returns-2 returns-3 returns-4 returns-5 returns-6)
