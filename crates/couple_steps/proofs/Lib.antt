@@ -9,5 +9,6 @@ pub mod Says
 pub mod Running
 pub mod Answering
 pub mod Flat
+pub mod Ready
 pub mod Putting
 pub mod Order

@@ -106,8 +106,8 @@ module _ (tracks movements : List ℕ) (rt : RightTracks tracks) (rm : RightMove
           track = λ j e. rw is (track-is i j h e);
         }
 
-    pub coupled-says : CoupledSays tracks movements
-    coupled-says =
+    pub says-so : CoupledSays tracks movements
+    says-so =
         let long = held-long 9 movementHeading movement-headed (omega arith) movements rm in
         let closed = sheet-closed ids numbers answers (length (tableOf 9 movements .held)) in
         record {

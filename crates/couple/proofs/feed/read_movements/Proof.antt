@@ -1,31 +1,16 @@
+-- `couple::feed::read_movements` meets its contract: the descriptor is standard input's. Assumes nothing.
+use mathlib.Core.Path.{refl}
 use borrow.Author.Needs.{needs}
+use Rattle.channel.specs.System.{standard-input}
 use Rattle.couple.proofs.feed.read_movements.Statement.{statement}
 use Rattle.couple.proofs.feed.read_movements.Tie as tie
-use Rattle.couple.proofs.feed.read_movements.Reads as reads
-use Rattle.couple.proofs.feed.read_movements.Lts as lts
-use Rattle.couple.proofs.feed.read_table.Reads as read-table-reads
 
--- src/feed.rt:161:9
-slice-aggregate-read-table : tie.Need-slice-aggregate-read-table
-slice-aggregate-read-table c = search needs
-
--- src/feed.rt:159:5
 read-table-requires : tie.Need-read-table-requires
-read-table-requires c κs = ?
-
--- src/feed.rt:153:1
-same-length : tie.Need-same-length
-same-length c = search needs
-
--- src/feed.rt:153:1
-same-length-2 : tie.Need-same-length-2
-same-length-2 c = search needs
-
--- src/feed.rt:153:1
-returns : tie.Need-returns
-returns c = search needs
+read-table-requires c κs =
+    let s : tie.Start = search in
+    (standard-input, (refl, (s .pre .0, s .pre .1)))
 
 pub read-movements-spec : {M : Type 1} → statement M
 read-movements-spec =
-    tie.close
-    (tie.spec slice-aggregate-read-table read-table-requires same-length same-length-2 returns)
+    tie.close (tie.spec (λ c. search needs) read-table-requires (λ c. search needs) (λ c. search needs)
+    (λ c. search needs))
