@@ -1,1 +1,3 @@
 pub mod Behind
+pub mod Dues
+pub mod Running

@@ -1,7 +1,9 @@
 // All that comes, into one buffer.
+use crate::core::read_from;
+use crate::file::close_file;
+use crate::file::open_file;
 use crate::input::Arrived;
-use crate::input::read_from;
-use libc::STDIN_FILENO;
+use crate::input::STANDARD_INPUT;
 ghost use Rattle.channel.specs.System.{Descriptor};
 ghost use Rattle.channel.specs.System.Origin.{input, file};
 ghost use Rattle.channel.specs.Input.{Fills, originOf};
@@ -23,23 +25,16 @@ pub const FAILED: u32 = 2;
 pub fn read_all(text: &mut [u8]) -> Filled
     ensures { λ r. ⌜ Fills input r (now (text .exit)) ⌝ }
 {
-    fill(false, b"", STDIN_FILENO, text)
-}
-
-// The descriptor of the file of a name.
-fn open(path: &[u8]) -> i32
-    ensures { λ r. ⌜ Descriptor r (file (now (path .entry))) ⌝ }
-{
-    os::open_read(path)
+    fill(false, b"", STANDARD_INPUT, text)
 }
 
 // A file. One that can't be opened can't be read.
 pub fn read_file(path: &[u8], text: &mut [u8]) -> Filled
     ensures { λ r. ⌜ Fills (file (now (path .entry))) r (now (text .exit)) ⌝ }
 {
-    let fd = open(path);
+    let fd = open_file(path);
     let read = fill(true, path, fd, text);
-    libc::close(fd);
+    close_file(fd);
     read
 }
 

@@ -22,7 +22,8 @@ ghost use mathlib.Core.Path.{_≡_};
 ghost use lib.ListN.{length};
 ghost use Rattle.channel.specs.System.Origin.{input};
 ghost use Rattle.channel.specs.Input.{Fills};
-ghost use Rattle.contours_steps.specs.Answer.{ReadWhole, ReadFailed, ReadFull, Run};
+ghost use Rattle.channel.specs.Run.{Run};
+ghost use Rattle.contours_steps.specs.Answer.{ReadWhole, ReadFailed, ReadFull, MayWrite};
 ghost use Rattle.contours_steps.specs.Sheet.{textRefusal, refusedAt, maxText};
 ghost use Rattle.contours_steps.specs.Words.{Gathered, maxContourLevels, givenRefusal};
 ghost use Rattle.contours_steps.specs.InnerDrawing.{Stored};
@@ -48,7 +49,7 @@ fn main() {
 // moves the one count of bytes that went.
 fn run(sent: &mut usize) -> bool
     requires { ⌜ now sent ≡ 0 ⌝ }
-    ensures { λ r. ⌜ Run r (now (sent .exit)) ⌝ }
+    ensures { λ r. ⌜ Run MayWrite r (now (sent .exit)) ⌝ }
 {
     let mut text = [0u8; MAX_TEXT];
     let mut asked = [0u32; MAX_CONTOUR_LEVELS];
@@ -64,7 +65,7 @@ fn answer(text: &[u8], read: Filled, asked: &[u32], given: Given, sent: &mut usi
     requires { ⌜ length (now asked) ≡ maxContourLevels ⌝ }
     requires { ⌜ Gathered given (now asked) ⌝ }
     requires { ⌜ now sent ≡ 0 ⌝ }
-    ensures { λ r. ⌜ Run r (now (sent .exit)) ⌝ }
+    ensures { λ r. ⌜ Run MayWrite r (now (sent .exit)) ⌝ }
 {
     let size = read.size;
     let state = read.state;
@@ -82,7 +83,7 @@ fn failed(text: &[u8], asked: &[u32], given: Given, sent: &mut usize) -> bool
     requires { ⌜ ReadFailed (now text) ⌝ }
     requires { ⌜ Gathered given (now asked) ⌝ }
     requires { ⌜ now sent ≡ 0 ⌝ }
-    ensures { λ r. ⌜ Run r (now (sent .exit)) ⌝ }
+    ensures { λ r. ⌜ Run MayWrite r (now (sent .exit)) ⌝ }
 {
     let line = line_begun(text);
     let went = print::failure(text, asked, given, line as u64, sent);
@@ -97,7 +98,7 @@ fn overlong(text: &[u8], asked: &[u32], given: Given, sent: &mut usize) -> bool
     requires { ⌜ ReadFull (now text) ⌝ }
     requires { ⌜ Gathered given (now asked) ⌝ }
     requires { ⌜ now sent ≡ 0 ⌝ }
-    ensures { λ r. ⌜ Run r (now (sent .exit)) ⌝ }
+    ensures { λ r. ⌜ Run MayWrite r (now (sent .exit)) ⌝ }
 {
     let line = overlong_line(text);
     let went = print::overlong(text, asked, given, line as u64, sent);
@@ -113,7 +114,7 @@ fn judged(text: &[u8], asked: &[u32], given: Given, sent: &mut usize) -> bool
     requires { ⌜ Gathered given (now asked) ⌝ }
     requires { ⌜ length (now asked) ≡ maxContourLevels ⌝ }
     requires { ⌜ now sent ≡ 0 ⌝ }
-    ensures { λ r. ⌜ Run r (now (sent .exit)) ⌝ }
+    ensures { λ r. ⌜ Run MayWrite r (now (sent .exit)) ⌝ }
 {
     let mut header = [0u32; HEADER_NUMBERS];
     let mut levels = [0u32; MAX_POINTS];
@@ -130,7 +131,7 @@ fn refuse_network(text: &[u8], why: u32, asked: &[u32], given: Given, sent: &mut
     requires { ⌜ Gathered given (now asked) ⌝ }
     requires { ⌜ (why ≡ textRefusal (now text)) × (why ≡ 0 → ⊥) ⌝ }
     requires { ⌜ now sent ≡ 0 ⌝ }
-    ensures { λ r. ⌜ Run r (now (sent .exit)) ⌝ }
+    ensures { λ r. ⌜ Run MayWrite r (now (sent .exit)) ⌝ }
 {
     let line = refused_line(text, why);
     let went = print::refusal(text, asked, given, why, line, sent);
@@ -165,7 +166,7 @@ fn with_words(
     requires { ⌜ textRefusal (now text) ≡ 0 ⌝ }
     requires { ⌜ Stored (now text) (now header) (now levels) ⌝ }
     requires { ⌜ now sent ≡ 0 ⌝ }
-    ensures { λ r. ⌜ Run r (now (sent .exit)) ⌝ }
+    ensures { λ r. ⌜ Run MayWrite r (now (sent .exit)) ⌝ }
 {
     let why = words_refusal(given);
     if why == 0 {
@@ -194,7 +195,7 @@ fn draw(
     requires { ⌜ Stored (now text) (now header) (now levels) ⌝ }
     requires { ⌜ givenRefusal given ≡ 0 ⌝ }
     requires { ⌜ now sent ≡ 0 ⌝ }
-    ensures { λ r. ⌜ Run r (now (sent .exit)) ⌝ }
+    ensures { λ r. ⌜ Run MayWrite r (now (sent .exit)) ⌝ }
 {
     let frame = Frame {
         columns: header[0],

@@ -19,8 +19,9 @@ ghost use Rattle.contours_steps.specs.Sheet.{lineStart, levelLine, sheetOf, ref
 ghost use Rattle.contours_steps.specs.Words.{Gathered};
 ghost use Rattle.contours_steps.specs.Drawing.{Accepted, Refused};
 ghost use Rattle.contours_steps.specs.InnerDrawing.{Drawable};
-ghost use Rattle.contours_steps.specs.Due.{Due, Sends};
-ghost use Rattle.contours_steps.specs.Answer.{ReadWhole, ReadFailed, ReadFull, Answered, Run};
+ghost use Rattle.channel.specs.Due.{Due, Sends};
+ghost use Rattle.channel.specs.Run.{Run};
+ghost use Rattle.contours_steps.specs.Answer.{ReadWhole, ReadFailed, ReadFull, Answered, MayWrite};
 
 // The one write of a part of the sheet, which is due past the `sent` bytes before it. It answers, as each function
 // below, whether all was taken; where it was not, nothing more is written.
@@ -45,7 +46,7 @@ pub(crate) fn sheet(
     requires { ⌜ ReadWhole (now text) ⌝ }
     requires { ⌜ Accepted (now text) given (now room) (now levels) frame (now asked) ⌝ }
     requires { ⌜ now sent ≡ 0 ⌝ }
-    ensures { λ r. ⌜ Run r (now (sent .exit)) ⌝ }
+    ensures { λ r. ⌜ Run MayWrite r (now (sent .exit)) ⌝ }
 {
     lines(levels, frame, asked, sent)
 }
@@ -204,7 +205,7 @@ pub(crate) fn refusal(
     requires { ⌜ ReadWhole (now text) ⌝ }
     requires { ⌜ Refused (now text) given (now asked) number line ⌝ }
     requires { ⌜ now sent ≡ 0 ⌝ }
-    ensures { λ r. ⌜ Run r (now (sent .exit)) ⌝ }
+    ensures { λ r. ⌜ Run MayWrite r (now (sent .exit)) ⌝ }
 {
     refused(text, asked, given, number, line, sent)
 }
@@ -214,7 +215,7 @@ pub(crate) fn failure(text: &[u8], asked: &[u32], given: Given, line: u64, sent:
     requires { ⌜ Gathered given (now asked) ⌝ }
     requires { ⌜ line ≡ lineBegun (now text) ⌝ }
     requires { ⌜ now sent ≡ 0 ⌝ }
-    ensures { λ r. ⌜ Run r (now (sent .exit)) ⌝ }
+    ensures { λ r. ⌜ Run MayWrite r (now (sent .exit)) ⌝ }
 {
     refused(text, asked, given, 17, line, sent)
 }
@@ -230,7 +231,7 @@ pub(crate) fn overlong(
     requires { ⌜ Gathered given (now asked) ⌝ }
     requires { ⌜ line ≡ overlongLine (now text) ⌝ }
     requires { ⌜ now sent ≡ 0 ⌝ }
-    ensures { λ r. ⌜ Run r (now (sent .exit)) ⌝ }
+    ensures { λ r. ⌜ Run MayWrite r (now (sent .exit)) ⌝ }
 {
     if line == 0 {
         return refused(text, asked, given, 12, 0, sent);
@@ -248,7 +249,7 @@ fn refused(
 ) -> bool
     requires { ⌜ Answered (now text) given (now asked) (refusedLine number line) ⌝ }
     requires { ⌜ now sent ≡ 0 ⌝ }
-    ensures { λ r. ⌜ Run r (now (sent .exit)) ⌝ }
+    ensures { λ r. ⌜ Run MayWrite r (now (sent .exit)) ⌝ }
 {
     let mut room = [0u8; 64];
     let n = put_refused(&mut room, number, line);
@@ -259,7 +260,7 @@ fn refused(
 fn write(text: &[u8], asked: &[u32], given: Given, sent: &mut usize, out: &[u8]) -> bool
     requires { ⌜ Answered (now text) given (now asked) (now out) ⌝ }
     requires { ⌜ now sent ≡ 0 ⌝ }
-    ensures { λ r. ⌜ Run r (now (sent .exit)) ⌝ }
+    ensures { λ r. ⌜ Run MayWrite r (now (sent .exit)) ⌝ }
 {
     channel::core::write(sent, out)
 }

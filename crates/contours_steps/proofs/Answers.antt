@@ -1,18 +1,19 @@
 -- What may be written, by how the reading went, and the run that it ends. Assumes nothing.
 use Prim.Native.Nat.{ℕ}
-use mathlib.Core.{Path._≡_, Path.refl, Path.sym, Path.ap, Path.subst, Path._∙_, Bool.Bool, List.List, List.[]}
+use mathlib.Core.{Path._≡_, Path.refl, Path.sym, Path.ap, Path.subst, Path._∙_, Bool.Bool, List.List}
 use native.Mathlib.Omega.{arith}
 use borrow.Author.Tests.{eq-eqb, ne-eqb}
 use lib.{ListN.length, ListN.take, Seq.take-length}
-use Rattle.channel.specs.{System.First, System.none-went, Input.Fills, Input.complete, Input.failed}
+use Rattle.channel.specs.{System.First, Input.Fills, Input.complete, Input.failed, Due.Sends, Run.Run}
+use Rattle.channel.proofs.Running as running
 use Rattle.channel.specs.System.Origin.{input}
 use Rattle.channel.specs.declared.whole.Filled.{Filled}
 use Rattle.network.specs.declared.Frame.{Frame}
 use Rattle.contours_steps.specs.declared.words.Given.{Given}
 use Rattle.contours_steps.specs.Words.{Gathered}
 use Rattle.contours_steps.specs.Sheet.{refusedLine, sheetOf, lineBegun, maxText, overlongLine, overlongOf}
-use Rattle.contours_steps.specs.{Drawing.Accepted, Drawing.Refused, Due.Sends}
-use Rattle.contours_steps.specs.Answer.{ReadWhole, ReadFailed, ReadFull, Answered, Run}
+use Rattle.contours_steps.specs.{Drawing.Accepted, Drawing.Refused}
+use Rattle.contours_steps.specs.Answer.{ReadWhole, ReadFailed, ReadFull, Answered, MayWrite}
 use Rattle.contours_steps.specs.Answer.TextFor.{whole, fails, full}
 use Rattle.contours_steps.proofs.Drawings.{refused-written, accepted-written}
 
@@ -49,16 +50,5 @@ module _ {bytes asked : List ℕ} {g : Given} where
 
   -- the run that it ends, from nothing sent on
   pub ran : {out : List ℕ} {r : Bool} {sent sent′ : ℕ} → Answered bytes g asked out → sent ≡ 0
-      → Sends sent out r sent′ → Run r sent′
-  ran {out} a z s =
-      record {
-        all = λ e. record {
-          bytes = bytes;
-          given = g;
-          asked = asked;
-          out = out;
-          answered = a;
-          went = s .went e [] (record { first = none-went; long = sym z });
-        };
-        lost = s .lost;
-      }
+      → Sends sent out r sent′ → Run MayWrite r sent′
+  ran a z s = running.ran (record { bytes = bytes; given = g; asked = asked; answered = a }) z s

@@ -1,5 +1,4 @@
 pub mod Begun
-pub mod Dues
 pub mod Levels
 pub mod Gathering
 pub mod Short

@@ -4,8 +4,8 @@ use mathlib.Core.{Path._≡_, Path.refl, Bool.Bool, Bool.true, List.List, List.[
 use native.Mathlib.Numerals.{add-one}
 use lib.{ListN.length, ListN.getD, ListN.drop, ListN.drop-of-length-le, Seq.drop-cons}
 use Rattle.network.specs.declared.Frame.{Frame}
-use Rattle.contours_steps.specs.Due.{Due, Sends}
-use Rattle.contours_steps.proofs.Dues.{due-whole, due-front, due-rest, Rest, rest-all, rest-next}
+use Rattle.channel.specs.Due.{Due, Sends}
+use Rattle.channel.proofs.Dues.{due-whole, due-front, due-rest, Rest, rest-all, rest-next}
 use Rattle.contours_steps.specs.Sheet.{heading, levelLine, levelLines, sheetOf}
 
 module _ (levels : List ℕ) (f : Frame) (vs : List ℕ) where

@@ -1,13 +1,10 @@
--- What the program contours may write on standard output, by what came of the network's bytes, and how a run ends.
--- Assumes nothing.
+-- What the program contours may write on standard output, by what came of the network's bytes. Assumes nothing.
 use Prim.Native.Nat.{ℕ}
 use mathlib.Core.Path.{_≡_}
-use mathlib.Core.Bool.{Bool, true, false}
 use mathlib.Core.List.{List}
 use lib.ListN.{length}
-use Rattle.channel.specs.System.{First, Whole, Broken, Lost}
+use Rattle.channel.specs.System.{First, Whole, Broken}
 use Rattle.channel.specs.System.Origin.{input}
-use Rattle.channel.specs.Output.{Went}
 use Rattle.contours_steps.specs.declared.words.Given.{Given}
 use Rattle.contours_steps.specs.Words.{Gathered}
 use Rattle.contours_steps.specs.Sheet.{maxText, writtenOf, failedOf, overlongOf}
@@ -34,16 +31,9 @@ pub record Answered (bytes : List ℕ) (g : Given) (asked out : List ℕ) : Type
   pub given : Gathered g asked
   pub is : TextFor bytes (given .words) out
 
--- A run whose text went, all of it, and nothing before it or behind it: `sent` counts all that went
-pub record Ran (sent : ℕ) : Type 0 where
+-- whatever was read and given
+pub record MayWrite (out : List ℕ) : Type 0 where
   pub bytes : List ℕ
   pub given : Given
   pub asked : List ℕ
-  pub out : List ℕ
   pub answered : Answered bytes given asked out
-  pub went : Went sent out
-
--- how a run ends: so, or with a write that was not taken whole
-pub record Run (r : Bool) (sent : ℕ) : Type 0 where
-  pub all : r ≡ true → Ran sent
-  pub lost : r ≡ false → Lost

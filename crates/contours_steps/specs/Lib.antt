@@ -1,6 +1,5 @@
 pub mod Words
 pub mod Sheet
-pub mod Due
 pub mod Drawing
 pub mod Answer
 pub mod Told

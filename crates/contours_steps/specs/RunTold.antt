@@ -1,11 +1,10 @@
--- What a run of the program contours comes to, said of the bytes that came and went and of its arguments, and of
--- nothing between them. Assumes nothing.
+-- What is told of the text that a run of the program contours writes, said of the bytes that came and of its arguments,
+-- and of nothing between them. Assumes nothing.
 use Prim.Native.Nat.{ℕ, _+_, _≤_, _<_}
 use mathlib.Core.Path.{_≡_}
-use mathlib.Core.Bool.{Bool, true, false}
 use mathlib.Core.List.{List, []}
 use lib.ListN.{length, getD}
-use Rattle.channel.specs.System.{First, Whole, Broken, Sent, Lost, Arguments, Argument}
+use Rattle.channel.specs.System.{First, Whole, Broken, Arguments, Argument}
 use Rattle.channel.specs.System.Origin.{input}
 use Rattle.contours_steps.specs.Sheet.{refusedLine, writtenOf, overlongOf}
 use Rattle.contours_steps.specs.Told.{lineEnds}
@@ -24,9 +23,9 @@ pub record WordsTold (words : List (List ℕ)) : Type 0 where
   pub many : Arguments (length words)
   pub each : (i : ℕ) → i < length words → Argument (i + 1) 16 (getD words i [])
 
--- A run, by what it answers and how many bytes it counts: such a text went, one time, and no other byte; or a write
--- was not taken whole
-pub data RunTold (r : Bool) (sent : ℕ) : Type 0 where
-  went : r ≡ true → (words : List (List ℕ)) (text : List ℕ) → WordsTold words → TextTold words text
-      → Sent text → length text ≡ sent → RunTold r sent
-  lost : r ≡ false → Lost → RunTold r sent
+-- both, of a text that may be written. A run writes such a text, one time, and no other byte, or loses it: `RunTold`
+-- of crate channel
+pub record SheetTold (text : List ℕ) : Type 0 where
+  pub words : List (List ℕ)
+  pub given : WordsTold words
+  pub told : TextTold words text

@@ -1,5 +1,5 @@
 -- The texts of the program's steps, and which answer each is. Assumes nothing.
-use mathlib.Core.{Path._≡_, Path.sym, Path._∙_, Bool.Bool, List.List, List.[], List._++_}
+use mathlib.Core.{Path._≡_, Path.sym, Path._∙_, List.List, List.[], List._++_}
 use Prim.Native.Nat.{ℕ}
 use lib.{Dec.eqb, ListN.take}
 use borrow.Author.Tests.{ne-eqb, eqb-true, eqb-false}
@@ -13,9 +13,9 @@ use Rattle.report_steps.specs.Reading.{readingAt, registered}
 use Rattle.report_text.specs.{Text.refusedText, Text.bookText, InnerRoom.longestRefused}
 use Rattle.text.specs.InnerWithin.{WroteWithin}
 use Rattle.explain_text.specs.Text.{explainText}
-use Rattle.channel.specs.{System.none-came, System.none-went, Output.Writes}
+use Rattle.channel.specs.{System.none-came}
 use Rattle.channel.specs.System.Origin.{input}
-use Rattle.report_rules.specs.Report.{bookRows, Telling, registerText, endless, Opened, Written, Run}
+use Rattle.report_rules.specs.Report.{bookRows, Telling, registerText, endless, Opened}
 use Rattle.report_rules.specs.Report.Came.{whole, stopped, failed}
 use Rattle.report_rules.proofs.Answers.{reading-refused, reading-reported, register-text, report-refused}
 use Rattle.report_rules.proofs.Answers.{answers-accepted}
@@ -98,17 +98,3 @@ told-explained l b z w = rw z w
 pub told-reported : (l : LimitsFile) (b : Book) {kind size : ℕ} {s e : List ℕ} → (kind ≡ explain → ⊥)
     → Wrote s 0 (bookText l b) e size → Wrote s 0 (tellingOf kind l b) e size
 told-reported l b {kind} ne w = rw (ne-eqb kind explain ne) w
-
--- the text went, all of it, with nothing before it
-pub ran : (tell : Telling) {limits text : List ℕ} {sent sent′ : ℕ} {r : Bool} → Written tell limits text → sent ≡ 0
-    → Writes sent text r sent′ → Run tell r sent′
-ran tell {limits} {text} {sent} {sent′} {r} written z w =
-    record {
-      all = λ e. record {
-        limits = limits;
-        out = text;
-        written = written;
-        went = w .went e [] (record { first = none-went; long = sym z });
-      };
-      lost = w .lost;
-    }

@@ -23,7 +23,8 @@ ghost use Rattle.report_text.specs.Text.{refusedText};
 ghost use Rattle.report_text.specs.InnerRoom.{longestRefused, LimitsFit};
 ghost use Rattle.text.specs.InnerWithin.{WroteWithin};
 ghost use Rattle.explain_text.specs.InnerRoom.{longestText};
-ghost use Rattle.report_rules.specs.Report.{bookRows, limitsRoom, Opened, Written, Run};
+ghost use Rattle.channel.specs.Run.{Run};
+ghost use Rattle.report_rules.specs.Report.{bookRows, limitsRoom, Opened, Written, MayWrite};
 ghost use Rattle.files.specs.Feeding.{turnedTo};
 ghost use Rattle.files.specs.InnerSteps.{Sized, AnsweredIn, WrittenIn, Told};
 ghost use Rattle.files.specs.Kinds.{tellingOf};
@@ -179,7 +180,7 @@ fn put_told(
 fn write(kind: u32, limits: &[u8], sent: &mut usize, text: &[u8]) -> bool
     requires { ⌜ Written (tellingOf kind) (now limits) (now text) ⌝ }
     requires { ⌜ now sent ≡ 0 ⌝ }
-    ensures { λ r. ⌜ Run (tellingOf kind) r (now (sent .exit)) ⌝ }
+    ensures { λ r. ⌜ Run (MayWrite (tellingOf kind)) r (now (sent .exit)) ⌝ }
 {
     channel::core::write(sent, text)
 }
@@ -187,7 +188,7 @@ fn write(kind: u32, limits: &[u8], sent: &mut usize, text: &[u8]) -> bool
 // All of a program: its files are read, its text is written, and it answers whether all of it was taken.
 pub fn run(kind: u32, sent: &mut usize) -> bool
     requires { ⌜ now sent ≡ 0 ⌝ }
-    ensures { λ r. ⌜ Run (tellingOf kind) r (now (sent .exit)) ⌝ }
+    ensures { λ r. ⌜ Run (MayWrite (tellingOf kind)) r (now (sent .exit)) ⌝ }
 {
     let mut text = io::buffer();
     let n = limits_text(&mut text);

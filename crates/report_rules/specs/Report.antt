@@ -2,13 +2,12 @@
 -- Assumes nothing.
 use Prim.Native.Nat.{ℕ, _+_}
 use mathlib.Core.Path.{_≡_}
-use mathlib.Core.Bool.{Bool, true, false, cond}
+use mathlib.Core.Bool.{cond}
 use mathlib.Core.List.{List, [], _++_}
 use lib.ListN.{length, replicate}
 use lib.Dec.{eqb}
-use Rattle.channel.specs.System.{Origin, First, Whole, Broken, Lost}
+use Rattle.channel.specs.System.{Origin, First, Whole, Broken}
 use Rattle.channel.specs.System.Origin.{input, file}
-use Rattle.channel.specs.Output.{Went}
 use Rattle.book_rules.specs.Columns.{Book}
 use Rattle.book_rules.specs.History.{emptyBook}
 use Rattle.register.specs.declared.limits_csv.LimitsFile.{LimitsFile}
@@ -93,14 +92,7 @@ pub record Written (tell : Telling) (limits text : List ℕ) : Type 0 where
   pub heard : Heard came
   pub is : Answers (answerOf tell limits) came text
 
--- A run whose text went, all of it, and nothing before it or behind it: `sent` counts all that went
-pub record Ran (tell : Telling) (sent : ℕ) : Type 0 where
+-- of whatever limits.csv was
+pub record MayWrite (tell : Telling) (text : List ℕ) : Type 0 where
   pub limits : List ℕ
-  pub out : List ℕ
-  pub written : Written tell limits out
-  pub went : Went sent out
-
--- how a run ends: so, or with a write that was not taken whole
-pub record Run (tell : Telling) (r : Bool) (sent : ℕ) : Type 0 where
-  pub all : r ≡ true → Ran tell sent
-  pub lost : r ≡ false → Lost
+  pub written : Written tell limits text

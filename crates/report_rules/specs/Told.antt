@@ -1,11 +1,9 @@
--- What a run of report or explain comes to, said of the bytes that came and went and of nothing between them: RULES,
--- "Files and the report program". Assumes nothing.
+-- What is told of the text that a run of report or explain writes, said of the bytes that came and of nothing between:
+-- RULES, "Files and the report program". Assumes nothing.
 use mathlib.Core.Path.{_≡_}
-use mathlib.Core.Bool.{Bool, true, false}
 use mathlib.Core.List.{List, [], _++_}
 use Prim.Native.Nat.{ℕ}
-use lib.ListN.{length}
-use Rattle.channel.specs.System.{First, Whole, Broken, Sent, Lost}
+use Rattle.channel.specs.System.{First, Whole, Broken}
 use Rattle.channel.specs.System.Origin.{input, file}
 use Rattle.text.specs.Spelled.{bytes}
 use Rattle.register.specs.LimitsFile.{limitsOf}
@@ -32,16 +30,11 @@ pub data AnsweredBy (tell : Telling) (limits text : List ℕ) : Type 0 where
   broken : (register : List ℕ) → Broken input register
       → (limitsOf limits .refusal ≡ 0 → FailedTold limits register text) → AnsweredBy tell limits text
 
--- both, of a text that may be written; and a limits.csv that is refused is told so, however the register came
-pub record TextTold (tell : Telling) (limits text : List ℕ) : Type 0 where
+-- both, of a text that may be written; and a limits.csv that is refused is told so, however the register came. A run
+-- writes such a text, one time, and no other byte, or loses it: `RunTold` of crate channel
+pub record TextTold (tell : Telling) (text : List ℕ) : Type 0 where
+  pub limits : List ℕ
   pub file= : LimitsFrom tell limits
   pub input= : AnsweredBy tell limits text
   pub refused : (limitsOf limits .refusal ≡ 0 → ⊥)
       → text ≡ refusedText (limitsOf limits .refusal) (limitsOf limits .line)
-
--- A run, by what it answers and how many bytes it counts: such a text went, one time, and no other byte; or a write
--- was not taken whole
-pub data RunTold (tell : Telling) (r : Bool) (sent : ℕ) : Type 0 where
-  went : r ≡ true → (limits text : List ℕ) → TextTold tell limits text → Sent text → length text ≡ sent
-      → RunTold tell r sent
-  lost : r ≡ false → Lost → RunTold tell r sent

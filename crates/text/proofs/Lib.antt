@@ -9,5 +9,6 @@ pub mod Streams
 pub mod Sames
 pub mod Indices
 pub mod Within
+pub mod Sheets
 pub mod Clocks
 pub mod Letters

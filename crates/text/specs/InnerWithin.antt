@@ -15,6 +15,10 @@ longestField = 21
 abbrev pub longestLevel : ℕ
 longestLevel = 6
 
+-- a refusal's one line: its word, two numbers with their commas, and the CRLF
+abbrev pub longestRefused : ℕ
+longestRefused = 51
+
 -- a text written at `at` that takes at most `max` bytes
 pub record WroteWithin (max : ℕ) (old : List ℕ) (at : ℕ) (text new : List ℕ) (next : ℕ) : Type 0 where
   pub wrote : Wrote old at text new next

@@ -4,6 +4,7 @@ pub mod Line
 pub mod Same
 pub mod Index
 pub mod Spelled
+pub mod Sheet
 pub mod Clock
 pub mod Letter
 pub mod InnerWithin

@@ -13,7 +13,8 @@ ghost use Rattle.text.specs.Letter.{letterOf};
 ghost use Rattle.text.specs.Field.{upTo};
 ghost use Rattle.text.specs.Line.{endAt, firstLine};
 ghost use Rattle.text.specs.Spelled.{byte, crlf};
-ghost use Rattle.text.specs.InnerWithin.{longestNumber, longestField, longestLevel, WroteWithin};
+ghost use Rattle.text.specs.Sheet.{refusedText};
+ghost use Rattle.text.specs.InnerWithin.{longestNumber, longestField, longestLevel, longestRefused, WroteWithin};
 ghost use Rattle.room.specs.Room.{Wrote};
 
 // The value of a run of at most seven digits.
@@ -261,4 +262,16 @@ pub fn put_end(out: &mut [u8], at: usize) -> usize
 {
     let next = put_byte(out, at, b'\r');
     put_byte(out, next, b'\n')
+}
+
+// A refusal's one line, at the front.
+pub fn put_refused(out: &mut [u8], number: u32, line: u64) -> usize
+    requires { ⌜ longestRefused ≤ length (now out) ⌝ }
+    ensures { λ r. ⌜ WroteWithin longestRefused (now (out .entry)) 0 (refusedText number line)
+        (now (out .exit)) r ⌝ }
+{
+    let word = put_text(out, 0, b"refused");
+    let first = put_field(out, word, number as u64);
+    let second = put_field(out, first, line);
+    put_end(out, second)
 }

@@ -4,8 +4,9 @@ use native.Mathlib.Omega.{arith}
 use denote.Ref.{now}
 use lib.ListN.{length, getD, drop}
 use borrow.Author.{Needs.needs, Tests.not-true, Tests.not-false}
-use Rattle.contours_steps.specs.{Sheet.heading, Sheet.levelLine, Sheet.levelLines, Sheet.sheetOf, Due.Due, Due.Sends}
-use Rattle.contours_steps.proofs.Dues.{due-front, due-rest, sends-lost, Rest, rest-next, rest-none}
+use Rattle.channel.specs.Due.{Due, Sends}
+use Rattle.contours_steps.specs.Sheet.{heading, levelLine, levelLines, sheetOf}
+use Rattle.channel.proofs.Dues.{due-front, due-rest, sends-lost, Rest, rest-next, rest-none}
 use Rattle.contours_steps.proofs.Order.{heading-due, lines-due, lines-rest, lines-more, lines-none}
 use Rattle.contours.proofs.print.lines.Statement.{statement}
 use Rattle.contours.proofs.print.lines.Tie as tie

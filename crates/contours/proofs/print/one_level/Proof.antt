@@ -6,7 +6,7 @@ use denote.Ref.{now}
 use lib.ListN.{getD}
 use Rattle.wkt.specs.Calls.{networkText}
 use Rattle.contours_steps.specs.Sheet.{lineEnd, lineStart}
-use Rattle.contours_steps.proofs.Dues.{due-front, due-rest, sends-lost, sends-then}
+use Rattle.channel.proofs.Dues.{due-front, due-rest, sends-lost, sends-then}
 use borrow.Author.{Needs.needs, Tests.not-true, Tests.not-false}
 use Rattle.contours.proofs.print.one_level.Statement.{statement}
 use Rattle.contours.proofs.print.one_level.Tie as tie

@@ -8,8 +8,9 @@ use lib.{ListN.length, ListN.take, ListN.length-append, Seq.length-take-le}
 use borrow.Author.{Needs.needs, Tests.not-true, Tests.not-false}
 use Rattle.wkt.specs.{Text.textOf, InnerParts.Reached, InnerParts.leftOf, InnerParts.linesFrom}
 use Rattle.wkt.proofs.{Lengths.piece-short, Steps.left-first, Steps.left-end, Steps.reached-first}
-use Rattle.contours_steps.specs.{Sheet.sheetOf, Due.Due}
-use Rattle.contours_steps.proofs.Dues.{due-front, due-rest, sends-lost, Rest, rest-all, rest-next, rest-none}
+use Rattle.channel.specs.Due.{Due}
+use Rattle.contours_steps.specs.Sheet.{sheetOf}
+use Rattle.channel.proofs.Dues.{due-front, due-rest, sends-lost, Rest, rest-all, rest-next, rest-none}
 use Rattle.contours.proofs.print.parts.Statement.{statement}
 use Rattle.contours.proofs.print.parts.Tie as tie
 

@@ -1,5 +1,6 @@
 -- `contours::print::write` meets its contract: what went is what is answered. Assumes nothing.
-use Rattle.contours_steps.proofs.{Dues.sends-one, Answers.ran}
+use Rattle.channel.proofs.Dues.{sends-one}
+use Rattle.contours_steps.proofs.Answers.{ran}
 use borrow.Author.Needs.{needs}
 use Rattle.contours.proofs.print.write.Statement.{statement}
 use Rattle.contours.proofs.print.write.Tie as tie

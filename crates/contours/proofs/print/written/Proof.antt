@@ -1,6 +1,7 @@
 -- `contours::print::written` meets its contract: a machine's word counts the whole sheet. Assumes nothing.
 use native.Mathlib.Omega.{arith}
-use Rattle.contours_steps.proofs.{Dues.due-within, Dues.sends-one, Short.sheet-short}
+use Rattle.channel.proofs.Dues.{due-within, sends-one}
+use Rattle.contours_steps.proofs.Short.{sheet-short}
 use Rattle.contours.proofs.print.written.Statement.{statement}
 use Rattle.contours.proofs.print.written.Tie as tie
 

@@ -1,4 +1,4 @@
--- `channel::input::read_from` meets its contract: the one place that says what a read gave. Assumes nothing.
+-- `channel::core::read_from` meets its contract: the one place that says what a read gave. Assumes nothing.
 use mathlib.Core.Path.{_≡_, refl, ap, _∙_}
 use Prim.Native.Nat.{_≤_}
 use native.Mathlib.Omega.{arith}
@@ -7,8 +7,8 @@ use mir.{Syntax.w64, ValLaws.toZ-ofZ}
 use Rattle.channel.specs.System.{system-gave, system-ended, system-failed, system-uncounted}
 use Rattle.channel.proofs.Behind.{answered-count}
 use borrow.Author.Needs.{needs}
-use Rattle.channel.proofs.input.read_from.Statement.{statement}
-use Rattle.channel.proofs.input.read_from.Tie as tie
+use Rattle.channel.proofs.core.read_from.Statement.{statement}
+use Rattle.channel.proofs.core.read_from.Tie as tie
 
 returns-2 : tie.Need-returns-2
 returns-2 c =

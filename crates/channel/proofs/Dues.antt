@@ -4,8 +4,8 @@ use mathlib.Core.{Path._≡_, Path.refl, Path.sym, Path.ap, Path.subst, Path._�
 use mathlib.Core.List.{List, [], _++_, append-assoc, append-nil}
 use native.Mathlib.Omega.{arith}
 use lib.ListN.{length, length-append}
 use Rattle.channel.specs.{System.Lost, Output.Went, Output.Writes}
-use Rattle.contours_steps.specs.Due.{Due, Sends}
+use Rattle.channel.specs.Due.{Due, Sends}
 
 -- the whole is due from its start
 pub due-whole : (whole : List ℕ) → Due whole 0 whole

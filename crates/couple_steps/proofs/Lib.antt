@@ -1,0 +1,14 @@
+pub mod Tables
+pub mod Takes
+pub mod Longest
+pub mod Columns
+pub mod Rights
+pub mod Held
+pub mod Lines
+pub mod Says
+pub mod Running
+pub mod Answering
+pub mod Flat
+pub mod Ready
+pub mod Putting
+pub mod Order

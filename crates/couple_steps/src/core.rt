@@ -1,0 +1,3 @@
+// Steps over tables that have room.
+pub mod feeding;
+pub mod put;

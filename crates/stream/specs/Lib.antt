@@ -1,0 +1,5 @@
+pub mod Reading
+pub mod Coming
+pub mod InnerTaken
+pub mod InnerFeeding
+pub mod Refused
