@@ -20,9 +20,9 @@ use Rattle.stream.proofs.LongLines.{endless-off}
 -- what is said of a text, in other words
 pub of-as : {Says Tells : List ℕ → Type 0} (row : ℕ) (came : Coming) → ((bytes : List ℕ) → Says bytes → Tells bytes)
     → Of row came Says → Of row came Tells
-of-as row (whole bytes) f is = f bytes is
-of-as row (stopped bytes) f is = λ rest. f (bytes ++ rest) (is rest)
-of-as row (failed bytes) f is = f (bytes ++ endless row) is
+of-as row (whole bytes) f is = f _ is
+of-as row (stopped bytes) f is = λ rest. f _ (is rest)
+of-as row (failed bytes) f is = f _ is
 
 module _ {A : Type 0} {step : Step A} {row : ℕ} where
   -- a read that failed leaves what is held, and is refused at the line being read
