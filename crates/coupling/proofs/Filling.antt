@@ -3,10 +3,9 @@
 use mathlib.Core.{Path._≡_, Path.sym, Path.ap, Path._∙_, Bool.Bool, Bool.true, Bool._&&_, List.List, Logic.⊎-elim}
 use Prim.Native.Nat.{ℕ, _+_, _≤_, _<_}
 use native.Mathlib.Omega.{arith}
-use lib.{ListN.length, ListN.getD, ListN.drop, ListN.set, ListN.drop-of-length-le}
-use lib.Dec.{eqb}
+use lib.{ListN.length, ListN.getD, ListN.drop, ListN.set, ListN.drop-of-length-le, Dec.eqb, Seq.getD-set-same}
+use lib.{Seq.getD-set-other}
 use borrow.Author.Tests.{le-leb, eq-eqb}
-use lib.Seq.{getD-set-same, getD-set-other}
 use Rattle.refusal.proofs.Ranges.{drop-more}
 use Rattle.date.specs.Calendar.{dateExists}
 use Rattle.coupling_rules.specs.{Flights.Flights, Flights.many, Refusals.allExist, Refusals.shapeFits}

@@ -2,8 +2,8 @@
 use mathlib.Core.{Path._≡_, Path.sym, Path.ap, Path._∙_, Bool.Bool, Bool.cond, List.List, List._++_}
 use Prim.Native.Nat.{ℕ, suc, _+_, _-_, _≤_, _<_}
 use native.Mathlib.{Omega.arith, Numerals.add-one}
-use lib.ListN.{length, take, drop, getD, length-drop, drop-of-length-le}
-use lib.Seq.{drop-cons, drop-at, length-take-le}
+use lib.{ListN.length, ListN.take, ListN.drop, ListN.getD, ListN.drop-of-length-le, Seq.drop-cons}
+use lib.{Seq.drop-at, Seq.length-take-le}
 use borrow.Author.Tests.{eq-eqb, ne-eqb}
 use borrow.Rule.Slice.PartMut.{midOf, postOf, putMid, post-is}
 use Rattle.coupling_rules.specs.InnerSides.{leading, headGap}
@@ -55,9 +55,6 @@ head-none g l at h = sym (ap (headGap g) (drop-of-length-le l h))
 
 pub top-after : (top at r e : ℕ) → at ≤ r → r ≤ e → top - (e - at) ≡ top - (r - at) - (e - r)
 top-after top at r e h k = omega arith
-
-pub has-room : (l : List ℕ) (t : ℕ) → 0 < length (drop t l) → t < length l
-has-room l t h = omega (arith, length-drop t l)
 
 pub left-room : (top at r n : ℕ) → at ≤ r → n ≤ top + at → n ≤ top - (r - at) + r
 left-room top at r n h k = omega arith

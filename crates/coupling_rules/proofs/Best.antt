@@ -7,10 +7,8 @@ use lib.Dec.{ltb}
 use borrow.Author.Tests.{ltb-true, ltb-false, le-ltb}
 use Rattle.coupling_rules.specs.InnerSides.{In}
 use Rattle.coupling_rules.specs.Rule.{closer, against, best}
-use Rattle.coupling_rules.proofs.Members.{is-or-not}
-use Rattle.coupling_rules.proofs.Closer.{Closer, closer-place, closer-says, says-closer, both-closer}
-use Rattle.coupling_rules.proofs.Closer.{closer-on}
-use Rattle.coupling_rules.proofs.Closer.{not-closer}
+use Rattle.coupling_rules.proofs.{Members.is-or-not, Closer.Closer, Closer.closer-place, Closer.closer-says}
+use Rattle.coupling_rules.proofs.{Closer.says-closer, Closer.both-closer, Closer.closer-on, Closer.not-closer}
 
 module _ (gap time : ℕ → ℕ) where
   other-by : (j x : ℕ) (b : Bool) → closer gap time x j ≡ b → closer gap time j x ≡ true → (j ≡ x → ⊥)

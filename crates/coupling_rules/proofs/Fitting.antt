@@ -2,11 +2,10 @@
 -- circuit,
 -- and the closer of two that fit goes before the other. Assumes nothing.
 use mathlib.Core.{Path._≡_, Path.refl, Path.sym, Path.ap, Path.subst, Path._∙_, Bool.Bool, Bool.true, Bool.false}
-use mathlib.Core.{Bool.cond, Bool.not}
-use mathlib.Core.{Bool._&&_, Bool.and-false, Logic._⊎_, Logic.inl, Logic.inr, Logic.⊎-elim}
-use Prim.Native.Nat.{ℕ, _+_, _-_, _≤_, _<_}
+use mathlib.Core.{Bool.cond, Bool.not, Bool.and-false, Logic._⊎_, Logic.inl, Logic.inr, Logic.⊎-elim}
+use Prim.Native.Nat.{ℕ, _+_, _≤_, _<_}
 use native.Mathlib.Omega.{arith}
-use lib.{Dec.eqb, Dec.leb, ListN.getD}
+use lib.{Dec.eqb, ListN.getD}
 use borrow.Author.Tests.{eq-eqb, ne-eqb, leb-true, le-leb, not-true}
 use Rattle.refusal.proofs.Laws.{and-left, and-right}
 use Rattle.coupling_rules.specs.Limits.{aeroplaneWindow, helicopterWindow}
@@ -14,9 +13,8 @@ use Rattle.coupling_rules.specs.Flights.{Flights, Movements, many}
 use Rattle.coupling_rules.specs.Rule.{momentOf, distance, agree, windowOf, leftOut, takesNone, fits, gap}
 use Rattle.coupling_rules.specs.Promises.{secondOf, Within, InWindow, Apart, Rather, MayTake}
 use Rattle.coupling_rules.specs.Promises.Rather.{nearer, earlier, lower}
-use Rattle.coupling_rules.proofs.Members.{lt-or-not, zero-or}
-use Rattle.coupling_rules.proofs.Closer.{Closer}
-use Rattle.coupling_rules.proofs.{Packing.agree-says, Packing.says-agree, Sooner.moment-is}
+use Rattle.coupling_rules.proofs.{Members.lt-or-not, Members.zero-or, Closer.Closer, Packing.agree-says}
+use Rattle.coupling_rules.proofs.{Packing.says-agree, Sooner.moment-is}
 
 -- Seconds between
 

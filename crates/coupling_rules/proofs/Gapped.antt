@@ -1,16 +1,15 @@
 -- The gaps of a movement's class, moment and reach are as `Gaps` asks: in its own class a track's rank is its moment
 -- and
 -- one number more, and a rank between two of one class is of that class. Assumes nothing.
-use mathlib.Core.{Path._≡_, Path.refl, Path.sym, Path.ap, Path.subst, Path._∙_, Bool.Bool, Bool.true, Bool.false}
-use mathlib.Core.{Bool.cond, Logic._⊎_, Logic.inl, Logic.inr, Logic.⊎-elim}
-use Prim.Native.Nat.{ℕ, _+_, _-_, _*_, _≤_, _<_}
+use mathlib.Core.{Path._≡_, Path.refl, Path.ap, Path.subst, Bool.Bool, Bool.true, Bool.false, Bool.cond}
+use mathlib.Core.{Logic.⊎-elim}
+use Prim.Native.Nat.{ℕ, _+_, _*_, _≤_, _<_}
 use native.Mathlib.Omega.{arith}
 use lib.Dec.{eqb, ltb}
 use borrow.Author.Tests.{eqb-true, eq-eqb, ltb-true, lt-ltb}
 use Rattle.coupling_rules.specs.Rule.{distance}
 use Rattle.coupling_rules.specs.InnerPacked.{ranked, gapBetween, packedGap}
-use Rattle.coupling_rules.proofs.Members.{three-ways}
-use Rattle.coupling_rules.proofs.Sides.{Gaps}
+use Rattle.coupling_rules.proofs.{Members.three-ways, Sides.Gaps}
 
 -- Two numbers as one
 

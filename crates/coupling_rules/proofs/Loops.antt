@@ -1,14 +1,11 @@
 -- One movement more: the answers so far, and what the rest of the turns makes of them. Assumes nothing.
-use mathlib.Core.{Path._≡_, Path.sym, Path.ap, Path.subst, Path._∙_, List.List, List._∷_, Path.refl, Logic.inl}
+use mathlib.Core.{Path._≡_, Path.sym, Path.ap, Path.subst, Path._∙_, List.List, Path.refl, Logic.inl}
 use Prim.Native.Nat.{ℕ, zero, suc, _+_, _≤_, _<_}
 use native.Mathlib.{Omega.arith, Numerals.add-one}
-use lib.ListN.{length, drop, getD, set, drop-of-length-le}
-use lib.Seq.{drop-cons}
+use lib.{ListN.length, ListN.drop, ListN.getD, ListN.set, ListN.drop-of-length-le, Seq.drop-cons}
 use Rattle.coupling_rules.specs.Rule.{best, after, couple}
 use Rattle.coupling_rules.specs.InnerSides.{In, Chain, Split, Below, Turned}
-use Rattle.coupling_rules.proofs.Members.{after-in}
-use Rattle.coupling_rules.proofs.Best.{best-in}
-use Rattle.coupling_rules.proofs.Runs.{chain-drop}
+use Rattle.coupling_rules.proofs.{Members.after-in, Best.best-in, Runs.chain-drop}
 
 best-by : (gap time : ℕ → ℕ) (free : List ℕ) (n b : ℕ) → ((j : ℕ) → In j free → j < n)
     → best gap time free ≡ b

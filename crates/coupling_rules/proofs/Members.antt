@@ -1,12 +1,9 @@
 -- Members of a list of places. Assumes nothing.
-use mathlib.Core.Path.{_≡_, refl, sym, subst, _∙_}
-use mathlib.Core.Bool.{Bool, true, false, cond}
-use mathlib.Core.List.{List, [], _∷_, _++_}
-use mathlib.Core.Logic.{_⊎_, inl, inr, ⊎-elim}
+use mathlib.Core.{Path._≡_, Path.refl, Path.sym, Path._∙_, Bool.Bool, Bool.true, Bool.false, Bool.cond, List.List}
+use mathlib.Core.{List.[], List._∷_, List._++_, Logic._⊎_, Logic.inl, Logic.inr, Logic.⊎-elim}
 use Prim.Native.Nat.{ℕ, zero, suc, _≤_, _<_}
 use native.Mathlib.Omega.{arith}
-use lib.Dec.{eqb, ltb}
-use lib.ListN.{length, getD}
+use lib.{Dec.eqb, Dec.ltb, ListN.length, ListN.getD}
 use borrow.Author.Tests.{eqb-true, eqb-false, ltb-true, ltb-false}
 use Rattle.coupling_rules.specs.InnerSides.{In}
 use Rattle.coupling_rules.specs.Rule.{goesWith, without, after}

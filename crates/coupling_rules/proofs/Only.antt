@@ -2,20 +2,19 @@
 -- movement
 -- takes the same track in both, or none in both. Assumes nothing.
 use mathlib.Core.{Path._≡_, Path.refl, Path.sym, Path.ap, Path._∙_, List.List, Logic._⊎_, Logic.inl, Logic.inr}
-use mathlib.Core.Logic.{⊎-elim}
-use Prim.Native.Nat.{ℕ, zero, suc, _+_, _-_, _≤_, _<_}
+use mathlib.Core.{Logic.⊎-elim}
+use Prim.Native.Nat.{ℕ, zero, suc, _≤_, _<_}
 use native.Mathlib.Omega.{arith}
-use lib.ListN.{length, getD}
-use lib.Seq.{ext-getD}
+use lib.{ListN.getD, Seq.ext-getD}
 use Rattle.refusal.proofs.Ranges.{within-at}
 use Rattle.coupling_rules.specs.Flights.{Flights, Movements, many}
 use Rattle.coupling_rules.specs.Rule.{momentOf, distance, tracksFor}
 use Rattle.coupling_rules.specs.Refusals.{coupleRefusal}
 use Rattle.coupling_rules.specs.Promises.{secondOf, Sooner, Rather, FreeFor, Coupled}
 use Rattle.coupling_rules.specs.Promises.Rather.{nearer, earlier, lower}
-use Rattle.coupling_rules.proofs.Members.{is-or-not, zero-or}
-use Rattle.coupling_rules.proofs.Refusing.{Values, not-refused, movements-flights, flights-values}
-use Rattle.coupling_rules.proofs.{Turns.by-turns, Sooner.sooner-over, Fitting.apart-is, Promised.coupled}
+use Rattle.coupling_rules.proofs.{Members.is-or-not, Members.zero-or, Refusing.Values, Refusing.not-refused}
+use Rattle.coupling_rules.proofs.{Refusing.movements-flights, Refusing.flights-values, Turns.by-turns}
+use Rattle.coupling_rules.proofs.{Sooner.sooner-over, Fitting.apart-is, Promised.coupled}
 
 -- Of two tracks only one goes before
 

@@ -1,24 +1,22 @@
 -- The packed columns give the rule's own answers: two flights are of one class number exactly if class, kind, runway,
 -- airport and type designator are equal, so each gap that is met is the rule's. Assumes nothing.
 use mathlib.Core.{Path._≡_, Path.refl, Path.sym, Path.ap, Path._∙_, Bool.Bool, Bool.true, Bool.false, Bool.cond}
-use mathlib.Core.{Bool.not, Bool._&&_, List.List, Logic._⊎_, Logic.inl, Logic.inr, Logic.⊎-elim}
-use Prim.Native.Nat.{ℕ, _+_, _*_, _-_, _≤_, _<_}
+use mathlib.Core.{Bool.not, Bool._&&_, List.List}
+use Prim.Native.Nat.{ℕ, _+_, _≤_, _<_}
 use native.Mathlib.Omega.{arith}
-use lib.Dec.{eqb, ltb, leb}
-use lib.ListN.{length, getD, replicate, length-replicate}
+use lib.{Dec.eqb, Dec.ltb, Dec.leb, ListN.length, ListN.getD, ListN.replicate, ListN.length-replicate}
 use borrow.Author.Tests.{eqb-true, eqb-false, eq-eqb, ltb-true, ltb-false, le-ltb, le-leb, lt-leb}
 use Rattle.refusal.proofs.{Laws.and-left, Laws.and-right, Ranges.within-at}
 use Rattle.sorting.specs.Sorted.{keyOf, sorted}
 use Rattle.room.specs.Room.{front}
 use Rattle.coupling_rules.specs.Flights.{Flights, Movements, many}
-use Rattle.coupling_rules.specs.Rule.{momentOf, moment, distance, agree, windowOf, takesNone, fits, gap, couple}
+use Rattle.coupling_rules.specs.Rule.{momentOf, distance, agree, windowOf, takesNone, fits, gap, couple}
 use Rattle.coupling_rules.specs.Rule.{places, turnsOf, tracksFor}
-use Rattle.coupling_rules.specs.InnerPacked.{ranked, highOf, lowOf, Packed, Packs, classIn, momentIn, reachOf}
+use Rattle.coupling_rules.specs.InnerPacked.{highOf, lowOf, Packed, Packs, classIn, momentIn, reachOf}
 use Rattle.coupling_rules.specs.{InnerPacked.gapBetween, InnerPacked.gapsIn, InnerSides.In}
-use Rattle.coupling_rules.proofs.Gapped.{ranked-same}
-use Rattle.coupling_rules.proofs.Refusing.{Values}
-use Rattle.coupling_rules.proofs.Orders.{sorted-in, in-sorted, places-in, in-places}
-use Rattle.coupling_rules.proofs.Same.{sorted-same, couple-same, length-couple, couple-front}
+use Rattle.coupling_rules.proofs.{Gapped.ranked-same, Refusing.Values, Orders.sorted-in, Orders.in-sorted}
+use Rattle.coupling_rules.proofs.{Orders.places-in, Orders.in-places, Same.sorted-same, Same.couple-same}
+use Rattle.coupling_rules.proofs.{Same.length-couple, Same.couple-front}
 
 -- Numbers put together
 

@@ -1,7 +1,6 @@
 -- What is promised of the tracks that movements take: each took the best of what was free at its turn, and free at its
 -- turn is what no sooner movement took. Assumes nothing.
-use mathlib.Core.{Path._≡_, Path.refl, Path.sym, Path._∙_, List.List, Logic._⊎_, Logic.inl, Logic.inr}
-use mathlib.Core.{Logic.⊎-elim}
+use mathlib.Core.{Path._≡_, Path.sym, Path._∙_, List.List, Logic._⊎_, Logic.inl, Logic.inr, Logic.⊎-elim}
 use Prim.Native.Nat.{ℕ, suc, _≤_, _<_}
 use native.Mathlib.Omega.{arith}
 use lib.ListN.{length, getD, replicate, length-replicate}
@@ -11,14 +10,12 @@ use Rattle.coupling_rules.specs.Rule.{momentOf, gap, best, places, turns
 use Rattle.coupling_rules.specs.Refusals.{coupleRefusal}
 use Rattle.coupling_rules.specs.Promises.{Sooner, FreeFor, Coupled}
 use Rattle.coupling_rules.specs.InnerSides.{In, Over}
-use Rattle.coupling_rules.proofs.Members.{three-ways}
-use Rattle.coupling_rules.proofs.Closer.{closer-says}
-use Rattle.coupling_rules.proofs.Best.{best-in, best-none, none-fits, best-closest}
-use Rattle.coupling_rules.proofs.Orders.{places-in, in-places}
-use Rattle.coupling_rules.proofs.Refusing.{Values, not-refused, movements-flights, flights-values}
-use Rattle.coupling_rules.proofs.{Packing.length-tracks, Taking.turn-told, Sooner.sooner-over}
-use Rattle.coupling_rules.proofs.{Sooner.over-sooner}
-use Rattle.coupling_rules.proofs.Fitting.{may-take, takes-may, may-have, takes-none, no-gap, closer-rather}
+use Rattle.coupling_rules.proofs.{Members.three-ways, Closer.closer-says, Best.best-in, Best.best-none}
+use Rattle.coupling_rules.proofs.{Best.none-fits, Best.best-closest, Orders.places-in, Orders.in-places}
+use Rattle.coupling_rules.proofs.{Refusing.Values, Refusing.not-refused, Refusing.movements-flights}
+use Rattle.coupling_rules.proofs.{Refusing.flights-values, Packing.length-tracks, Taking.turn-told}
+use Rattle.coupling_rules.proofs.{Sooner.sooner-over, Sooner.over-sooner, Fitting.may-take, Fitting.takes-may}
+use Rattle.coupling_rules.proofs.{Fitting.may-have, Fitting.takes-none, Fitting.no-gap, Fitting.closer-rather}
 
 -- One movement's turn, in the promise's words
 

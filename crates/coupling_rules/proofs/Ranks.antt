@@ -1,21 +1,20 @@
 -- The orders that the three sorts make, by class and moment as one number, and that sorting the movements by class as
 -- well
 -- changes no answer: movements of two classes have no track in common. Assumes nothing.
-use mathlib.Core.{Path._≡_, Path.sym, Path.ap, Path.subst, Path._∙_, List.List, List.[]}
-use mathlib.Core.Logic.{_⊎_, inl, inr, ⊎-elim}
+use mathlib.Core.{Path._≡_, Path.sym, Path.subst, Path._∙_, List.List, List.[], Logic.inl, Logic.inr}
+use mathlib.Core.{Logic.⊎-elim}
 use Prim.Native.Nat.{ℕ, _≤_, _<_}
 use native.Mathlib.Omega.{arith}
 use lib.ListN.{length, getD}
 use Rattle.sorting.specs.Sorted.{keyOf, sorted}
 use Rattle.coupling_rules.specs.Rule.{places, couple}
 use Rattle.coupling_rules.specs.InnerSides.{In, Chain, Over, Split, Ordered}
-use Rattle.coupling_rules.specs.InnerPacked.{ranked, Packed, classIn, momentIn, rankIn, inOrder, reachOf}
+use Rattle.coupling_rules.specs.InnerPacked.{Packed, classIn, momentIn, rankIn, inOrder, reachOf}
 use Rattle.coupling_rules.specs.InnerPacked.{gapsIn}
-use Rattle.coupling_rules.proofs.Members.{zero-or}
-use Rattle.coupling_rules.proofs.Orders.{Lex, sorted-in, in-sorted, chain-sorted, chain-map, places-in}
-use Rattle.coupling_rules.proofs.Orders.{places-rise}
-use Rattle.coupling_rules.proofs.Gapped.{ranked-high, ranked-low, ranked-same, gap-says}
-use Rattle.coupling_rules.proofs.Swaps.{sorted-couple}
+use Rattle.coupling_rules.proofs.{Members.zero-or, Orders.Lex, Orders.sorted-in, Orders.in-sorted}
+use Rattle.coupling_rules.proofs.{Orders.chain-sorted, Orders.chain-map, Orders.places-in, Orders.places-rise}
+use Rattle.coupling_rules.proofs.{Gapped.ranked-high, Gapped.ranked-low, Gapped.ranked-same, Gapped.gap-says}
+use Rattle.coupling_rules.proofs.{Swaps.sorted-couple}
 
 -- columns of 64 bits
 pub record Wide (p : Packed) : Type 0 where

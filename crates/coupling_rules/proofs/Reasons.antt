@@ -3,7 +3,7 @@
 -- passes has none. Assumes nothing.
 use mathlib.Core.{Path._≡_, Path.refl, Path.sym, Path._∙_, Bool.Bool, Bool.true, Bool.false, Bool._&&_}
 use mathlib.Core.{Bool.false≢true, List.List, List.[], List._∷_, Logic._⊎_, Logic.inl, Logic.inr, Logic.⊎-elim}
-use Prim.Native.Nat.{ℕ, suc, _≤_, _<_}
+use Prim.Native.Nat.{ℕ, suc}
 use native.Mathlib.Omega.{arith}
 use lib.{Dec.eqb, Dec.leb, ListN.length, ListN.getD}
 use borrow.Author.Tests.{eqb-false, leb-false}
@@ -14,8 +14,8 @@ use Rattle.date.proofs.Exactly.{exists-exactly}
 use Rattle.coupling_rules.specs.Flights.{Flights, Movements, many}
 use Rattle.coupling_rules.specs.Refusals.{allExist, shapeFits, valuesFit, flightsFit, movementsFit}
 use Rattle.coupling_rules.specs.Refusals.{coupleRefusal}
-use Rattle.coupling_rules.specs.Reasons.{Uneven, Over, NoDate, Wrong, WrongMovements, RefusedExactly}
-use Rattle.coupling_rules.proofs.Refusing.{Shape, Values, flights-shape, flights-values, movements-flights}
+use Rattle.coupling_rules.specs.Reasons.{Over, NoDate, Wrong, WrongMovements, RefusedExactly}
+use Rattle.coupling_rules.proofs.Refusing.{flights-shape, flights-values, movements-flights}
 use Rattle.coupling_rules.proofs.Refusing.{movements-circuits, not-refused, exist-at}
 
 -- a test of two that fails

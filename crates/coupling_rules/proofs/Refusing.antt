@@ -1,5 +1,5 @@
 -- What flights that are not refused have. Assumes nothing.
-use mathlib.Core.{Path._≡_, Bool.Bool, Bool.true, Bool._&&_, List.List, List.[], List._∷_}
+use mathlib.Core.{Path._≡_, Bool.true, Bool._&&_, List.List, List.[], List._∷_}
 use Prim.Native.Nat.{ℕ, zero, suc, _≤_, _<_}
 use native.Mathlib.Omega.{arith}
 use lib.{Dec.eqb, Dec.leb, ListN.length, ListN.getD}

@@ -1,17 +1,13 @@
 -- The run of equal rank at a list's front goes over to the left. Assumes nothing.
-use mathlib.Core.Path.{_≡_, refl, sym, ap, subst, _∙_}
-use mathlib.Core.Bool.{Bool, true, false, cond}
-use mathlib.Core.List.{List, [], _∷_, _++_}
-use mathlib.Core.Logic.{_⊎_, inl, inr, ⊎-elim}
+use mathlib.Core.{Path._≡_, Path.refl, Path.sym, Path.ap, Path.subst, Path._∙_, Bool.Bool, Bool.true, Bool.false}
+use mathlib.Core.{Bool.cond, List.List, List.[], List._∷_, List._++_, Logic.inl, Logic.inr, Logic.⊎-elim}
 use Prim.Native.Nat.{ℕ, zero, suc, _+_, _-_, _≤_, _<_}
 use native.Mathlib.Omega.{arith}
-use lib.Dec.{eqb}
-use lib.ListN.{length, take, drop, getD, length-drop, take-append-drop}
-use lib.Seq.{drop-cons, drop-drop}
+use lib.{Dec.eqb, ListN.length, ListN.take, ListN.drop, ListN.getD, ListN.length-drop, ListN.take-append-drop}
+use lib.{Seq.drop-cons, Seq.drop-drop}
 use borrow.Author.Tests.{eqb-true, eqb-false, eq-eqb}
-use Rattle.coupling_rules.specs.InnerSides.{In, Chain, Under, Over, Split, Below, From, leading}
-use Rattle.coupling_rules.proofs.Members.{in-append}
-use Rattle.coupling_rules.proofs.Sides.{run-over}
+use Rattle.coupling_rules.specs.InnerSides.{In, Chain, Over, Split, Below, From, leading}
+use Rattle.coupling_rules.proofs.{Members.in-append, Sides.run-over}
 
 pub chain-drop : (R : ℕ → ℕ → Type 0) (k : ℕ) (l : List ℕ) → Chain R l → Chain R (drop k l)
 chain-drop R zero l c = c

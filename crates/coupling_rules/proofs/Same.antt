@@ -1,20 +1,18 @@
 -- Gaps, moments and keys count only at the places that are met, and of the room only the first answers: what is equal
 -- there
 -- gives equal answers. Assumes nothing.
-use mathlib.Core.{Path._≡_, Path.refl, Path.sym, Path.ap, Path._∙_, Bool.Bool, Bool.cond, Bool.true, Bool.false}
-use mathlib.Core.{List.List, List.[], List._∷_, List._++_, Logic._⊎_, Logic.inl, Logic.inr, Logic.⊎-elim}
+use mathlib.Core.{Path._≡_, Path.refl, Path.sym, Path.ap, Path._∙_, List.List, List.[], List._∷_, List._++_}
+use mathlib.Core.{Logic._⊎_, Logic.inl, Logic.inr, Logic.⊎-elim}
 use Prim.Native.Nat.{ℕ, zero, suc, _≤_, _<_}
 use native.Mathlib.Omega.{arith}
-use lib.Dec.{eqb, ltb, leb}
-use lib.ListN.{length, getD, take, drop, set, replicate, length-set, length-replicate, take-append-drop}
-use lib.Seq.{ext-getD, getD-set-same, getD-set-other, set-append-left, length-take-le}
+use lib.{ListN.length, ListN.getD, ListN.take, ListN.drop, ListN.set, ListN.replicate, ListN.length-set}
+use lib.{ListN.length-replicate, ListN.take-append-drop, Seq.ext-getD, Seq.getD-set-same, Seq.getD-set-other}
+use lib.{Seq.set-append-left, Seq.length-take-le}
 use Rattle.sorting.specs.Sorted.{insert, sorted}
 use Rattle.room.specs.Room.{front}
 use Rattle.coupling_rules.specs.Rule.{closer, against, best, after, couple}
 use Rattle.coupling_rules.specs.InnerSides.{In}
-use Rattle.coupling_rules.proofs.Members.{is-or-not, after-in}
-use Rattle.coupling_rules.proofs.Best.{best-in}
-use Rattle.coupling_rules.proofs.Orders.{sorted-in}
+use Rattle.coupling_rules.proofs.{Members.is-or-not, Members.after-in, Best.best-in, Orders.sorted-in}
 
 -- Sorts
 

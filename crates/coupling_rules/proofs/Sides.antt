@@ -2,16 +2,14 @@
 -- the
 -- first of one of them. Assumes nothing.
 use mathlib.Core.{Path._≡_, Path.refl, Path.sym, Path.ap, Path._∙_, Bool.true, List.List, List.[], List._∷_}
-use mathlib.Core.{List._++_}
-use mathlib.Core.Logic.{_⊎_, inl, inr, ⊎-elim}
+use mathlib.Core.{List._++_, Logic._⊎_, Logic.inl, Logic.inr, Logic.⊎-elim}
 use Prim.Native.Nat.{ℕ, suc, _+_, _≤_, _<_}
 use native.Mathlib.Omega.{arith}
 use Rattle.coupling_rules.specs.InnerSides.{In, Chain, Under, Over, Split, Below, From, headGap}
 use Rattle.coupling_rules.specs.Rule.{closer, best, without}
-use Rattle.coupling_rules.proofs.Members.{lt-or-is, zero-or, in-append, in-left, in-right, without-in}
-use Rattle.coupling_rules.proofs.Members.{in-without}
-use Rattle.coupling_rules.proofs.Closer.{closer-gap, closer-time, closer-place}
-use Rattle.coupling_rules.proofs.Best.{best-is, best-none}
+use Rattle.coupling_rules.proofs.{Members.lt-or-is, Members.zero-or, Members.in-append, Members.in-left}
+use Rattle.coupling_rules.proofs.{Members.in-right, Members.without-in, Members.in-without, Closer.closer-gap}
+use Rattle.coupling_rules.proofs.{Closer.closer-time, Closer.closer-place, Best.best-is, Best.best-none}
 
 -- `rank` is the class and moment of a track as one number
 module _ (rank : ℕ → ℕ) where

@@ -1,8 +1,7 @@
 -- The turns go by date, then time, then place, as the order by moments does: day numbers rise with dates, and no second
 -- is
 -- outside its day. Assumes nothing.
-use mathlib.Core.{Path._≡_, Path.sym, Path.ap, Path._∙_, Bool.true, Logic._⊎_, Logic.inl, Logic.inr}
-use mathlib.Core.{Logic.⊎-elim}
+use mathlib.Core.{Path._≡_, Path.sym, Path.ap, Path._∙_, Logic._⊎_, Logic.inl, Logic.inr, Logic.⊎-elim}
 use Prim.Native.Nat.{ℕ, _+_, _*_, _≤_, _<_}
 use native.Mathlib.Omega.{arith}
 use lib.ListN.{getD}
@@ -14,8 +13,7 @@ use Rattle.coupling_rules.specs.Rule.{momentOf}
 use Rattle.coupling_rules.specs.InnerSides.{Over}
 use Rattle.coupling_rules.specs.Promises.{secondOf, Sooner}
 use Rattle.coupling_rules.specs.Promises.Sooner.{date, time, place}
-use Rattle.coupling_rules.proofs.Members.{three-ways}
-use Rattle.coupling_rules.proofs.Refusing.{Values, exist-at}
+use Rattle.coupling_rules.proofs.{Members.three-ways, Refusing.Values, Refusing.exist-at}
 
 pub moment-is : (f : Flights) (i : ℕ) → momentOf f i ≡ secondOf f i
 unfolding momentOf

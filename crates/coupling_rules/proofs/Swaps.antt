@@ -1,19 +1,14 @@
 -- Movements that have no track in common may go in either order, so a stable sort by such a key changes no answer:
 -- `sorted-couple`. Assumes nothing.
-use mathlib.Core.Path.{_≡_, refl, sym, ap, subst, _∙_}
-use mathlib.Core.Bool.{Bool, true, false, cond}
-use mathlib.Core.List.{List, [], _∷_}
-use mathlib.Core.Logic.{_⊎_, inl, inr, ⊎-elim}
+use mathlib.Core.{Path._≡_, Path.refl, Path.sym, Path.ap, Path._∙_, Bool.Bool, Bool.true, Bool.false, Bool.cond}
+use mathlib.Core.{List.List, List.[], List._∷_}
 use Prim.Native.Nat.{ℕ, zero, suc, _≤_, _<_}
 use native.Mathlib.Omega.{arith}
-use lib.Dec.{ltb}
-use lib.ListN.{set}
-use lib.Seq.{set-comm}
+use lib.{Dec.ltb, ListN.set, Seq.set-comm}
 use borrow.Author.Tests.{le-ltb, ltb-true}
 use Rattle.sorting.specs.Sorted.{insert, sorted}
 use Rattle.coupling_rules.specs.Rule.{best, against, goesWith, without, after, couple}
-use Rattle.coupling_rules.proofs.Members.{goes-true}
-use Rattle.coupling_rules.proofs.Best.{best-in}
+use Rattle.coupling_rules.proofs.{Members.goes-true, Best.best-in}
 
 -- taking two away, in either order
 without-cons : (j x : ℕ) (l : List ℕ) (b : Bool) → goesWith j x ≡ b

@@ -2,17 +2,16 @@
 -- what no
 -- movement before it took. Assumes nothing.
 use mathlib.Core.{Path._≡_, Path.refl, Path.sym, Path.ap, Path.subst, Path._∙_, List.List, List.[], List._∷_}
-use mathlib.Core.{List._++_, Logic._⊎_, Logic.inl, Logic.inr, Logic.⊎-elim}
+use mathlib.Core.{List._++_, Logic.inl, Logic.inr, Logic.⊎-elim}
 use Prim.Native.Nat.{ℕ, suc, _≤_, _<_}
 use native.Mathlib.Omega.{arith}
-use lib.ListN.{length, getD, set, length-set}
-use lib.Seq.{getD-set-same, getD-set-other}
+use lib.{ListN.length, ListN.getD, ListN.set, ListN.length-set, Seq.getD-set-same, Seq.getD-set-other}
 use Rattle.sorting.specs.Sorted.{sorted}
 use Rattle.coupling_rules.specs.Rule.{best, after, couple, places}
 use Rattle.coupling_rules.specs.InnerSides.{In, Over}
-use Rattle.coupling_rules.proofs.Members.{after-in, in-after}
-use Rattle.coupling_rules.proofs.Orders.{in-sorted, in-places, in-order}
-use Rattle.coupling_rules.proofs.Turns.{Once, once, Cut, cut, inside, stands, goes}
+use Rattle.coupling_rules.proofs.{Members.after-in, Members.in-after, Orders.in-sorted, Orders.in-places}
+use Rattle.coupling_rules.proofs.{Orders.in-order, Turns.Once, Turns.once, Turns.Cut, Turns.cut, Turns.inside}
+use Rattle.coupling_rules.proofs.{Turns.stands, Turns.goes}
 
 module _ (gaps : ℕ → ℕ → ℕ) (time : ℕ → ℕ) where
   untouched : (turns free answers : List ℕ) (k : ℕ) → (In k turns → ⊥)

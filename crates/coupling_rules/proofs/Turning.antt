@@ -1,17 +1,12 @@
 -- A whole turn, from what the first half hands on. Assumes nothing.
-use mathlib.Core.Path.{_≡_, refl, sym, ap, subst, _∙_}
-use mathlib.Core.Bool.{Bool, true, false, cond}
-use mathlib.Core.List.{List, [], _∷_}
-use mathlib.Core.Logic.{_⊎_, inl, inr, ⊎-elim}
-use Prim.Native.Nat.{ℕ, zero, suc, _+_, _≤_, _<_}
-use native.Mathlib.Omega.{arith}
-use native.Mathlib.Numerals.{add-one}
-use lib.Dec.{eqb, leb}
-use lib.ListN.{length, drop, getD, length-drop}
-use lib.Seq.{drop-cons}
+use mathlib.Core.{Path._≡_, Path.refl, Path.sym, Path.subst, Path._∙_, Bool.Bool, Bool.true, Bool.false, Bool.cond}
+use mathlib.Core.{List.List, List.[], List._∷_, Logic._⊎_, Logic.inl, Logic.inr, Logic.⊎-elim}
+use Prim.Native.Nat.{ℕ, suc, _+_, _≤_, _<_}
+use native.Mathlib.{Omega.arith, Numerals.add-one}
+use lib.{Dec.eqb, Dec.leb, ListN.length, ListN.drop, ListN.getD, ListN.length-drop, Seq.drop-cons}
 use borrow.Author.Tests.{eqb-true, eqb-false, leb-true, leb-false}
 use Rattle.coupling_rules.specs.Rule.{after}
-use Rattle.coupling_rules.specs.InnerSides.{In, Split, Below, From, headGap, nearer, Pulled, Turned}
+use Rattle.coupling_rules.specs.InnerSides.{headGap, nearer, Pulled, Turned}
 use Rattle.coupling_rules.proofs.Sides.{Gaps, neither, left-best, right-best, left-taken, right-taken}
 
 -- what `nearer` says

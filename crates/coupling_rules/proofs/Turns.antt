@@ -2,15 +2,15 @@
 -- each
 -- if it holds of those before holds of all: `by-turns`. Assumes nothing.
 use mathlib.Core.{Path._≡_, Path.refl, Path.sym, Path.ap, Path.subst, Path._∙_, List.List, List.[], List._∷_}
-use mathlib.Core.{List._++_, Logic._⊎_, Logic.inl, Logic.inr, Logic.⊎-elim}
+use mathlib.Core.{List._++_, Logic.inl, Logic.inr, Logic.⊎-elim}
 use Prim.Native.Nat.{ℕ, _<_}
 use native.Mathlib.Omega.{arith}
 use lib.Seq.{append-snoc}
 use Rattle.sorting.specs.Sorted.{sorted}
 use Rattle.coupling_rules.specs.Rule.{places}
 use Rattle.coupling_rules.specs.InnerSides.{In, Chain, Over}
-use Rattle.coupling_rules.proofs.Members.{in-append, in-left, in-right}
-use Rattle.coupling_rules.proofs.Orders.{sorted-in, in-sorted, places-in, in-places, in-order}
+use Rattle.coupling_rules.proofs.{Members.in-append, Members.in-left, Members.in-right, Orders.sorted-in}
+use Rattle.coupling_rules.proofs.{Orders.in-sorted, Orders.places-in, Orders.in-places, Orders.in-order}
 
 -- each is met once
 abbrev pub Once : List ℕ → Type 0

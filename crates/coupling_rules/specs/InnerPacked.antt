@@ -9,7 +9,7 @@ use lib.ListN.{getD}
 use Rattle.sorting.specs.Sorted.{keyOf, sorted}
 use Rattle.room.specs.Lent.{Lent}
 use denote.Ref.{RefT, now}
-use Rattle.coupling_rules.specs.Flights.{Flights, Movements, many}
+use Rattle.coupling_rules.specs.Flights.{Flights, many}
 use Rattle.coupling_rules.specs.Rule.{moment, distance, windowOf, takesNone, places}
 
 -- two numbers as one, the first the weightier

@@ -1,7 +1,7 @@
 -- Which track each movement takes: RULES, "Radar tracks" (source 003, annex A4, coupling steps 1 and 2). Movements and
 -- tracks go by their place from 0. Assumes nothing.
 use Prim.Native.Nat.{ℕ, zero, suc, _+_, _*_, _-_}
-use mathlib.Core.Bool.{Bool, true, false, cond, not, _&&_}
+use mathlib.Core.Bool.{Bool, cond, not, _&&_}
 use mathlib.Core.List.{List, [], _∷_}
 use lib.Dec.{eqb, ltb, leb}
 use lib.ListN.{getD, set, replicate}

@@ -1,5 +1,4 @@
 -- `coupling::couple` meets its contract: nothing is written before 18 and 14 are found not to hold. Assumes nothing.
-use mathlib.Core.Path.{_≡_}
 use lib.ListN.{length}
 use Rattle.coupling_rules.specs.Flights.{Flights, Movements, flightsNow, movementsNow}
 use Rattle.coupling_rules.specs.{Rule.tracksFor, Refusals.coupleRefusal}

@@ -3,11 +3,11 @@
 use mathlib.Core.{Path._≡_, Path.ap, Path._∙_, List.List}
 use Prim.Native.Nat.{ℕ, _-_, _≤_}
 use native.Mathlib.Omega.{arith}
-use lib.{ListN.length, ListN.take, ListN.drop, Seq.length-take-le}
+use lib.{ListN.length, Seq.length-take-le}
 use borrow.Rule.Slice.PartMut.{midOf}
 use Rattle.sorting.specs.Sorted.{sorted}
 use Rattle.coupling_rules.specs.Rule.{couple, places}
-use Rattle.coupling_rules.specs.InnerPacked.{Packed, packedNow, momentIn, gapsIn}
+use Rattle.coupling_rules.specs.InnerPacked.{packedNow, momentIn, gapsIn}
 use borrow.Author.Needs.{needs}
 use Rattle.coupling.proofs.core.assign.Statement.{statement}
 use Rattle.coupling.proofs.core.assign.Tie as tie

@@ -1,11 +1,11 @@
 -- `coupling::core::couple_columns` meets its contract: the packed columns give the rule's own answers. Assumes nothing.
 use mathlib.Core.Path.{_∙_}
-use Prim.Native.Nat.{ℕ, _≤_, _<_}
+use Prim.Native.Nat.{ℕ, _≤_}
 use native.Mathlib.Omega.{arith}
 use lib.ListN.{length, replicate, length-replicate}
 use Rattle.coupling_rules.specs.Flights.{Flights, Movements, flightsNow, movementsNow}
-use Rattle.coupling_rules.proofs.Refusing.{flights-shape, flights-values, movements-flights}
-use Rattle.coupling_rules.proofs.Packing.{Narrow, packed-tracks}
+use Rattle.coupling_rules.proofs.{Refusing.flights-shape, Refusing.flights-values, Refusing.movements-flights}
+use Rattle.coupling_rules.proofs.{Packing.Narrow, Packing.packed-tracks}
 use borrow.Author.Needs.{needs}
 use Rattle.coupling.proofs.core.couple_columns.Statement.{statement}
 use Rattle.coupling.proofs.core.couple_columns.Tie as tie

@@ -1,11 +1,10 @@
 -- `coupling::core::couple_tables` meets its contract: each column of the movements is its part of the table. Assumes
 -- nothing.
 use mathlib.Core.{Path._≡_, Path.sym, Path.ap, Path.subst, Path._∙_, Bool.true}
-use Prim.Native.Nat.{_≤_}
 use lib.ListN.{length, drop, length-take}
 use native.Mathlib.Omega.{arith}
 use Rattle.room.specs.Room.{front}
-use Rattle.coupling_rules.specs.Flights.{Movements, movementsNow, many}
+use Rattle.coupling_rules.specs.Flights.{Movements, movementsNow}
 use Rattle.coupling_rules.specs.{Rule.tracksFor, Refusals.movementsFit, Tables.flightsIn, Tables.movementsIn}
 use Rattle.coupling.proofs.Answering.{same-flights, same-movements}
 use borrow.Author.Needs.{needs}

@@ -1,12 +1,11 @@
 -- `coupling::fit::refusal` meets its contract: movements, tracks, and then the room. Assumes nothing.
 use mathlib.Core.Path.{sym, ap, _∙_}
 use lib.{Dec.leb, ListN.length}
-use borrow.Author.Tests.{le-leb, lt-leb}
+use borrow.Author.{Tests.le-leb, Tests.lt-leb, Needs.needs}
 use Rattle.refusal.proofs.Laws.{passed, failed}
 use Rattle.room.specs.Room.{thenRoom}
 use Rattle.coupling_rules.specs.Flights.{Flights, Movements, flightsNow, movementsNow}
 use Rattle.coupling.proofs.Answering.{movements-refused, tracks-refused, room-decides}
-use borrow.Author.Needs.{needs}
 use Rattle.coupling.proofs.fit.refusal.Statement.{statement}
 use Rattle.coupling.proofs.fit.refusal.Tie as tie
 

@@ -1,6 +1,6 @@
 -- `coupling::gap::is_before` meets its contract: the weightier numbers decide, and where they are equal the next.
 -- Assumes nothing.
-use mathlib.Core.{Path._≡_, Path.refl, Path.sym, Path.ap, Path._∙_, Bool.Bool}
+use mathlib.Core.Path.{_≡_}
 use native.Mathlib.Omega.{arith}
 use Rattle.coupling_rules.specs.InnerPacked.{ranked}
 use Rattle.coupling_rules.proofs.Gapped.{ranked-high, ranked-low}

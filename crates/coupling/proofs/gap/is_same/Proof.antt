@@ -1,5 +1,5 @@
 -- `coupling::gap::is_same` meets its contract: two are one exactly if all three numbers are. Assumes nothing.
-use mathlib.Core.Path.{_≡_, sym, ap}
+use mathlib.Core.Path.{sym}
 use native.Mathlib.Omega.{arith}
 use borrow.Author.Tests.{ne-eqb}
 use Rattle.coupling_rules.specs.InnerPacked.{ranked}

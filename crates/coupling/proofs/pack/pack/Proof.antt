@@ -1,5 +1,5 @@
 -- `coupling::pack::pack` meets its contract: columns of one length fill their packed ones. Assumes nothing.
-use mathlib.Core.Path.{_≡_, sym, subst, _∙_}
+use mathlib.Core.Path.{sym, _∙_}
 use native.Mathlib.Omega.{arith}
 use Rattle.coupling_rules.specs.Flights.{Flights, flightsNow}
 use Rattle.coupling_rules.proofs.Refusing.{Shape, flights-shape}

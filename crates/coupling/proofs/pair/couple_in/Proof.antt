@@ -1,7 +1,7 @@
 -- `coupling::pair::couple_in` meets its contract: both orders are by class and moment, and sorting the movements by
 -- class as well changes no answer. Assumes nothing.
 use mathlib.Core.{Path._≡_, Path.ap, Path._∙_, List.List}
-use Prim.Native.Nat.{ℕ, _≤_, _<_}
+use Prim.Native.Nat.{ℕ, _≤_}
 use native.Mathlib.Omega.{arith}
 use lib.ListN.{length}
 use Rattle.coupling_rules.specs.Rule.{couple, places}

@@ -1,7 +1,6 @@
 -- `coupling::pair::reach` meets its contract: aeroplanes and helicopters, circuits or not. Assumes nothing.
-use borrow.Author.Tests.{eq-eqb, ne-eqb}
+use borrow.Author.{Tests.eq-eqb, Tests.ne-eqb, Needs.needs}
 use Rattle.coupling_rules.specs.{Rule.takesNone, InnerPacked.reachOf}
-use borrow.Author.Needs.{needs}
 use Rattle.coupling.proofs.pair.reach.Statement.{statement}
 use Rattle.coupling.proofs.pair.reach.Tie as tie
 

@@ -1,18 +1,16 @@
 -- `coupling::turn::pull` meets its contract. The loop's invariant: whatever was free stands in the two lists as they
 -- are now, and nothing before the movement's rank was passed by. Assumes nothing.
-use mathlib.Core.{Path._≡_, Path.refl, Path.sym, Path.ap, Path.subst, Path._∙_, Bool.true, Bool.false, List.List}
-use mathlib.Core.List.{_++_}
+use mathlib.Core.{Path._≡_, Path.refl, Path.sym, Path.ap, Path.subst, Path._∙_, List.List, List._++_}
 use Prim.Native.Nat.{ℕ, _+_, _-_, _≤_, _<_}
 use native.Mathlib.Omega.{arith}
-use lib.{Dec.ltb, ListN.length, ListN.getD, ListN.take, ListN.drop, ListN.drop-of-length-le, Seq.drop-drop}
-use borrow.Author.Tests.{ltb-true, ltb-false}
+use lib.{ListN.length, ListN.getD, ListN.take, ListN.drop, ListN.drop-of-length-le, Seq.drop-drop}
+use borrow.Author.{Tests.ltb-true, Tests.ltb-false, Needs.needs}
 use Rattle.refusal.proofs.Laws.{passed, failed}
-use Rattle.coupling_rules.specs.InnerSides.{In, Chain, Over, leading, Split, Below, From, Pulled}
+use Rattle.coupling_rules.specs.InnerSides.{In, Chain, Over, leading, Split, Below}
 use Rattle.coupling_rules.specs.InnerPacked.{Packed, packedNow, rankIn}
 use Rattle.coupling_rules.proofs.Runs.{chain-drop, run-length, run-some, moved-split, moved-below, stop-from}
 use Rattle.coupling.specs.InnerTurn.{wantedRank}
 use Rattle.coupling.proofs.Running.{top-after}
-use borrow.Author.Needs.{needs}
 use Rattle.coupling.proofs.turn.pull.Statement.{statement}
 use Rattle.coupling.proofs.turn.pull.Tie as tie
 

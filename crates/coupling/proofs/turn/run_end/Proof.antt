@@ -1,15 +1,14 @@
 -- `coupling::turn::run_end` meets its contract. The loop's invariant: what was passed and what of the run is still to
 -- come make the whole run. Assumes nothing.
-use mathlib.Core.Path.{_≡_, refl, sym, _∙_}
-use Prim.Native.Nat.{ℕ, _+_, _-_, _≤_, _<_}
+use mathlib.Core.Path.{_≡_, refl}
+use Prim.Native.Nat.{_+_, _-_, _≤_}
 use native.Mathlib.Omega.{arith}
-use lib.{Dec.eqb, ListN.length, ListN.getD, ListN.drop}
-use borrow.Author.Tests.{eqb-true, eqb-false}
+use lib.ListN.{length, getD, drop}
+use borrow.Author.{Tests.eqb-true, Tests.eqb-false, Needs.needs}
 use Rattle.refusal.proofs.Laws.{passed, failed}
 use Rattle.coupling_rules.specs.InnerSides.{leading}
 use Rattle.coupling_rules.specs.InnerPacked.{Packed, packedNow, rankIn}
 use Rattle.coupling.proofs.Running.{leading-more, leading-stop, leading-end}
-use borrow.Author.Needs.{needs}
 use Rattle.coupling.proofs.turn.run_end.Statement.{statement}
 use Rattle.coupling.proofs.turn.run_end.Tie as tie
 

@@ -1,14 +1,13 @@
 -- `coupling::turn::turn` meets its contract: what stood before the movement is pulled over, so the best is the first of
 -- the nearer list, and none fits where neither first does. Assumes nothing.
 use mathlib.Core.{Path._≡_, List.List}
-use Prim.Native.Nat.{ℕ, _+_, _-_, _*_, _≤_, _<_}
+use Prim.Native.Nat.{ℕ, _-_, _*_, _<_}
 use native.Mathlib.Omega.{arith}
-use lib.ListN.{length, getD, drop}
+use lib.ListN.{length, drop}
 use Rattle.sorting.specs.Sorted.{keyOf}
 use Rattle.coupling_rules.specs.InnerSides.{Turned}
 use Rattle.coupling_rules.specs.InnerPacked.{Packed, packedNow, classIn, momentIn, rankIn}
-use Rattle.coupling_rules.proofs.{Sides.Gaps, Gapped.gaps}
-use Rattle.coupling_rules.proofs.Turning.{Chosen, chosen}
+use Rattle.coupling_rules.proofs.{Sides.Gaps, Gapped.gaps, Turning.Chosen, Turning.chosen}
 use Rattle.coupling.specs.InnerTurn.{wantedClass, wantedRank, gapFrom}
 use Rattle.coupling.proofs.Running.{left-room, more-room, right-room}
 use borrow.Author.Needs.{needs}
