@@ -6,7 +6,7 @@ use mathlib.Core.Logic.{_⊎_}
 use mathlib.Core.List.{List}
 use lib.ListN.{length, getD}
 use Rattle.date.specs.Calendar.{dayNumber}
-use Rattle.coupling_rules.specs.Flights.{Flights, Movements, many}
+use Rattle.coupling_rules.specs.Flights.{Flights, Movements}
 
 -- the second of flight i, over midnight by its date
 abbrev pub secondOf : Flights → ℕ → ℕ
@@ -52,31 +52,31 @@ pub data Rather (m t : Flights) (i j k : ℕ) : Type 0 where
 -- no movement before i has taken track j
 abbrev pub FreeFor : (m : Movements) (answer : List ℕ) (i j : ℕ) → Type 0
 FreeFor m answer i j =
-    (h : ℕ) → h < many (m .flights) → Sooner (m .flights) h i → getD answer h 0 ≡ suc j → ⊥
+    (h : ℕ) → h < length (m .flights .dates) → Sooner (m .flights) h i → getD answer h 0 ≡ suc j → ⊥
 
 -- movement i may take track j
 pub record MayTake (m : Movements) (t : Flights) (i j : ℕ) : Type 0 where
-  pub there : j < many t
+  pub there : j < length (t .dates)
   pub alike : Alike (m .flights) i t j
   pub window : InWindow (m .flights) i t j
 
 -- The answer to movements and tracks that are not refused
 pub record Coupled (m : Movements) (t : Flights) (answer : List ℕ) : Type 0 where
   -- one number a movement
-  pub each : length answer ≡ many (m .flights)
+  pub each : length answer ≡ length (m .flights .dates)
   -- no track is taken twice
-  pub once : (h i j : ℕ) → h < many (m .flights) → i < many (m .flights)
+  pub once : (h i j : ℕ) → h < length (m .flights .dates) → i < length (m .flights .dates)
       → getD answer h 0 ≡ suc j → getD answer i 0 ≡ suc j → h ≡ i
   -- a movement and its track agree and lie within the window, and the track was free at the movement's turn
-  pub agrees : (i j : ℕ) → i < many (m .flights) → getD answer i 0 ≡ suc j
+  pub agrees : (i j : ℕ) → i < length (m .flights .dates) → getD answer i 0 ≡ suc j
       → MayTake m t i j × FreeFor m answer i j
   -- no other track that was free then and may be taken goes before it
-  pub nearest : (i j k : ℕ) → i < many (m .flights) → getD answer i 0 ≡ suc j → (k ≡ j → ⊥)
+  pub nearest : (i j k : ℕ) → i < length (m .flights .dates) → getD answer i 0 ≡ suc j → (k ≡ j → ⊥)
       → MayTake m t i k → FreeFor m answer i k → Rather (m .flights) t i j k
   -- an aeroplane's circuit has none
-  pub circuit : (i : ℕ) → i < many (m .flights) → getD (m .flights .classes) i 0 ≡ 0
+  pub circuit : (i : ℕ) → i < length (m .flights .dates) → getD (m .flights .classes) i 0 ≡ 0
       → (getD (m .circuits) i 0 ≡ 0 → ⊥) → getD answer i 0 ≡ 0
   -- any other movement without a track, a helicopter's circuit too, found none free at its turn
-  pub none : (i k : ℕ) → i < many (m .flights) → getD answer i 0 ≡ 0
+  pub none : (i k : ℕ) → i < length (m .flights .dates) → getD answer i 0 ≡ 0
       → (getD (m .flights .classes) i 0 ≡ 1) ⊎ (getD (m .circuits) i 0 ≡ 0)
       → MayTake m t i k → FreeFor m answer i k → ⊥
