@@ -2,6 +2,7 @@
 use Prim.Native.Nat.{ℕ}
 use mathlib.Core.{Path._≡_, Path.refl, List.List}
 use native.Mathlib.Omega.{arith}
+use borrow.Author.Tests.{ne-eqb}
 use Rattle.text.specs.{Same.sameText}
 use Rattle.text.proofs.{Digits.either, Sames.same-equal, Sames.same-self}
 use Rattle.refusal.proofs.Laws.{refuse-none}
@@ -26,11 +27,17 @@ movements-on : (line : List ℕ) → line ≡ movementHeader → headerRefusal 9
 unfolding isHeader
 movements-on line e = rw (e, same-self movementHeader)
 
+no-other : (columns : ℕ) (line : List ℕ) → (columns ≡ 8 → ⊥) → (columns ≡ 9 → ⊥)
+    → headerRefusal columns line ≡ 16
+unfolding isHeader
+no-other columns line a b = rw (ne-eqb columns 8 a, ne-eqb columns 9 b)
+
 pub headers-are : HeadersAre
 headers-are = record {
   tracks = λ line. (tracks-only line, tracks-on line);
   movements = λ line. (movements-only line, movements-on line);
   other = λ columns line never. either (isHeader columns line) (λ yes. absurd (never (rw yes))) (λ no. rw no);
+  none = no-other;
 }
 
 pub names-are : NamesAre

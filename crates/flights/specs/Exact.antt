@@ -37,6 +37,9 @@ pub record HeadersAre : Type 0 where
       → headerRefusal 9 line ≡ 0 ↔ line ≡ bytes "id,date,time,class,kind,runway,airport,type,circuit"
   pub other : (columns : ℕ) (line : List ℕ) → (headerRefusal columns line ≡ 0 → ⊥)
       → headerRefusal columns line ≡ 16
+  -- of another number of columns there is none
+  pub none : (columns : ℕ) (line : List ℕ) → (columns ≡ 8 → ⊥) → (columns ≡ 9 → ⊥)
+      → headerRefusal columns line ≡ 16
 
 -- A name is read as its number, and two names of one number are one name
 pub record NamesAre : Type 0 where
