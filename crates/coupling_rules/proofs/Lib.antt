@@ -20,3 +20,4 @@ pub mod Sooner
 pub mod Fitting
 pub mod Promised
 pub mod Only
+pub mod Calling

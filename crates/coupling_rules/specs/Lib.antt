@@ -4,6 +4,7 @@ pub mod Rule
 pub mod Refusals
 pub mod Promises
 pub mod Reasons
+pub mod Call
 pub mod Tables
 pub mod InnerSides
 pub mod InnerPacked
