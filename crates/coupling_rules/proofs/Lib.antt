@@ -21,3 +21,4 @@ pub mod Fitting
 pub mod Promised
 pub mod Only
 pub mod Calling
+pub mod Tabled
