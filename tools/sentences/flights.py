@@ -87,7 +87,8 @@ def headers():
         "1" * 100 + ".."))
     couple("no movements", b"", "16,1", f"movements, line 1: the line is empty or missing, expected {COLUMNS} (16)\n")
     first = "tracks.csv, line 1: the file can't be opened in this folder, or its first line is empty, expected "
-    couple("no tracks.csv", HEADER + ROW, "16,1", f"{first}{TRACK_COLUMNS} (16)\n", None)
+    unread = "tracks.csv, line 1: the file can't be opened in this folder, or can't be read on (16)\n"
+    couple("no tracks.csv", HEADER + ROW, "16,1", unread, None)
     couple("empty tracks.csv", HEADER + ROW, "16,1", f"{first}{TRACK_COLUMNS} (16)\n", b"")
     folder = os.open("/", os.O_RDONLY)
     couple("read error", folder, "16,1", "movements, line 1: standard input can't be read on (16)\n")
