@@ -3,8 +3,8 @@ use mathlib.Core.Path.{refl}
 use Rattle.load_rules.specs.Factors.{scaledBy, sumTo, known, unknown, knownSum, unknownSum, generalFactor}
 use Rattle.load_rules.specs.Load.{scaledEnergy, scaledSum, totalOf}
 use Rattle.movement.specs.Group.{groupPeriod}
+use Rattle.text.specs.Sheet.{ended}
 use Rattle.text.specs.{Number.shown, Field.joinedBy}
-use Rattle.report_text.specs.Text.{ended}
 use Rattle.explain_text.specs.Text.{groupAmounts, allAmounts, factorText, groupLine, groupLines, pointLines}
 use Rattle.explain_rules.specs.Example.{ExampleHolds}
 

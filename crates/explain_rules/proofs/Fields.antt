@@ -6,12 +6,12 @@ use lib.{ListN.getD, Dec.eqb}
 use Rattle.movement.specs.declared.period.Period.{Period}
 use Rattle.movement.specs.declared.period.Period.the-variants.{Day, Evening, Night}
 use Rattle.movement.specs.Group.{groupPeriod}
+use Rattle.text.specs.Sheet.{line}
 use Rattle.text.specs.{Field.countOf, Field.fieldOf, Number.showNumber, Spelled.bytes, Letter.showLetter}
 use Rattle.text.proofs.{Digits.either, Fields.Free, Fields.count-append, Fields.join-field, Fields.join-count-all}
 use Rattle.text.proofs.Free.{byte-free, nil-free, shown-free}
 use Rattle.register.specs.Letter.{typeLetters, kindLetters}
-use Rattle.report_text.specs.Text.{line}
-use Rattle.report_rules.proofs.Printed.{atLeast, least-free, joined-free}
+use Rattle.text.proofs.Sheets.{atLeast, least-free, joined-free}
 use Rattle.explain_text.specs.declared.amounts.Amounts.{Amounts}
 use Rattle.explain_text.specs.Text.{periodText, factorText, amountFields, groupFields, allFields}
 

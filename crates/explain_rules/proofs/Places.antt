@@ -9,9 +9,9 @@ use lib.Dec.{eqb, ltb}
 use borrow.Author.Tests.{eqb-true, eqb-false, ltb-true, ltb-false}
 use Rattle.movement.specs.Limits.{groupCount}
 use Rattle.book_rules.specs.Columns.{Book}
+use Rattle.text.specs.Sheet.{line}
 use Rattle.text.specs.{Field.countOf, Index.many}
 use Rattle.text.proofs.{Digits.either, Fields.Free}
-use Rattle.report_text.specs.Text.{line}
 use Rattle.explain_text.specs.declared.amounts.Amounts.{Amounts}
 use Rattle.explain_text.specs.Text.{groupFields, allFields, stands, groupLine, groupLines}
 use Rattle.explain_text.specs.Text.{pointLines, linesAt, linesTo}

@@ -16,12 +16,14 @@ use Rattle.load_rules.specs.Account.{groupsOf, accountOf, accountAfter}
 use Rattle.load_rules.proofs.{SumLaws.sum-ext, ListLaws.list-computed, ListLaws.list-missing, ListLaws.list-energy}
 use Rattle.load_rules.proofs.HistoryLaws.{history-shares}
 use Rattle.load_rules.proofs.Accounts.{account-group, account-whole, accounts-each}
+use Rattle.text.specs.Sheet.{ended, line}
 use Rattle.text.specs.{Line.linesOf, Field.fieldOf, Index.many, Number.showNumber, Letter.showLetter}
 use Rattle.text.proofs.Fields.{Free}
 use Rattle.register.specs.declared.limits_csv.LimitsFile.{LimitsFile}
 use Rattle.register.specs.Letter.{typeLetters, kindLetters}
-use Rattle.report_text.specs.Text.{ended, line, bookRefusal, bookText}
-use Rattle.report_rules.proofs.{Printed.atLeast, Printed.least-free, Printed.lines-ended, WholeText.last-ended}
+use Rattle.report_text.specs.Text.{bookRefusal, bookText}
+use Rattle.text.proofs.Sheets.{atLeast, least-free, lines-ended}
+use Rattle.report_rules.proofs.WholeText.{last-ended}
 use Rattle.explain_text.specs.declared.amounts.Amounts.{Amounts}
 use Rattle.explain_text.specs.Text.{groupAmounts, allAmounts, periodText, factorText, groupFields, allFields, stands}
 use Rattle.explain_text.specs.Text.{linesAt, linesTo, headerLine, pointsText, explainText}

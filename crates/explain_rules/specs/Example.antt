@@ -7,8 +7,8 @@ use mathlib.Core.List.{List, _++_}
 use lib.Dec.{eqb}
 use Rattle.load_rules.specs.declared.Group.{Group}
 use Rattle.load_rules.specs.Tally.{groupWith}
+use Rattle.text.specs.Sheet.{ended}
 use Rattle.text.specs.Spelled.{bytes}
-use Rattle.report_text.specs.Text.{ended}
 use Rattle.explain_text.specs.Text.{groupAmounts, allAmounts, pointLines}
 
 -- V, U and S: group 0 is G, S, day, and group 17 is H, L, night

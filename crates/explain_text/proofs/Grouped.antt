@@ -4,9 +4,10 @@ use mathlib.Core.List.{List, [], _∷_, _++_, append-assoc}
 use Prim.Native.Nat.{ℕ, _+_}
 use native.Mathlib.Numerals.{add-one}
 use Rattle.movement.specs.{Limits.groupCount, Group.groupPeriod}
+use Rattle.text.specs.Sheet.{ended, comma, line}
+use Rattle.text.specs.Spelled.{crlf}
 use Rattle.text.specs.{Number.showNumber, Field.joinedBy, Spelled.bytes}
-use Rattle.report_text.specs.Text.{comma, lineEnd, ended, line}
-use Rattle.report_text.proofs.Lines.{ended-append}
+use Rattle.text.proofs.Sheets.{ended-append}
 use Rattle.explain_text.specs.declared.amounts.Amounts.{Amounts}
 use Rattle.explain_text.specs.Text.{typeText, kindText, periodText, amountFields, groupFields, allFields}
 use Rattle.explain_text.specs.Text.{stands, groupLine, groupLines, pointLines}
@@ -14,18 +15,18 @@ use Rattle.explain_text.specs.InnerRoom.{names, amountsText}
 
 -- five fields with their commas, and the end of their line
 five-is : (v u f s c : List ℕ)
-    → ((comma ∷ v) ++ (comma ∷ u)) ++ ((comma ∷ f) ++ (((comma ∷ s) ++ (comma ∷ c)) ++ lineEnd))
-    ≡ comma ∷ (line (v ∷ u ∷ f ∷ s ∷ c ∷ []) ++ lineEnd)
+    → ((comma ∷ v) ++ (comma ∷ u)) ++ ((comma ∷ f) ++ (((comma ∷ s) ++ (comma ∷ c)) ++ crlf))
+    ≡ comma ∷ (line (v ∷ u ∷ f ∷ s ∷ c ∷ []) ++ crlf)
 unfolding joinedBy
 five-is v u f s c =
     let four = f ++ (comma ∷ (s ++ (comma ∷ c))) in
-    let rest = comma ∷ (f ++ (comma ∷ ((s ++ (comma ∷ c)) ++ lineEnd))) in
+    let rest = comma ∷ (f ++ (comma ∷ ((s ++ (comma ∷ c)) ++ crlf))) in
     ap (λ (t : List ℕ). comma ∷ t)
     (append-assoc v (comma ∷ u) rest
     ∙ ap (λ (t : List ℕ). v ++ (comma ∷ t))
-    (sym (append-assoc u (comma ∷ four) lineEnd
-    ∙ ap (λ (t : List ℕ). u ++ (comma ∷ t)) (append-assoc f (comma ∷ (s ++ (comma ∷ c))) lineEnd)))
-    ∙ sym (append-assoc v (comma ∷ (u ++ (comma ∷ four))) lineEnd))
+    (sym (append-assoc u (comma ∷ four) crlf
+    ∙ ap (λ (t : List ℕ). u ++ (comma ∷ t)) (append-assoc f (comma ∷ (s ++ (comma ∷ c))) crlf)))
+    ∙ sym (append-assoc v (comma ∷ (u ++ (comma ∷ four))) crlf))
 
 -- four fields before a line
 four-is : (n t k d x e : List ℕ)
@@ -34,23 +35,23 @@ four-is : (n t k d x e : List ℕ)
 four-is n t k d x e = simp append-assoc
 
 pub group-is : (point g : ℕ) (a : Amounts)
-    → showNumber (point + 1) ++ (names g ++ amountsText a) ≡ line (groupFields point g a) ++ lineEnd
+    → showNumber (point + 1) ++ (names g ++ amountsText a) ≡ line (groupFields point g a) ++ crlf
 unfolding amountsText joinedBy
 group-is point g a =
     rw (five-is _ _ _ _ _)
     (four-is (showNumber (point + 1)) (typeText g) (kindText g) (periodText (groupPeriod g)) (line (amountFields a))
-    lineEnd)
+    crlf)
 
 pub all-is : (point : ℕ) (a : Amounts)
-    → showNumber (point + 1) ++ (bytes ",all,," ++ amountsText a) ≡ line (allFields point a) ++ lineEnd
+    → showNumber (point + 1) ++ (bytes ",all,," ++ amountsText a) ≡ line (allFields point a) ++ crlf
 unfolding amountsText joinedBy
 all-is point a =
     rw (five-is _ _ _ _ _)
-    (sym (append-assoc (showNumber (point + 1)) (bytes ",all,,," ++ line (amountFields a)) lineEnd))
+    (sym (append-assoc (showNumber (point + 1)) (bytes ",all,,," ++ line (amountFields a)) crlf))
 
 -- a group with a movement, and one without
 pub standing-is : (point g : ℕ) (a : Amounts) → stands a ≡ true
-    → line (groupFields point g a) ++ lineEnd ≡ ended (groupLine point g a)
+    → line (groupFields point g a) ++ crlf ≡ ended (groupLine point g a)
 unfolding groupLine ended
 standing-is point g a e = rw e refl
 
@@ -69,7 +70,7 @@ module _ (point : ℕ) (a : ℕ → Amounts) where
   unfolding groupLines
   groups-more g = rw (add-one g) (sym (ended-append (groupLines point a g) (groupLine point g (a g))))
 
-  pub point-is : (all : Amounts) → ended (groupLines point a groupCount) ++ (line (allFields point all) ++ lineEnd)
+  pub point-is : (all : Amounts) → ended (groupLines point a groupCount) ++ (line (allFields point all) ++ crlf)
       ≡ ended (pointLines point a all)
   unfolding pointLines ended
   point-is all = sym (ended-append (groupLines point a groupCount) (line (allFields point all) ∷ []))

@@ -6,10 +6,12 @@ use mathlib.Core.List.{List, _∷_, _++_}
 use Rattle.movement.specs.Group.{groupPeriod}
 use Rattle.book_rules.specs.Columns.{Book}
 use Rattle.room.specs.Room.{Wrote}
+use Rattle.text.specs.Sheet.{comma}
+use Rattle.text.specs.Spelled.{crlf}
 use Rattle.text.specs.Number.{showNumber}
 use Rattle.register.specs.declared.limits_csv.LimitsFile.{LimitsFile}
 use Rattle.report_text.specs.declared.core.Report.{Report}
-use Rattle.report_text.specs.Text.{comma, lineEnd, bookRefusal}
+use Rattle.report_text.specs.Text.{bookRefusal}
 use Rattle.explain_text.specs.declared.amounts.Amounts.{Amounts}
 use Rattle.explain_text.specs.Text.{typeText, kindText, periodText, factorText, explainText}
 
@@ -62,7 +64,7 @@ pair m n = (comma ∷ showNumber m) ++ (comma ∷ showNumber n)
 unfoldable pub amountsText : Amounts → List ℕ
 amountsText a =
     pair (a .computed) (a .missing)
-    ++ ((comma ∷ factorText (a .upper) (a .lower)) ++ (pair (a .energy) (a .counted) ++ lineEnd))
+    ++ ((comma ∷ factorText (a .upper) (a .lower)) ++ (pair (a .energy) (a .counted) ++ crlf))
 
 -- the whole text at the front of a buffer, and its refusal for the sentence that goes with it
 pub record Explained (l : LimitsFile) (b : Book) (old : List ℕ) (r : Report) (new : List ℕ) : Type 0 where

@@ -14,12 +14,13 @@ use Rattle.load_rules.specs.declared.Group.{Group}
 use Rattle.load_rules.specs.Factors.{Fraction, sumTo, groupFactor, generalFactor}
 use Rattle.load_rules.specs.Load.{countsOf, scaledEnergy, scaledSum, totalOf}
 use Rattle.load_rules.specs.Account.{groupsOf}
+use Rattle.text.specs.Sheet.{ended, line, refusedText}
 use Rattle.text.specs.Number.{showNumber}
 use Rattle.text.specs.Spelled.{bytes}
 use Rattle.text.specs.Letter.{showLetter}
 use Rattle.register.specs.Letter.{typeLetters, kindLetters}
 use Rattle.register.specs.declared.limits_csv.LimitsFile.{LimitsFile}
-use Rattle.report_text.specs.Text.{ended, line, refusedText, bookRefusal}
+use Rattle.report_text.specs.Text.{bookRefusal}
 use Rattle.explain_text.specs.declared.amounts.Amounts.{Amounts}
 
 -- Numbers of a line

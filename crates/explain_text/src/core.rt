@@ -4,8 +4,8 @@ use load::account::account_at;
 use load::load_at;
 use register::limits_csv::LimitsFile;
 use report_text::core::Report;
-use report_text::core::put_refused;
 use text::core::put_end;
+use text::core::put_refused;
 use text::core::put_text;
 ghost use mathlib.Core.Path.{_≡_};
 ghost use mathlib.Core.List.{_++_};
@@ -15,8 +15,10 @@ ghost use Rattle.movement.specs.Limits.{maxPoints};
 ghost use Rattle.book_rules.specs.Columns.{bookNow, bookBefore};
 ghost use Rattle.load_rules.specs.Load.{bookLoad};
 ghost use Rattle.room.specs.Room.{Wrote};
-ghost use Rattle.report_text.specs.Text.{lineEnd, ended, bookRefusal};
+ghost use Rattle.report_text.specs.Text.{bookRefusal};
 ghost use Rattle.report_text.specs.InnerRoom.{LimitsFit};
+ghost use Rattle.text.specs.Sheet.{ended};
+ghost use Rattle.text.specs.Spelled.{crlf};
 ghost use Rattle.text.specs.InnerWithin.{WroteWithin};
 ghost use Rattle.explain_text.specs.Text.{headerLine, linesAt, pointsText};
 ghost use Rattle.explain_text.specs.InnerRoom.{longestPoint, headerSize, longestText, Explained};
@@ -27,7 +29,7 @@ pub const LONGEST_TEXT: usize = 24_383;
 // The header.
 fn put_header(out: &mut [u8]) -> usize
     requires { ⌜ longestText ≤ length (now out) ⌝ }
-    ensures { λ r. ⌜ WroteWithin headerSize (now (out .entry)) 0 (headerLine ++ lineEnd) (now (out .exit)) r ⌝ }
+    ensures { λ r. ⌜ WroteWithin headerSize (now (out .entry)) 0 (headerLine ++ crlf) (now (out .exit)) r ⌝ }
 {
     let next = put_text(
         out,

@@ -15,8 +15,9 @@ ghost use Prim.Native.Nat.{_+_, _≤_, _<_};
 ghost use lib.ListN.{length};
 ghost use Rattle.movement.specs.Limits.{groupCount, maxPoints};
 ghost use Rattle.movement.specs.Group.{groupPeriod};
+ghost use Rattle.text.specs.Sheet.{ended, comma, line};
+ghost use Rattle.text.specs.Spelled.{crlf};
 ghost use Rattle.text.specs.Letter.{showLetter};
-ghost use Rattle.report_text.specs.Text.{comma, lineEnd, ended, line};
 ghost use Rattle.text.specs.InnerWithin.{WroteWithin};
 ghost use Rattle.explain_text.specs.Text.{periodText, factorText, groupFields, allFields, stands};
 ghost use Rattle.explain_text.specs.Text.{groupLine, groupLines, pointLines};
@@ -98,7 +99,7 @@ fn put_amounts(out: &mut [u8], at: usize, a: Amounts) -> usize
 // The line of a group.
 fn put_group(out: &mut [u8], at: usize, point: usize, g: usize, a: Amounts) -> usize
     requires { ⌜ (point < maxPoints) × (g < groupCount) × (at + longestLine ≤ length (now out)) ⌝ }
-    ensures { λ r. ⌜ WroteWithin longestLine (now (out .entry)) at (line (groupFields point g a) ++ lineEnd)
+    ensures { λ r. ⌜ WroteWithin longestLine (now (out .entry)) at (line (groupFields point g a) ++ crlf)
         (now (out .exit)) r ⌝ }
 {
     let number = put_any_number(out, at, (point + 1) as u64);
@@ -109,7 +110,7 @@ fn put_group(out: &mut [u8], at: usize, point: usize, g: usize, a: Amounts) -> u
 // The line `all`.
 fn put_all(out: &mut [u8], at: usize, point: usize, a: Amounts) -> usize
     requires { ⌜ (point < maxPoints) × (at + longestLine ≤ length (now out)) ⌝ }
-    ensures { λ r. ⌜ WroteWithin longestLine (now (out .entry)) at (line (allFields point a) ++ lineEnd)
+    ensures { λ r. ⌜ WroteWithin longestLine (now (out .entry)) at (line (allFields point a) ++ crlf)
         (now (out .exit)) r ⌝ }
 {
     let number = put_any_number(out, at, (point + 1) as u64);

@@ -10,8 +10,8 @@ use Rattle.book_rules.specs.{Columns.Book, History.emptyBook}
 use Rattle.register.specs.declared.limits_csv.LimitsFile.{LimitsFile}
 use Rattle.register.specs.LimitsFile.{limitsOf}
 use Rattle.report_steps.specs.Reading.{readingAt, registered}
-use Rattle.report_text.specs.{Text.refusedText, Text.bookText, InnerRoom.longestRefused}
-use Rattle.text.specs.InnerWithin.{WroteWithin}
+use Rattle.report_text.specs.Text.{bookText}
+use Rattle.text.specs.{Sheet.refusedText, InnerWithin.longestRefused, InnerWithin.WroteWithin}
 use Rattle.explain_text.specs.Text.{explainText}
 use Rattle.channel.specs.{System.none-came}
 use Rattle.channel.specs.System.Origin.{input}

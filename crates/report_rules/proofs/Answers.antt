@@ -4,6 +4,7 @@ use Prim.Native.Nat.{ℕ, _+_, _≤_}
 use native.Mathlib.Omega.{arith}
 use lib.{ListN.length, ListN.length-append, Seq.take-append-le}
 use borrow.Author.Tests.{ne-eqb, le-leb}
+use Rattle.text.specs.Sheet.{refusedText}
 use Rattle.movement.specs.Limits.{maxPoints}
 use Rattle.book_rules.specs.{Columns.sound, History.emptyBook, History.booked, History.sizesFit}
 use Rattle.book_rules.proofs.History.{history-sound}
@@ -11,7 +12,7 @@ use Rattle.register.specs.declared.limits_csv.LimitsFile.{LimitsFile}
 use Rattle.register.specs.LimitsFile.{limitsOf}
 use Rattle.register.proofs.LimitsFront.{limits-front}
 use Rattle.report_steps.specs.Reading.{Reading, registered}
-use Rattle.report_text.specs.Text.{refusedText, bookText}
+use Rattle.report_text.specs.Text.{bookText}
 use Rattle.report_rules.specs.Report.{bookRows, Telling, readingText, registerText, answerText, answerOf, reportOf}
 use Rattle.report_rules.specs.Report.{limitsRoom, Came, Opened, Answers}
 use Rattle.report_rules.specs.Report.Came.{whole, stopped, failed}

@@ -5,10 +5,11 @@ use Prim.Native.Nat.{ℕ, zero, suc, _+_, _≤_, _<_}
 use native.Mathlib.Omega.{arith}
 use lib.{ListN.length, ListN.getD, ListN.take, Dec.eqb}
 use borrow.Author.Tests.{eq-eqb, ne-eqb, eqb-true, eqb-false}
+use Rattle.text.specs.Sheet.{refusedText}
 use Rattle.text.specs.{Line.linesOf, Field.fieldOf, Number.showNumber, Spelled.bytes}
 use Rattle.text.specs.declared.number.Number.{Number}
 use Rattle.text.specs.declared.number.Number.the-variants.{Got, Off}
-use Rattle.text.proofs.{Digits.either, Fields.Free, Fields.join-field, Free.shown-free}
+use Rattle.text.proofs.{Digits.either, Sheets.refuses}
 use Rattle.book_rules.specs.{Columns.Book, Calls.refusal, Calls.after, History.emptyBook}
 use Rattle.register.specs.{Header.registerHeader, LimitsFile.limitsOf, Row.layoutOf}
 use Rattle.report_steps.specs.Intake.{takenNumber, entering, supplying, suppliedTaken, enteredTaken, layoutTaken}
@@ -16,56 +17,12 @@ use Rattle.report_steps.specs.Intake.{rowTaken}
 use Rattle.report_steps.specs.Reading.{Reading, opening, pointsRefusal, lineRefusal, lineRead, linesRead, closing}
 use Rattle.report_steps.specs.Reading.{headerPoints, registered}
 use Rattle.report_steps.proofs.Readings.{stuck, all-lines}
-use Rattle.report_text.specs.Text.{line, refusedText, bookRefusal, bookText}
+use Rattle.report_text.specs.Text.{bookRefusal, bookText}
 use Rattle.report_rules.specs.{Report.bookRows, Report.reportOf, Flights.bookIn}
-use Rattle.report_rules.specs.Refused.{Refuses, ReportRefused, FirstRefused, RegisterRefused, HeaderExactly}
+use Rattle.report_rules.specs.Refused.{ReportRefused, FirstRefused, RegisterRefused, HeaderExactly}
 use Rattle.report_rules.specs.Refused.{RowRefused}
 use Rattle.report_rules.proofs.Answers.{reading-refused, reading-reported, register-text, report-refused}
 use Rattle.report_rules.proofs.{Answers.report-accepted, Headers.header-is, Headers.is-header}
-use Rattle.report_rules.proofs.Printed.{lines-ended, spelled-free, joined-free}
-
--- The one line of a refusal
-
-refused-free : (d : ℕ) → d < 46 → (number n : ℕ)
-    → Free d (bytes "refused" ∷ showNumber number ∷ showNumber n ∷ [])
-refused-free d low number n zero h = spelled-free d low
-refused-free d low number n (suc zero) h = shown-free d low 20 number
-refused-free d low number n (suc (suc zero)) h = shown-free d low 20 n
-refused-free d low number n (suc (suc (suc i))) h = absurd (omega arith)
-
-refused-lines : (number n : ℕ)
-    → linesOf (refusedText number n) ≡ line (bytes "refused" ∷ showNumber number ∷ showNumber n ∷ []) ∷ []
-unfolding refusedText
-refused-lines number n = lines-ended (line (bytes "refused" ∷ showNumber number ∷ showNumber n ∷ []) ∷ []) free
-  where
-    free : Free 13 (line (bytes "refused" ∷ showNumber number ∷ showNumber n ∷ []) ∷ [])
-    free zero h =
-        joined-free 13 (bytes "refused" ∷ showNumber number ∷ showNumber n ∷ []) (λ e. absurd (omega arith))
-        (refused-free 13 (omega arith) number n)
-    free (suc i) h = absurd (omega arith)
-
-refuses : (text : List ℕ) (number n : ℕ) → text ≡ refusedText number n → Refuses text number n
-refuses text number n e =
-    record {
-      one = ap length lines;
-      word = field 0 (omega arith);
-      number= = field 1 (omega arith);
-      line= = field 2 (omega arith);
-    }
-  where
-    fields : List (List ℕ)
-    fields = bytes "refused" ∷ showNumber number ∷ showNumber n ∷ []
-
-    lines : linesOf text ≡ line (bytes "refused" ∷ showNumber number ∷ showNumber n ∷ []) ∷ []
-    lines = ap linesOf e ∙ refused-lines number n
-
-    field : (k : ℕ) → k < 3
-        → fieldOf 44 k (getD (linesOf text) 0 [])
-        ≡ getD (bytes "refused" ∷ showNumber number ∷ showNumber n ∷ []) k []
-    field k h =
-        ap (λ (ls : List (List ℕ)). fieldOf 44 k (getD ls 0 [])) lines
-        ∙ join-field 44 (bytes "refused" ∷ showNumber number ∷ showNumber n ∷ [])
-        (refused-free 44 (omega arith) number n) k h
 
 -- the book is refused
 book-refused : (limits register : List ℕ) → limitsOf limits .refusal ≡ 0

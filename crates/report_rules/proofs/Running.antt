@@ -1,10 +1,10 @@
 -- What a run comes to, taken from what the program keeps of it. Assumes nothing.
 use Prim.Native.Nat.{ℕ}
 use mathlib.Core.{Path._≡_, Path._∙_, Bool.Bool, List.List, List.[], List._++_}
+use Rattle.text.specs.Sheet.{refusedText}
 use Rattle.channel.specs.{Run.Run, Told.RunTold}
 use Rattle.channel.proofs.Running as running
 use Rattle.register.specs.LimitsFile.{limitsOf}
-use Rattle.report_text.specs.Text.{refusedText}
 use Rattle.report_rules.specs.Report.{Telling, answerOf, endless, Came, Heard, Answers, Written, MayWrite}
 use Rattle.report_rules.specs.Report.Came.{whole, stopped, failed}
 use Rattle.report_rules.specs.Told.{AnsweredBy, TextTold}

@@ -27,7 +27,8 @@ use Rattle.report_rules.specs.Flights.{rowsIn, flightsIn, howMany, compu
 use Rattle.report_rules.specs.Flights.{levelAt, ReportSays}
 use Rattle.report_rules.proofs.Answers.{reading-reported, register-text, report-accepted}
 use Rattle.report_rules.proofs.Flights.{all-stand}
-use Rattle.report_rules.proofs.Printed.{lines-ended, header-unbroken, field-at, line-unbroken, listing-at}
+use Rattle.text.proofs.Sheets.{lines-ended}
+use Rattle.report_rules.proofs.Printed.{header-unbroken, field-at, line-unbroken, listing-at}
 use Rattle.report_rules.proofs.Counting.{computed-printed, missing-printed, both}
 
 -- where nothing is refused, the text is the header and a line for each point

@@ -9,6 +9,7 @@ use borrow.Author.Tests.{leb-true}
 use Rattle.refusal.specs.Range.{allWithin}
 use Rattle.refusal.proofs.Laws.{and-left, and-right}
 use Rattle.movement.specs.Limits.{maxDays, maxLimit}
+use Rattle.text.specs.Sheet.{ended, line, refusedText}
 use Rattle.text.specs.{Line.linesOf, Field.countOf, Field.joinedBy, Index.listing, Number.shown, Number.showNumber}
 use Rattle.text.specs.Spelled.{bytes}
 use Rattle.text.specs.declared.number.Number.{Number}
@@ -26,7 +27,7 @@ use Rattle.register.specs.declared.limits_csv.LimitsFile.{LimitsFile}
 use Rattle.register.specs.LimitsFile.{judgedLimits, secondLimits, headedLimits, limitsOf}
 use Rattle.report_steps.specs.Booking.{registerCalls}
 use Rattle.report_steps.proofs.Bookings.{register-booked}
-use Rattle.report_text.specs.Text.{lineEnd, ended, line, headerLine, pointFields, pointLine, pointsText, refusedText}
+use Rattle.report_text.specs.Text.{headerLine, pointFields, pointLine, pointsText}
 use Rattle.report_text.specs.Text.{bookRefusal, bookText}
 use Rattle.report_rules.specs.Report.{bookRows, reportOf}
 use Rattle.report_rules.specs.Flights.{howMany, computed, bookIn, standingIn}
@@ -58,8 +59,8 @@ last-ended l [] = record { before = l; is = refl }
 last-ended l (m ∷ ls) =
     let r = last-ended m ls in
     record {
-      before = l ++ (lineEnd ++ r .before);
-      is = ap (λ (t : List ℕ). l ++ (lineEnd ++ t)) (r .is) ∙ sym (append-assoc l (lineEnd ++ r .before) crlf);
+      before = l ++ (crlf ++ r .before);
+      is = ap (λ (t : List ℕ). l ++ (crlf ++ t)) (r .is) ∙ sym (append-assoc l (crlf ++ r .before) crlf);
     }
 
 -- the days of limits.csv that is accepted

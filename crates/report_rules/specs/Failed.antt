@@ -5,10 +5,10 @@ use mathlib.Core.Path.{_≡_}
 use mathlib.Core.List.{List, [], _∷_, _++_}
 use lib.ListN.{length, getD, take}
 use Rattle.book_rules.specs.History.{emptyBook}
+use Rattle.text.specs.Sheet.{refusedText}
 use Rattle.text.specs.Line.{linesOf}
 use Rattle.register.specs.LimitsFile.{limitsOf}
 use Rattle.report_steps.specs.Reading.{Reading, opening, linesRead, lineRefusal}
-use Rattle.report_text.specs.Text.{refusedText}
 use Rattle.report_rules.specs.Report.{bookRows, endless}
 
 -- the line that a further byte would stand in

@@ -1,7 +1,6 @@
 -- When a report is refused, with which number and which line: RULES, "Files and the report program".
 -- Assumes nothing.
 use Prim.Native.Nat.{ℕ, _+_, _*_, _≤_, _<_}
-use Prim.Native.Char.{code}
 use mathlib.Core.Path.{_≡_}
 use mathlib.Core.Logic.{_↔_}
 use mathlib.Core.List.{List, []}
@@ -10,8 +9,7 @@ use Rattle.book_rules.specs.Columns.{Book}
 use Rattle.book_rules.specs.Calls.{refusal, after}
 use Rattle.book_rules.specs.History.{emptyBook}
 use Rattle.text.specs.Line.{linesOf}
-use Rattle.text.specs.Field.{fieldOf}
-use Rattle.text.specs.Number.{showNumber}
+use Rattle.text.specs.Sheet.{Refuses}
 use Rattle.text.specs.Spelled.{bytes}
 use Rattle.register.specs.LimitsFile.{limitsOf}
 use Rattle.register.specs.Row.{layoutOf}
@@ -20,13 +18,6 @@ use Rattle.report_steps.specs.Reading.{opening, linesRead, lineRefusal, registe
 use Rattle.report_text.specs.Text.{bookRefusal}
 use Rattle.report_rules.specs.Report.{bookRows, reportOf}
 use Rattle.report_rules.specs.Flights.{bookIn}
-
--- a text of one line and nothing else: refused,number,line
-pub record Refuses (text : List ℕ) (number line : ℕ) : Type 0 where
-  pub one : length (linesOf text) ≡ 1
-  pub word : fieldOf (code ",") 0 (getD (linesOf text) 0 []) ≡ bytes "refused"
-  pub number= : fieldOf (code ",") 1 (getD (linesOf text) 0 []) ≡ showNumber number
-  pub line= : fieldOf (code ",") 2 (getD (linesOf text) 0 []) ≡ showNumber line
 
 -- limits.csv first, then the register, then the whole book, which has line 0
 pub record ReportRefused (limits register : List ℕ) : Type 0 where

@@ -14,8 +14,9 @@ use Rattle.register.specs.declared.limits_csv.LimitsFile.{LimitsFile}
 use Rattle.register.specs.LimitsFile.{limitsOf}
 use Rattle.report_steps.specs.Stream.{longestLine}
 use Rattle.report_steps.specs.Reading.{Reading, registered}
+use Rattle.text.specs.Sheet.{refusedText}
 use Rattle.text.specs.Spelled.{bytes}
-use Rattle.report_text.specs.Text.{refusedText, bookText}
+use Rattle.report_text.specs.Text.{bookText}
 
 -- the report program's own book has 2,000 rows
 abbrev pub bookRows : ℕ

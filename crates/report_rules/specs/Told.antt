@@ -5,9 +5,9 @@ use mathlib.Core.List.{List, [], _++_}
 use Prim.Native.Nat.{ℕ}
 use Rattle.channel.specs.System.{First, Whole, Broken}
 use Rattle.channel.specs.System.Origin.{input, file}
+use Rattle.text.specs.Sheet.{refusedText}
 use Rattle.text.specs.Spelled.{bytes}
 use Rattle.register.specs.LimitsFile.{limitsOf}
-use Rattle.report_text.specs.Text.{refusedText}
 use Rattle.report_rules.specs.Report.{Telling, answerOf}
 use Rattle.report_rules.specs.Failed.{FailedTold}
 

@@ -7,11 +7,13 @@ use borrow.Author.Tests.{ne-eqb}
 use Rattle.book_rules.specs.Columns.{Book}
 use Rattle.load_rules.specs.declared.Load.{Load}
 use Rattle.load_rules.specs.Load.{bookLoad}
+use Rattle.text.specs.Sheet.{ended, line, refusedText}
+use Rattle.text.specs.Spelled.{crlf}
 use Rattle.text.specs.Index.{listing}
 use Rattle.room.specs.Room.{Wrote}
 use Rattle.room.proofs.Laws.{wrote-then, wrote-none}
 use Rattle.register.specs.declared.limits_csv.LimitsFile.{LimitsFile}
-use Rattle.report_text.specs.Text.{headerLine, lineEnd, ended, line, pointFields, pointLine, refusedText}
+use Rattle.report_text.specs.Text.{headerLine, pointFields, pointLine}
 use Rattle.report_text.specs.Text.{pointsText, bookRefusal}
 use Rattle.report_text.specs.InnerRoom.{longestPoint}
 use Rattle.text.specs.InnerWithin.{WroteWithin}
@@ -34,24 +36,24 @@ points-none {points} {days} {limits} {b} {s} {at} =
 -- one point more
 pub points-more : {points days n i j at : ℕ} {limits s mid e : List ℕ} {b : Book} {load : Load}
     → Passed points days limits b n s at mid i
-    → WroteWithin longestPoint mid i (line (pointFields n (getD limits n 0) load) ++ lineEnd) e j
+    → WroteWithin longestPoint mid i (line (pointFields n (getD limits n 0) load) ++ crlf) e j
     → load ≡ bookLoad points n b days → i + longestPoint ≤ length s
     → Passed points days limits b (n + 1) s at e j
 unfolding pointLine
 points-more {points} {days} {n} {i} {j} {at} {limits} {s} {mid} {e} {b} {load} w v q room =
     let f = pointLine (limitsWith points days limits) b in
-    let u : WroteWithin longestPoint mid i (f n ++ lineEnd) e j = rw q at v in
+    let u : WroteWithin longestPoint mid i (f n ++ crlf) e j = rw q at v in
     let lines = ended (listing f n) in
     record {
       wrote = rw (ended-more f n)
           at (wrote-then
-          (omega (arith, length-append lines (f n ++ lineEnd), w .wrote .place, u .wrote .place, u .within))
+          (omega (arith, length-append lines (f n ++ crlf), w .wrote .place, u .wrote .place, u .within))
           (w .wrote) (u .wrote));
     }
 
 -- the header and all points
 pub points-all : (l : LimitsFile) (b : Book) {s mid e : List ℕ} {i j n : ℕ}
-    → Wrote s 0 (headerLine ++ lineEnd) mid i
+    → Wrote s 0 (headerLine ++ crlf) mid i
     → Passed (l .points) (l .days) (l .limits) b n mid i e j → n ≡ l .points → j ≤ length s
     → Wrote s 0 (pointsText l b) e j
 unfolding pointsText pointLine

@@ -33,10 +33,6 @@ headerSize = 44
 abbrev pub longestReport : ℕ
 longestReport = 724
 
--- a refusal's one line: its word, two numbers with their commas, and the CRLF
-abbrev pub longestRefused : ℕ
-longestRefused = 51
-
 -- limits.csv that was accepted: 1 to 8 points, and limits that have a text
 pub record LimitsFit (l : LimitsFile) : Type 0 where
   pub some : 1 ≤ l .points

@@ -1,9 +1,7 @@
--- The report as text, from the limits and a book, and the one line of a refusal: RULES, "Files and the report program".
--- Assumes nothing.
+-- The report as text, from the limits and a book: RULES, "Files and the report program". Assumes nothing.
 use Prim.Native.Nat.{ℕ, _+_}
-use Prim.Native.Char.{code}
 use mathlib.Core.Bool.{cond}
-use mathlib.Core.List.{List, [], _∷_, _++_}
+use mathlib.Core.List.{List, [], _∷_}
 use lib.ListN.{getD}
 use lib.Dec.{eqb}
 use Rattle.level.specs.declared.Level.{Level}
@@ -15,26 +13,11 @@ use Rattle.book_rules.specs.Columns.{Book}
 use Rattle.load_rules.specs.declared.Load.{Load}
 use Rattle.load_rules.specs.Load.{bookLoad}
 use Rattle.text.specs.Number.{showNumber, showLevel}
-use Rattle.text.specs.Field.{joinedBy}
 use Rattle.text.specs.Index.{listing}
 use Rattle.text.specs.Spelled.{bytes}
+use Rattle.text.specs.Sheet.{ended, line, refusedText}
 use Rattle.register.specs.declared.limits_csv.LimitsFile.{LimitsFile}
 use Rattle.report_text.specs.Totals.{allComputed, allMissing}
-
--- lines end in CRLF
-abbrev pub lineEnd : List ℕ
-lineEnd = bytes "\r\n"
-
-unfoldable pub ended : List (List ℕ) → List ℕ
-ended [] = []
-ended (l ∷ ls) = l ++ (lineEnd ++ ended ls)
-
--- fields are parted by a comma
-abbrev pub comma : ℕ
-comma = code ","
-
-abbrev pub line : List (List ℕ) → List ℕ
-line fields = joinedBy comma fields
 
 -- the rounded level or `below`; `over` or `within`
 abbrev pub levelText : Level → List ℕ
@@ -61,10 +44,6 @@ pointLine l b point = line (pointFields point (getD (l .limits) point 0) (bookLo
 
 abbrev pub headerLine : List ℕ
 headerLine = bytes "point,level,limit,verdict,computed,missing"
-
--- a refusal: its one line, refused,number,line
-unfoldable pub refusedText : (number line : ℕ) → List ℕ
-refusedText number n = ended (line (bytes "refused" ∷ showNumber number ∷ showNumber n ∷ []) ∷ [])
 
 -- the header, and a line for each point
 unfoldable pub pointsText : LimitsFile → Book → List ℕ

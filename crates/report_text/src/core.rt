@@ -11,6 +11,7 @@ use text::core::put_any_number;
 use text::core::put_byte;
 use text::core::put_end;
 use text::core::put_field;
+use text::core::put_refused;
 use text::core::put_text;
 use text::core::put_word;
 ghost use mathlib.Core.Path.{_≡_};
@@ -21,12 +22,14 @@ ghost use Rattle.level.specs.Level.{levelValue, verdictOf};
 ghost use Rattle.movement.specs.Limits.{maxPoints};
 ghost use Rattle.book_rules.specs.Columns.{bookBefore};
 ghost use Rattle.room.specs.Room.{Wrote};
+ghost use Rattle.text.specs.Sheet.{comma, line};
+ghost use Rattle.text.specs.Spelled.{crlf};
 ghost use Rattle.text.specs.Number.{showNumber, showLevel};
 ghost use Rattle.report_text.specs.Totals.{allComputed, allMissing};
-ghost use Rattle.report_text.specs.Text.{comma, lineEnd, line, levelText, verdictText, pointFields};
-ghost use Rattle.report_text.specs.Text.{headerLine, refusedText, pointsText};
+ghost use Rattle.report_text.specs.Text.{levelText, verdictText, pointFields};
+ghost use Rattle.report_text.specs.Text.{headerLine, pointsText};
 ghost use Rattle.report_text.specs.InnerRoom.{longestWord, longestJudged, longestTotals};
-ghost use Rattle.report_text.specs.InnerRoom.{longestPoint, headerSize, longestReport, longestRefused};
+ghost use Rattle.report_text.specs.InnerRoom.{longestPoint, headerSize, longestReport};
 ghost use Rattle.report_text.specs.InnerRoom.{LimitsFit, Reported};
 ghost use Rattle.text.specs.InnerWithin.{WroteWithin};
 
@@ -34,18 +37,6 @@ ghost use Rattle.text.specs.InnerWithin.{WroteWithin};
 pub struct Report {
     pub size: usize,
     pub refused: u32,
-}
-
-// A refusal's one line.
-pub fn put_refused(out: &mut [u8], number: u32, line: u64) -> usize
-    requires { ⌜ longestReport ≤ length (now out) ⌝ }
-    ensures { λ r. ⌜ WroteWithin longestRefused (now (out .entry)) 0 (refusedText number line)
-        (now (out .exit)) r ⌝ }
-{
-    let word = put_text(out, 0, b"refused");
-    let first = put_field(out, word, number as u64);
-    let second = put_field(out, first, line);
-    put_end(out, second)
 }
 
 // A comma, and a level or `below`.
@@ -98,7 +89,7 @@ fn put_judged(out: &mut [u8], at: usize, level: Level, limit: u32) -> usize
 fn put_totals(out: &mut [u8], at: usize, counts: [Counts; 18]) -> usize
     requires { ⌜ at + longestTotals ≤ length (now out) ⌝ }
     ensures { λ r. ⌜ WroteWithin longestTotals (now (out .entry)) at
-        ((comma ∷ showNumber (allComputed counts)) ++ ((comma ∷ showNumber (allMissing counts)) ++ lineEnd))
+        ((comma ∷ showNumber (allComputed counts)) ++ ((comma ∷ showNumber (allMissing counts)) ++ crlf))
         (now (out .exit)) r ⌝ }
 {
     let totals = added_up(counts);
@@ -112,7 +103,7 @@ fn put_point(out: &mut [u8], at: usize, point: usize, load: Load, limit: u32) ->
     requires { ⌜ (point < maxPoints) × (levelValue (load .level) < 100000) × (limit < 100000)
         × (at + longestPoint ≤ length (now out)) ⌝ }
     ensures { λ r. ⌜ WroteWithin longestPoint (now (out .entry)) at
-        (line (pointFields point limit load) ++ lineEnd) (now (out .exit)) r ⌝ }
+        (line (pointFields point limit load) ++ crlf) (now (out .exit)) r ⌝ }
 {
     let counts = load.counts;
     let level = load.level;
@@ -124,7 +115,7 @@ fn put_point(out: &mut [u8], at: usize, point: usize, load: Load, limit: u32) ->
 // The header.
 fn put_header(out: &mut [u8]) -> usize
     requires { ⌜ longestReport ≤ length (now out) ⌝ }
-    ensures { λ r. ⌜ WroteWithin headerSize (now (out .entry)) 0 (headerLine ++ lineEnd) (now (out .exit)) r ⌝ }
+    ensures { λ r. ⌜ WroteWithin headerSize (now (out .entry)) 0 (headerLine ++ crlf) (now (out .exit)) r ⌝ }
 {
     let next = put_text(out, 0, b"point,level,limit,verdict,computed,missing");
     put_end(out, next)

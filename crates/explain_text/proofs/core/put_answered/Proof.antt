@@ -2,8 +2,8 @@
 -- text. Assumes nothing.
 use mathlib.Core.Path.{ap}
 use native.Mathlib.Omega.{arith}
+use Rattle.text.specs.Sheet.{ended}
 use Rattle.book_rules.specs.Columns.{Book, bookNow}
-use Rattle.report_text.specs.Text.{ended}
 use Rattle.text.proofs.Within.{within-is}
 use Rattle.explain_text.proofs.Told.{answer-only, account-long, book-lines, book-adds-up}
 use borrow.Author.Needs.{needs}

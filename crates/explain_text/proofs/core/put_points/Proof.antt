@@ -5,7 +5,8 @@ use Prim.Native.Nat.{_+_, _-_, _*_, _≤_, _<_}
 use native.Mathlib.Omega.{arith}
 use lib.ListN.{length}
 use Rattle.book_rules.specs.Columns.{Book, bookOf}
-use Rattle.report_text.specs.Text.{ended, bookRefusal}
+use Rattle.report_text.specs.Text.{bookRefusal}
+use Rattle.text.specs.Sheet.{ended}
 use Rattle.text.specs.InnerWithin.{WroteWithin}
 use Rattle.text.proofs.Within.{within-none, within-more, within-then, within-is}
 use Rattle.explain_text.specs.{Text.linesTo, InnerRoom.longestPoint}

@@ -5,7 +5,7 @@ use Prim.Native.Nat.{_+_, _-_, _*_, _≤_, _<_}
 use native.Mathlib.Omega.{arith}
 use lib.ListN.{length}
 use Rattle.movement.specs.Limits.{groupCount}
-use Rattle.report_text.specs.Text.{ended}
+use Rattle.text.specs.Sheet.{ended}
 use Rattle.text.specs.InnerWithin.{WroteWithin}
 use Rattle.text.proofs.Within.{within-none, within-more, within-then, within-is}
 use Rattle.explain_text.specs.{Text.groupLine, Text.groupLines, InnerRoom.longestLine, InnerNumbers.groupIn}
