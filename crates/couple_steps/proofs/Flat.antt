@@ -4,12 +4,11 @@ use Prim.Native.Nat.{ℕ, suc, _+_, _-_, _*_, _≤_, _<_}
 use mathlib.Core.{Path._≡_, Path.refl, Path.sym, Path.ap, Path.subst, Path._∙_, Bool.true, List.List, List.[], List._∷_}
 use native.Mathlib.Omega.{arith}
 use lib.{ListN.length, ListN.getD, Dec.eqb}
-use borrow.Author.Tests.{ne-eqb, eqb-true, eqb-false}
-use Rattle.channel.specs.System.{Origin}
+use borrow.Author.Tests.{eqb-true, eqb-false}
 use Rattle.channel.specs.System.Origin.{input}
 use Rattle.room.specs.Room.{front}
 use Rattle.room.proofs.Fronts.{front-at}
-use Rattle.text.specs.{Index.listing, Number.showNumber, Sheet.ended, Sheet.line, Spelled.bytes}
+use Rattle.text.specs.{Number.showNumber, Sheet.ended, Sheet.line, Spelled.bytes}
 use Rattle.text.proofs.{Digits.either, Indices.length-listing, Indices.listing-same}
 use Rattle.coupling_rules.specs.{Limits.maxFlights, Flights.Movements, Flights.Flights, Flights.many, Rule.tracksFor}
 use Rattle.coupling_rules.specs.Promises.{Coupled}

@@ -1,12 +1,12 @@
 -- The lines of the sheet, read back from its bytes: each has an id and a track, or nothing. Assumes nothing.
-use Prim.Native.Nat.{ℕ, zero, suc, _+_, _-_, _≤_, _<_}
+use Prim.Native.Nat.{ℕ, zero, suc, _+_, _-_, _<_}
 use mathlib.Core.{Path._≡_, Path.refl, Path.sym, Path.ap, Path._∙_}
 use mathlib.Core.List.{List, [], _∷_, _++_, append-assoc}
 use native.Mathlib.Omega.{arith}
-use lib.{ListN.length, ListN.getD, Dec.eqb}
+use lib.{ListN.getD, Dec.eqb}
 use borrow.Author.Tests.{ne-eqb}
 use Rattle.text.specs.{Line.linesOf, Field.countOf, Field.fieldOf, Number.showNumber, Index.listing, Spelled.bytes}
-use Rattle.text.specs.{Spelled.crlf, Sheet.ended, Sheet.line}
+use Rattle.text.specs.{Spelled.crlf, Sheet.ended}
 use Rattle.text.proofs.{Digits.either, Fields.Free, Fields.join-field, Fields.join-count, Free.shown-free, Free.nil-free}
 use Rattle.text.proofs.Indices.{length-listing, listing-at}
 use Rattle.text.proofs.Sheets.{lines-ended, atLeast, least-free, joined-free}

@@ -3,7 +3,7 @@ use Prim.Native.Nat.{ℕ, suc, _+_, _*_, _≤_, _<_}
 use mathlib.Core.{Path._≡_, Path.refl, Path.sym, Path.ap, Path.subst, Bool.Bool, Bool.true}
 use mathlib.Core.List.{List, [], _∷_, _++_}
 use native.Mathlib.Omega.{arith}
-use lib.{ListN.length, ListN.getD, ListN.drop, ListN.length-append, ListN.drop-of-length-le, Dec.eqb}
+use lib.{ListN.length, ListN.getD, ListN.length-append, ListN.drop-of-length-le, Dec.eqb}
 use Rattle.channel.specs.Due.{Due, Sends}
 use Rattle.channel.proofs.Dues.{due-whole, due-front, due-rest, Rest, rest-all, rest-next}
 use Rattle.text.specs.{Number.showNumber, Field.joinedBy, Index.listing, Spelled.crlf, Sheet.ended}

@@ -18,12 +18,11 @@ use Rattle.flights.specs.declared.Flight.{Flight}
 use Rattle.flights.proofs.{Exact.row-laid, Exact.laid-spells, Exact.row-exactly, Headers.headers-are}
 use Rattle.coupling_rules.specs.Limits.{maxFlights}
 use Rattle.stream.specs.Reading.{Reading, opening, linesRead, lineRead}
-use Rattle.stream.specs.Refused.{FirstRefused, TextAccepted}
+use Rattle.stream.specs.Refused.{FirstRefused}
 use Rattle.stream.proofs.Readings.{line-fine, whole-fine}
 use Rattle.stream.proofs.Firsts.{lines-fine, text-refused, text-accepted, fine-accepted}
 use Rattle.couple_steps.specs.Table.{Rows, numbersOf, lineRefusal, lineAfter, tableStep, tableOf}
 use Rattle.couple_steps.specs.Right.{trackHeading, movementHeading, rowsOf, Reads, Right, Passes, Fault, Refused}
-use Rattle.couple_steps.specs.Right.{RightTracks, RightMovements}
 
 -- a row on its layout is judged by its date
 dated : (values : List ℕ) (b : Bool) → dateExists (getD values 1 0) ≡ b → judgedFlight values .refusal ≡ cond b 0 18

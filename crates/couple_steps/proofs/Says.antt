@@ -1,20 +1,19 @@
 -- What the program writes, by its bytes: a line for each movement where both files are right, and else one refusal.
 -- Assumes nothing.
-use Prim.Native.Nat.{ℕ, suc, _+_, _≤_, _<_}
+use Prim.Native.Nat.{ℕ, suc, _+_, _<_}
 use mathlib.Core.{Path._≡_, Path.refl, Path.sym, Path.ap, Path._∙_, Logic._↔_}
 use mathlib.Core.List.{List, [], _∷_, _++_, append-assoc}
 use native.Mathlib.Omega.{arith}
 use lib.{ListN.length, ListN.getD, Dec.eqb}
 use borrow.Author.Tests.{ne-eqb, eqb-true, eqb-false}
-use Rattle.text.specs.{Line.linesOf, Field.fieldOf, Field.upTo, Field.joinedBy, Number.showNumber, Number.showWhole, Index.listing}
-use Rattle.text.specs.{Spelled.bytes, Sheet.ended, Sheet.refusedText, Sheet.Refuses}
+use Rattle.text.specs.{Line.linesOf, Field.fieldOf, Field.upTo, Field.joinedBy, Number.showNumber, Index.listing}
+use Rattle.text.specs.{Spelled.bytes, Sheet.ended, Sheet.refusedText}
 use Rattle.text.proofs.{Digits.either, Shown.whole-number, Indices.length-listing, Indices.listing-at, Sheets.refuses}
-use Rattle.coupling_rules.specs.Flights.{Flights, Movements, many}
-use Rattle.coupling_rules.specs.{Rule.tracksFor, Promises.Coupled}
+use Rattle.coupling_rules.specs.{Promises.Coupled}
 use Rattle.flights.specs.{Row.flightOf, Spelled.Spells, Spelled.column, Header.headerRefusal}
 use Rattle.couple_steps.specs.Table.{tableOf, columnOf, flightsOf, movementsOf}
 use Rattle.couple_steps.specs.Sheet.{answersOf, flightLine, coupledSheet, coupledText}
-use Rattle.couple_steps.specs.Right.{trackHeading, movementHeading, rowsOf, Right, RightTracks, RightMovements, Refused}
+use Rattle.couple_steps.specs.Right.{trackHeading, movementHeading, rowsOf, RightTracks, RightMovements}
 use Rattle.couple_steps.specs.Said.{LineSays, CoupledSays, RefusedBy, CoupledExactly}
 use Rattle.couple_steps.proofs.Rights.{accepted-right, right-accepted, file-refused, track-headed, movement-headed}
 use Rattle.couple_steps.proofs.Held.{held-long, held-many, value-held, spelled, tracks-spelled}

@@ -11,7 +11,7 @@ use Rattle.text.proofs.Digits.{either}
 use Rattle.stream.specs.declared.Turn.{Turn}
 use Rattle.stream.specs.Coming.{Coming, endless, Of}
 use Rattle.stream.specs.Coming.Coming.{whole, stopped, failed}
-use Rattle.stream.specs.Reading.{Step, Reading, readingAt, offAt, opening, closing, wholeRead, Onward, Longest}
+use Rattle.stream.specs.Reading.{Step, Reading, readingAt, offAt, closing, wholeRead, Onward, Longest}
 use Rattle.stream.specs.InnerFeeding.{stateReading, stateEnded, stateStopped, stateFailed, turnedTo, failedAt}
 use Rattle.stream.specs.InnerFeeding.{Waiting, Pieced, Lasted, Turned, Come, Done}
 use Rattle.stream.proofs.Readings.{closing-refused, stuck, onward-then, onward-more, onward-end}
