@@ -77,7 +77,8 @@ unfolding allExist
 exist-each [] h = refl
 exist-each (d ∷ ds) h = rw (h 0 (omega arith)) (exist-each ds (λ i l. h (suc i) (omega arith)))
 
-module _ (rows : Rows) (few : length rows ≤ maxFlights) (each : (i : ℕ) → i < length rows → RowFits (getD rows i [])) where
+module _ (rows : Rows) (few : length rows ≤ maxFlights)
+    (each : (i : ℕ) → i < length rows → RowFits (getD rows i [])) where
   same : (k : ℕ) → length (columnOf k rows) ≡ length (columnOf 1 rows)
   same k = column-long k rows ∙ sym (column-long 1 rows)
 

@@ -46,7 +46,8 @@ module _ {t : Turn} (flat : List ℕ) (w : ReadWhole tracksOrigin (tableStep 8) 
       omega (arith, most, ap length tracks-held, rows-long 8 flat (t .line - 2))
 
   tracks-row-fit : flightsFit (flightsOf (rowsIn 8 flat (t .line - 2))) ≡ true
-  tracks-row-fit = subst (λ (rows : Rows). flightsFit (flightsOf rows) ≡ true) tracks-held (tracks-fit (w .all) tracks-right)
+  tracks-row-fit =
+      subst (λ (rows : Rows). flightsFit (flightsOf rows) ≡ true) tracks-held (tracks-fit (w .all) tracks-right)
 
   pub tracks-ready : Roomy 8 flat → flightsFit (flightsIn flat (t .line - 2)) ≡ true
   tracks-ready room =
@@ -60,7 +61,8 @@ module _ {t : Turn} (flat : List ℕ) (w : ReadWhole input (tableStep 9) [] t (h
 
   moves-right : RightMovements (w .all)
   moves-right =
-      accepted-right 9 movementHeading movement-headed (w .all) (ap (λ (s : Reading Rows). s .refusal) (sym (w .is)) ∙ z)
+      accepted-right 9 movementHeading movement-headed (w .all)
+      (ap (λ (s : Reading Rows). s .refusal) (sym (w .is)) ∙ z)
 
   pub moves-few : t .line - 2 ≤ maxFlights
   moves-few =
@@ -68,7 +70,8 @@ module _ {t : Turn} (flat : List ℕ) (w : ReadWhole input (tableStep 9) [] t (h
       omega (arith, most, ap length moves-held, rows-long 9 flat (t .line - 2))
 
   moves-row-fit : movementsFit (movementsOf (rowsIn 9 flat (t .line - 2))) ≡ true
-  moves-row-fit = subst (λ (rows : Rows). movementsFit (movementsOf rows) ≡ true) moves-held (moves-fit (w .all) moves-right)
+  moves-row-fit =
+      subst (λ (rows : Rows). movementsFit (movementsOf rows) ≡ true) moves-held (moves-fit (w .all) moves-right)
 
   pub moves-ready : Roomy 9 flat → movementsFit (movementsIn flat (t .line - 2)) ≡ true
   moves-ready room =
@@ -95,7 +98,8 @@ track-same flat n answer most =
 
 module _ (ids numbers room : List ℕ) (m n : ℕ) (fits : Roomy 9 ids) (also : Roomy 8 numbers) (few : m ≤ maxFlights)
     (most : n ≤ maxFlights)
-    (coupled : Coupled (movementsIn ids m) (flightsIn numbers n) (tracksFor (movementsIn ids m) (flightsIn numbers n))) where
+    (coupled : Coupled (movementsIn ids m) (flightsIn numbers n)
+    (tracksFor (movementsIn ids m) (flightsIn numbers n))) where
   abbrev given : List ℕ
   given = tracksFor (movementsIn ids m) (flightsIn numbers n)
 

@@ -44,7 +44,13 @@ module _ (ids numbers answers : List ℕ) where
         let lines = listing f many in
         let each : (i : ℕ) → i < length lines → length (getD lines i []) ≤ 41 =
         λ i h. rw (listing-at f many i [] (omega (arith, length-listing f many))) (line-short i) in
-        omega (arith, ap length sheet-is, length-append headingText (ended lines), ended-most lines each, length-listing f many)
+        omega (
+          arith,
+          ap length sheet-is,
+          length-append headingText (ended lines),
+          ended-most lines each,
+          length-listing f many,
+        )
 
     sheet-due : Due (sheetText ids numbers answers many) 0 (headingText ++ linesFrom ids numbers answers many 0)
     sheet-due =

@@ -6,7 +6,8 @@ use Rattle.channel.specs.System.{Origin}
 use Rattle.channel.specs.System.Origin.{input}
 use Rattle.room.specs.Room.{front}
 use Rattle.text.specs.Sheet.{refusedText}
-use Rattle.coupling_rules.specs.{Limits.maxFlights, Flights.Movements, Flights.Flights, Rule.tracksFor, Promises.Coupled}
+use Rattle.coupling_rules.specs.{Limits.maxFlights, Flights.Movements, Flights.Flights, Rule.tracksFor}
+use Rattle.coupling_rules.specs.Promises.{Coupled}
 use Rattle.coupling_rules.specs.Refusals.{flightsFit, movementsFit, coupleRefusal}
 use Rattle.coupling_rules.specs.Tables.{flightsIn, movementsIn}
 use Rattle.coupling_rules.proofs.Promised as rules

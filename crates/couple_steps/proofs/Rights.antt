@@ -173,7 +173,8 @@ module _ (columns : ℕ) (heading : List ℕ) (headed : (line : List ℕ) → he
           let line = getD (linesOf file) (suc i) [] in
           let low : i < length (rowsOf file) = omega (arith, length-drop 1 (linesOf file)) in
           passes-line columns heading headed (suc i + 1) line
-          (Passes.row (omega arith) (omega (arith, length-drop 1 (linesOf file), r .few)) (rw (row-line i) at (r .each i low)))
+          (Passes.row (omega arith) (omega (arith, length-drop 1 (linesOf file), r .few))
+          (rw (row-line i) at (r .each i low)))
 
   -- the first line at fault
   pub first-fault : {number line : ℕ} → FirstRefused (tableStep columns) [] file number line → (number ≡ 0 → ⊥)
@@ -189,7 +190,8 @@ module _ (columns : ℕ) (heading : List ℕ) (headed : (line : List ℕ) → he
       let long = length-take-le (k .before) lines (omega (arith, k .reached)) in
       let e : 1 + i ≡ i + 1 = omega arith in
       let fine : lineRefusal columns (i + 1) (getD lines i []) ≡ 0 =
-      rw (e, getD-take (k .before) lines i [] h) at (lines-fine (tableStep columns) (opening []) cut (k .fine) i (omega (arith, long))) in
+      rw (e, getD-take (k .before) lines i [] h)
+      at (lines-fine (tableStep columns) (opening []) cut (k .fine) i (omega (arith, long))) in
       line-passes columns heading headed (i + 1) (getD lines i []) (omega arith) fine)
       is
 

@@ -86,7 +86,8 @@ module _ {A : Type 0} {step : Step A} {row : ℕ} where
           states = omega (arith, k .states);
         }
 
-  pub turn-last : {origin : Origin} {taken taken′ : ℕ} {s : Reading A} {bytes waited bytes′ : List ℕ} {t : Turn} {a′ : A}
+  pub turn-last : {origin : Origin} {taken taken′ : ℕ} {s : Reading A} {bytes waited bytes′ : List ℕ} {t : Turn}
+      {a′ : A}
       → Lasted step s bytes t a′ → bytes ≡ waited
       → ((old : List ℕ) → Came origin taken old → Whole origin old)
       → Turned origin step row s waited taken t a′ bytes′ taken′

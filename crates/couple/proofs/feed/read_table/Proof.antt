@@ -26,7 +26,8 @@ loop-holds : tie.Need-loop-holds Inv-loop μ-loop
 loop-holds c =
     let s : tie.Start Inv-loop μ-loop = search in
     let a = s .args in (
-      rw (s .pre .1 .0, listing-none (rowIn (a .columns) (a .table .now))) (come-none [] (a .bytes .now) (s .pre .1 .1 .1)),
+      rw (s .pre .1 .0, listing-none (rowIn (a .columns) (a .table .now)))
+          (come-none [] (a .bytes .now) (s .pre .1 .1 .1)),
       refl,
       refl,
     )
