@@ -1,6 +1,6 @@
 -- What is told of the text that a run of the program contours writes, said of the bytes that came and of its arguments,
 -- and of nothing between them. Assumes nothing.
-use Prim.Native.Nat.{ℕ, _+_, _≤_, _<_}
+use Prim.Native.Nat.{ℕ, _+_, _<_}
 use mathlib.Core.Path.{_≡_}
 use mathlib.Core.List.{List, []}
 use lib.ListN.{length, getD}

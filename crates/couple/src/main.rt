@@ -1,6 +1,6 @@
 // The program couple: tracks.csv of the current folder and the movements on standard input make a CSV on standard
-// output, `id,track`, with a line for each movement. A refusal is the one line `refused,number,line`, with a sentence on
-// standard error. It moves bytes; what it decides is decided in the libraries below.
+// output, `id,track`, with a line for each movement. A refusal is the one line `refused,number,line`, with a sentence
+// on standard error. It moves bytes; what it decides is decided in the libraries below.
 mod feed;
 mod print;
 mod say;

@@ -1,17 +1,14 @@
 -- Which text may be written once the two files are read: a refusal, or the sheet of the tables that hold them.
 -- Assumes nothing.
-use Prim.Native.Nat.{ℕ, suc, _+_, _-_, _≤_, _<_}
-use mathlib.Core.{Path._≡_, Path.refl, Path.sym, Path.ap, Path._∙_, List.List, List.[], List._∷_, List._++_}
-use native.Mathlib.Omega.{arith}
-use lib.ListN.{length, getD}
-use Rattle.channel.specs.{System.Origin, System.Whole}
+use Prim.Native.Nat.{ℕ, _-_}
+use mathlib.Core.{Path._≡_, Path.sym, Path.ap, Path._∙_, List.List, List.[]}
 use Rattle.channel.specs.System.Origin.{input}
-use Rattle.text.specs.Sheet.{ended, refusedText}
+use Rattle.text.specs.Sheet.{refusedText}
 use Rattle.stream.specs.declared.Turn.{Turn}
 use Rattle.stream.specs.Reading.{Reading}
-use Rattle.stream.specs.InnerFeeding.{turnedTo, ReadWhole, Done}
+use Rattle.stream.specs.InnerFeeding.{ReadWhole, Done}
 use Rattle.stream.proofs.Turns.{of-as}
-use Rattle.couple_steps.specs.Table.{Rows, tableStep, tableOf, columnOf, longestText}
+use Rattle.couple_steps.specs.Table.{Rows, tableStep, tableOf, longestText}
 use Rattle.couple_steps.specs.Sheet.{coupledSheet}
 use Rattle.couple_steps.specs.Written.{tracksOrigin, MayWrite}
 use Rattle.couple_steps.specs.Written.MayWrite.{tracks, both}

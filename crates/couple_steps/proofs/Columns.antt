@@ -2,7 +2,7 @@
 use Prim.Native.Nat.{ℕ, suc, _+_, _*_, _≤_, _<_}
 use mathlib.Core.{Path._≡_, Path.refl, Path.sym, Path.ap, Path._∙_, Bool.true, List.List, List.[], List._∷_}
 use native.Mathlib.Omega.{arith}
-use lib.ListN.{length, getD, take, drop, length-map, length-drop, List·getD-map}
+use lib.ListN.{length, getD, drop, length-map, length-drop, List·getD-map}
 use lib.Seq.{length-take-le, getD-take, getD-drop, ext-getD}
 use borrow.Author.Tests.{le-leb, eq-eqb}
 use Rattle.refusal.proofs.Ranges.{within-each}
@@ -77,7 +77,8 @@ unfolding allExist
 exist-each [] h = refl
 exist-each (d ∷ ds) h = rw (h 0 (omega arith)) (exist-each ds (λ i l. h (suc i) (omega arith)))
 
-module _ (rows : Rows) (few : length rows ≤ maxFlights) (each : (i : ℕ) → i < length rows → RowFits (getD rows i [])) where
+module _ (rows : Rows) (few : length rows ≤ maxFlights)
+    (each : (i : ℕ) → i < length rows → RowFits (getD rows i [])) where
   same : (k : ℕ) → length (columnOf k rows) ≡ length (columnOf 1 rows)
   same k = column-long k rows ∙ sym (column-long 1 rows)
 

@@ -4,12 +4,11 @@ use Prim.Native.Nat.{ℕ, suc, _+_, _-_, _*_, _≤_, _<_}
 use mathlib.Core.{Path._≡_, Path.refl, Path.sym, Path.ap, Path.subst, Path._∙_, Bool.true, List.List, List.[], List._∷_}
 use native.Mathlib.Omega.{arith}
 use lib.{ListN.length, ListN.getD, Dec.eqb}
-use borrow.Author.Tests.{ne-eqb, eqb-true, eqb-false}
-use Rattle.channel.specs.System.{Origin}
+use borrow.Author.Tests.{eqb-true, eqb-false}
 use Rattle.channel.specs.System.Origin.{input}
 use Rattle.room.specs.Room.{front}
 use Rattle.room.proofs.Fronts.{front-at}
-use Rattle.text.specs.{Index.listing, Number.showNumber, Sheet.ended, Sheet.line, Spelled.bytes}
+use Rattle.text.specs.{Number.showNumber, Sheet.ended, Sheet.line, Spelled.bytes}
 use Rattle.text.proofs.{Digits.either, Indices.length-listing, Indices.listing-same}
 use Rattle.coupling_rules.specs.{Limits.maxFlights, Flights.Movements, Flights.Flights, Flights.many, Rule.tracksFor}
 use Rattle.coupling_rules.specs.Promises.{Coupled}
@@ -47,7 +46,8 @@ module _ {t : Turn} (flat : List ℕ) (w : ReadWhole tracksOrigin (tableStep 8) 
       omega (arith, most, ap length tracks-held, rows-long 8 flat (t .line - 2))
 
   tracks-row-fit : flightsFit (flightsOf (rowsIn 8 flat (t .line - 2))) ≡ true
-  tracks-row-fit = subst (λ (rows : Rows). flightsFit (flightsOf rows) ≡ true) tracks-held (tracks-fit (w .all) tracks-right)
+  tracks-row-fit =
+      subst (λ (rows : Rows). flightsFit (flightsOf rows) ≡ true) tracks-held (tracks-fit (w .all) tracks-right)
 
   pub tracks-ready : Roomy 8 flat → flightsFit (flightsIn flat (t .line - 2)) ≡ true
   tracks-ready room =
@@ -61,7 +61,8 @@ module _ {t : Turn} (flat : List ℕ) (w : ReadWhole input (tableStep 9) [] t (h
 
   moves-right : RightMovements (w .all)
   moves-right =
-      accepted-right 9 movementHeading movement-headed (w .all) (ap (λ (s : Reading Rows). s .refusal) (sym (w .is)) ∙ z)
+      accepted-right 9 movementHeading movement-headed (w .all)
+      (ap (λ (s : Reading Rows). s .refusal) (sym (w .is)) ∙ z)
 
   pub moves-few : t .line - 2 ≤ maxFlights
   moves-few =
@@ -69,7 +70,8 @@ module _ {t : Turn} (flat : List ℕ) (w : ReadWhole input (tableStep 9) [] t (h
       omega (arith, most, ap length moves-held, rows-long 9 flat (t .line - 2))
 
   moves-row-fit : movementsFit (movementsOf (rowsIn 9 flat (t .line - 2))) ≡ true
-  moves-row-fit = subst (λ (rows : Rows). movementsFit (movementsOf rows) ≡ true) moves-held (moves-fit (w .all) moves-right)
+  moves-row-fit =
+      subst (λ (rows : Rows). movementsFit (movementsOf rows) ≡ true) moves-held (moves-fit (w .all) moves-right)
 
   pub moves-ready : Roomy 9 flat → movementsFit (movementsIn flat (t .line - 2)) ≡ true
   moves-ready room =
@@ -96,7 +98,8 @@ track-same flat n answer most =
 
 module _ (ids numbers room : List ℕ) (m n : ℕ) (fits : Roomy 9 ids) (also : Roomy 8 numbers) (few : m ≤ maxFlights)
     (most : n ≤ maxFlights)
-    (coupled : Coupled (movementsIn ids m) (flightsIn numbers n) (tracksFor (movementsIn ids m) (flightsIn numbers n))) where
+    (coupled : Coupled (movementsIn ids m) (flightsIn numbers n)
+    (tracksFor (movementsIn ids m) (flightsIn numbers n))) where
   abbrev given : List ℕ
   given = tracksFor (movementsIn ids m) (flightsIn numbers n)
 

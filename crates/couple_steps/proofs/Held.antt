@@ -4,11 +4,9 @@ use Prim.Native.Nat.{ℕ, zero, suc, _≤_, _<_}
 use mathlib.Core.{Path._≡_, Path.refl, Path.ap, Path._∙_, Bool.true, Logic._↔_, List.List, List.[], List._∷_, List.map}
 use native.Mathlib.Omega.{arith}
 use lib.ListN.{length, getD, length-map}
-use Rattle.text.specs.Line.{linesOf}
 use Rattle.text.proofs.Indices.{listing-at}
-use Rattle.date.specs.Calendar.{dateExists}
 use Rattle.flights.specs.{Row.flightOf, Header.headerRefusal, Spelled.Spells}
-use Rattle.flights.proofs.{Exact.row-exactly, Ranges.InRange, Ranges.flight-range}
+use Rattle.flights.proofs.{Exact.row-exactly, Ranges.flight-range}
 use Rattle.coupling_rules.specs.Refusals.{flightsFit, movementsFit}
 use Rattle.couple_steps.specs.Table.{Rows, numbersOf, tableOf, columnOf, flightsOf, movementsOf}
 use Rattle.couple_steps.specs.Right.{trackHeading, movementHeading, rowsOf, Right, RightTracks, RightMovements}

@@ -1,13 +1,14 @@
 -- The lines of the sheet, read back from its bytes: each has an id and a track, or nothing. Assumes nothing.
-use Prim.Native.Nat.{ℕ, zero, suc, _+_, _-_, _≤_, _<_}
+use Prim.Native.Nat.{ℕ, zero, suc, _+_, _-_, _<_}
 use mathlib.Core.{Path._≡_, Path.refl, Path.sym, Path.ap, Path._∙_}
 use mathlib.Core.List.{List, [], _∷_, _++_, append-assoc}
 use native.Mathlib.Omega.{arith}
-use lib.{ListN.length, ListN.getD, Dec.eqb}
+use lib.{ListN.getD, Dec.eqb}
 use borrow.Author.Tests.{ne-eqb}
 use Rattle.text.specs.{Line.linesOf, Field.countOf, Field.fieldOf, Number.showNumber, Index.listing, Spelled.bytes}
-use Rattle.text.specs.{Spelled.crlf, Sheet.ended, Sheet.line}
-use Rattle.text.proofs.{Digits.either, Fields.Free, Fields.join-field, Fields.join-count, Free.shown-free, Free.nil-free}
+use Rattle.text.specs.{Spelled.crlf, Sheet.ended}
+use Rattle.text.proofs.{Digits.either, Fields.Free, Fields.join-field, Fields.join-count}
+use Rattle.text.proofs.Free.{shown-free, nil-free}
 use Rattle.text.proofs.Indices.{length-listing, listing-at}
 use Rattle.text.proofs.Sheets.{lines-ended, atLeast, least-free, joined-free}
 use Rattle.couple_steps.specs.Sheet.{trackText, flightLine, sheetText}
@@ -28,7 +29,8 @@ closed-behind a b c =
 closed-lines : (l : List ℕ) (ls : List (List ℕ)) → Closed (ended (l ∷ ls))
 unfolding ended
 closed-lines l [] = record { before = l; last = refl }
-closed-lines l (m ∷ ls) = closed-behind l (crlf ++ ended (m ∷ ls)) (closed-behind crlf (ended (m ∷ ls)) (closed-lines m ls))
+closed-lines l (m ∷ ls) =
+    closed-behind l (crlf ++ ended (m ∷ ls)) (closed-behind crlf (ended (m ∷ ls)) (closed-lines m ls))
 
 module _ (ids numbers answers : List ℕ) where
   abbrev fields : ℕ → List (List ℕ)
@@ -53,7 +55,8 @@ module _ (ids numbers answers : List ℕ) where
 
   pub one-comma : (i : ℕ) → countOf 44 (flightLine ids numbers answers i) ≡ 1
   one-comma i =
-      join-count 44 (showNumber (getD ids i 0)) (trackText numbers (getD answers i 0) ∷ []) (fields-free 44 (omega arith) i)
+      join-count 44 (showNumber (getD ids i 0)) (trackText numbers (getD answers i 0) ∷ [])
+      (fields-free 44 (omega arith) i)
 
   -- the whole sheet
   sheet-free : (many : ℕ) → Free 13 (bytes "id,track" ∷ listing (flightLine ids numbers answers) many)

@@ -1,11 +1,11 @@
 -- No line on its layout is longer than the header of the movements. Assumes nothing.
 use Prim.Native.Nat.{ℕ, _<_}
-use mathlib.Core.{Path._≡_, Path.refl, Path.ap, Bool.false, Bool.and-false, List.List}
+use mathlib.Core.{Path._≡_, Path.refl, Bool.false, Bool.and-false, List.List}
 use native.Mathlib.Omega.{arith}
 use lib.{ListN.length, Dec.eqb}
-use Rattle.text.specs.{Line.bareLine, Same.sameText}
+use Rattle.text.specs.{Line.bareLine}
 use Rattle.text.proofs.{Digits.either, Lines.bare-most, Sames.same-length}
-use Rattle.flights.specs.{Row.flightOf, Header.isHeader, Header.trackHeader, Header.movementHeader}
+use Rattle.flights.specs.{Header.isHeader, Header.trackHeader, Header.movementHeader}
 use Rattle.flights.specs.Column.{trackColumns, movementColumns}
 use Rattle.flights.proofs.Longest.{long-row}
 use Rattle.stream.specs.Reading.{Longest}

@@ -3,7 +3,7 @@ use Prim.Native.Nat.{ℕ, suc, _+_, _*_, _≤_, _<_}
 use mathlib.Core.{Path._≡_, Path.refl, Path.sym, Path.ap, Path.subst, Bool.Bool, Bool.true}
 use mathlib.Core.List.{List, [], _∷_, _++_}
 use native.Mathlib.Omega.{arith}
-use lib.{ListN.length, ListN.getD, ListN.drop, ListN.length-append, ListN.drop-of-length-le, Dec.eqb}
+use lib.{ListN.length, ListN.getD, ListN.length-append, ListN.drop-of-length-le, Dec.eqb}
 use Rattle.channel.specs.Due.{Due, Sends}
 use Rattle.channel.proofs.Dues.{due-whole, due-front, due-rest, Rest, rest-all, rest-next}
 use Rattle.text.specs.{Number.showNumber, Field.joinedBy, Index.listing, Spelled.crlf, Sheet.ended}
@@ -44,7 +44,13 @@ module _ (ids numbers answers : List ℕ) where
         let lines = listing f many in
         let each : (i : ℕ) → i < length lines → length (getD lines i []) ≤ 41 =
         λ i h. rw (listing-at f many i [] (omega (arith, length-listing f many))) (line-short i) in
-        omega (arith, ap length sheet-is, length-append headingText (ended lines), ended-most lines each, length-listing f many)
+        omega (
+          arith,
+          ap length sheet-is,
+          length-append headingText (ended lines),
+          ended-most lines each,
+          length-listing f many,
+        )
 
     sheet-due : Due (sheetText ids numbers answers many) 0 (headingText ++ linesFrom ids numbers answers many 0)
     sheet-due =

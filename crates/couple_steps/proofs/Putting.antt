@@ -3,15 +3,15 @@ use Prim.Native.Nat.{ℕ, suc, _+_, _-_, _*_, _≤_, _<_}
 use mathlib.Core.{Path._≡_, Path.refl, Path.sym, Path.ap, Path._∙_}
 use mathlib.Core.List.{List, [], _∷_, _++_, append-assoc}
 use native.Mathlib.{Numerals.add-one, Omega.arith}
-use lib.{ListN.length, ListN.getD, ListN.take, ListN.drop, ListN.length-append, Seq.drop-cons}
+use lib.{ListN.length, ListN.getD, ListN.drop, ListN.length-append, Seq.drop-cons}
 use borrow.Author.Tests.{ne-eqb}
 use Rattle.room.specs.Room.{Wrote}
 use Rattle.room.proofs.Laws.{wrote-then, wrote-none, wrote-front, wrote-fits, length-wrote}
 use Rattle.text.specs.{Number.showNumber, Field.joinedBy, Index.listing, Spelled.crlf}
 use Rattle.text.specs.InnerWithin.{longestNumber, longestField, WroteWithin}
 use Rattle.text.specs.Sheet.{ended, comma, line}
-use Rattle.text.proofs.{Within.within, Within.within-three, Within.within-is, Indices.length-listing, Indices.listing-at}
-use Rattle.couple_steps.specs.declared.core.put.Part.{Part}
+use Rattle.text.proofs.{Within.within, Within.within-three, Within.within-is}
+use Rattle.text.proofs.Indices.{length-listing, listing-at}
 use Rattle.couple_steps.specs.Sheet.{trackText, flightLine}
 use Rattle.couple_steps.specs.InnerSheet.{longestFlight, linesFrom, PartPut}
 
@@ -102,7 +102,8 @@ module _ (ids numbers answers : List ℕ) (many : ℕ) where
         record {
           long = k .long;
           fits = at-within;
-          joined = k .joined ∙ ap (λ (t : List ℕ). t ++ linesFrom ids numbers answers many i) (sym (wrote-front (k .wrote)));
+          joined = k .joined
+              ∙ ap (λ (t : List ℕ). t ++ linesFrom ids numbers answers many i) (sym (wrote-front (k .wrote)));
           within = k .high;
           more = more;
         }

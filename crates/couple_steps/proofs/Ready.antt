@@ -1,13 +1,13 @@
 -- What the program knows once a table is read: it may be coupled, and what may then be written. Assumes nothing.
-use Prim.Native.Nat.{ℕ, _-_, _*_, _≤_}
+use Prim.Native.Nat.{ℕ, _-_, _≤_}
 use mathlib.Core.{Path._≡_, Path.refl, Path.sym, Path.ap, Path._∙_, Bool.true, List.List, List.[]}
 use native.Mathlib.Omega.{arith}
-use lib.ListN.{length}
 use Rattle.channel.specs.System.{Origin}
 use Rattle.channel.specs.System.Origin.{input}
 use Rattle.room.specs.Room.{front}
 use Rattle.text.specs.Sheet.{refusedText}
-use Rattle.coupling_rules.specs.{Limits.maxFlights, Flights.Movements, Flights.Flights, Rule.tracksFor, Promises.Coupled}
+use Rattle.coupling_rules.specs.{Limits.maxFlights, Flights.Movements, Flights.Flights, Rule.tracksFor}
+use Rattle.coupling_rules.specs.Promises.{Coupled}
 use Rattle.coupling_rules.specs.Refusals.{flightsFit, movementsFit, coupleRefusal}
 use Rattle.coupling_rules.specs.Tables.{flightsIn, movementsIn}
 use Rattle.coupling_rules.proofs.Promised as rules
@@ -15,7 +15,7 @@ use Rattle.stream.specs.declared.Turn.{Turn}
 use Rattle.stream.specs.Reading.{Reading}
 use Rattle.stream.specs.InnerFeeding.{ReadWhole, Done}
 use Rattle.stream.proofs.{Readings.whole-lines, Firsts.text-accepted}
-use Rattle.couple_steps.specs.Table.{Rows, tableStep, tableOf, longestText}
+use Rattle.couple_steps.specs.Table.{Rows, tableStep, longestText}
 use Rattle.couple_steps.specs.Sheet.{sheetText}
 use Rattle.couple_steps.specs.Written.{tracksOrigin, MayWrite}
 use Rattle.couple_steps.specs.InnerTable.{heldIn, Roomy, TableRead}

@@ -18,12 +18,11 @@ use Rattle.flights.specs.declared.Flight.{Flight}
 use Rattle.flights.proofs.{Exact.row-laid, Exact.laid-spells, Exact.row-exactly, Headers.headers-are}
 use Rattle.coupling_rules.specs.Limits.{maxFlights}
 use Rattle.stream.specs.Reading.{Reading, opening, linesRead, lineRead}
-use Rattle.stream.specs.Refused.{FirstRefused, TextAccepted}
+use Rattle.stream.specs.Refused.{FirstRefused}
 use Rattle.stream.proofs.Readings.{line-fine, whole-fine}
 use Rattle.stream.proofs.Firsts.{lines-fine, text-refused, text-accepted, fine-accepted}
 use Rattle.couple_steps.specs.Table.{Rows, numbersOf, lineRefusal, lineAfter, tableStep, tableOf}
 use Rattle.couple_steps.specs.Right.{trackHeading, movementHeading, rowsOf, Reads, Right, Passes, Fault, Refused}
-use Rattle.couple_steps.specs.Right.{RightTracks, RightMovements}
 
 -- a row on its layout is judged by its date
 dated : (values : List ℕ) (b : Bool) → dateExists (getD values 1 0) ≡ b → judgedFlight values .refusal ≡ cond b 0 18
@@ -174,7 +173,8 @@ module _ (columns : ℕ) (heading : List ℕ) (headed : (line : List ℕ) → he
           let line = getD (linesOf file) (suc i) [] in
           let low : i < length (rowsOf file) = omega (arith, length-drop 1 (linesOf file)) in
           passes-line columns heading headed (suc i + 1) line
-          (Passes.row (omega arith) (omega (arith, length-drop 1 (linesOf file), r .few)) (rw (row-line i) at (r .each i low)))
+          (Passes.row (omega arith) (omega (arith, length-drop 1 (linesOf file), r .few))
+          (rw (row-line i) at (r .each i low)))
 
   -- the first line at fault
   pub first-fault : {number line : ℕ} → FirstRefused (tableStep columns) [] file number line → (number ≡ 0 → ⊥)
@@ -190,7 +190,8 @@ module _ (columns : ℕ) (heading : List ℕ) (headed : (line : List ℕ) → he
       let long = length-take-le (k .before) lines (omega (arith, k .reached)) in
       let e : 1 + i ≡ i + 1 = omega arith in
       let fine : lineRefusal columns (i + 1) (getD lines i []) ≡ 0 =
-      rw (e, getD-take (k .before) lines i [] h) at (lines-fine (tableStep columns) (opening []) cut (k .fine) i (omega (arith, long))) in
+      rw (e, getD-take (k .before) lines i [] h)
+      at (lines-fine (tableStep columns) (opening []) cut (k .fine) i (omega (arith, long))) in
       line-passes columns heading headed (i + 1) (getD lines i []) (omega arith) fine)
       is
 

@@ -1,22 +1,22 @@
 -- What the program writes, by its bytes: a line for each movement where both files are right, and else one refusal.
 -- Assumes nothing.
-use Prim.Native.Nat.{ℕ, suc, _+_, _≤_, _<_}
+use Prim.Native.Nat.{ℕ, suc, _+_, _<_}
 use mathlib.Core.{Path._≡_, Path.refl, Path.sym, Path.ap, Path._∙_, Logic._↔_}
 use mathlib.Core.List.{List, [], _∷_, _++_, append-assoc}
 use native.Mathlib.Omega.{arith}
 use lib.{ListN.length, ListN.getD, Dec.eqb}
 use borrow.Author.Tests.{ne-eqb, eqb-true, eqb-false}
-use Rattle.text.specs.{Line.linesOf, Field.fieldOf, Field.upTo, Field.joinedBy, Number.showNumber, Number.showWhole, Index.listing}
-use Rattle.text.specs.{Spelled.bytes, Sheet.ended, Sheet.refusedText, Sheet.Refuses}
+use Rattle.text.specs.{Line.linesOf, Field.fieldOf, Field.upTo, Field.joinedBy, Number.showNumber, Index.listing}
+use Rattle.text.specs.{Spelled.bytes, Sheet.ended, Sheet.refusedText}
 use Rattle.text.proofs.{Digits.either, Shown.whole-number, Indices.length-listing, Indices.listing-at, Sheets.refuses}
-use Rattle.coupling_rules.specs.Flights.{Flights, Movements, many}
-use Rattle.coupling_rules.specs.{Rule.tracksFor, Promises.Coupled}
+use Rattle.coupling_rules.specs.{Promises.Coupled}
 use Rattle.flights.specs.{Row.flightOf, Spelled.Spells, Spelled.column, Header.headerRefusal}
 use Rattle.couple_steps.specs.Table.{tableOf, columnOf, flightsOf, movementsOf}
 use Rattle.couple_steps.specs.Sheet.{answersOf, flightLine, coupledSheet, coupledText}
-use Rattle.couple_steps.specs.Right.{trackHeading, movementHeading, rowsOf, Right, RightTracks, RightMovements, Refused}
+use Rattle.couple_steps.specs.Right.{trackHeading, movementHeading, rowsOf, RightTracks, RightMovements}
 use Rattle.couple_steps.specs.Said.{LineSays, CoupledSays, RefusedBy, CoupledExactly}
-use Rattle.couple_steps.proofs.Rights.{accepted-right, right-accepted, file-refused, track-headed, movement-headed}
+use Rattle.couple_steps.proofs.Rights.{accepted-right, right-accepted, file-refused}
+use Rattle.couple_steps.proofs.Rights.{track-headed, movement-headed}
 use Rattle.couple_steps.proofs.Held.{held-long, held-many, value-held, spelled, tracks-spelled}
 use Rattle.couple_steps.proofs.Held.{movements-spelled}
 use Rattle.couple_steps.proofs.Lines.{id-field, track-field, one-comma, sheet-lines, sheet-closed, track-blank}
@@ -76,7 +76,8 @@ module _ (tracks movements : List ℕ) (rt : RightTracks tracks) (rm : RightMove
   id-is i h =
       id-field ids numbers answers i
       ∙ ap showNumber (value-held 9 movementHeading movement-headed (omega arith) movements rm i 0 h (omega arith))
-      ∙ as-spelled 9 (getD (rowsOf movements) i []) (spelled 9 movementHeading movement-headed (omega arith) movements rm i h)
+      ∙ as-spelled 9 (getD (rowsOf movements) i [])
+      (spelled 9 movementHeading movement-headed (omega arith) movements rm i h)
 
   heading-is : getD (linesOf (coupledText tracks movements)) 0 [] ≡ bytes "id,track"
   heading-is = ap (λ (ls : List (List ℕ)). getD ls 0 []) lines-are
@@ -110,6 +111,7 @@ module _ (tracks movements : List ℕ) (rt : RightTracks tracks) (rm : RightMove
     says-so =
         let long = held-long 9 movementHeading movement-headed (omega arith) movements rm in
         let closed = sheet-closed ids numbers answers (length (tableOf 9 movements .held)) in
+        let listed = length-listing (flightLine ids numbers answers) (length (tableOf 9 movements .held)) in
         record {
           m = movementsOf (tableOf 9 movements .held);
           t = flightsOf (tableOf 8 tracks .held);
@@ -118,8 +120,7 @@ module _ (tracks movements : List ℕ) (rt : RightTracks tracks) (rm : RightMove
           of-tracks = tracks-spelled tracks rt;
           coupled = c;
           heading = heading-is;
-          lines = ap length lines-are
-              ∙ omega (arith, long, length-listing (flightLine ids numbers answers) (length (tableOf 9 movements .held)));
+          lines = ap length lines-are ∙ omega (arith, long, listed);
           each = line-says;
           before = closed .before;
           last = text-coupled tracks movements (right-accepted 8 trackHeading track-headed tracks rt)

@@ -1,6 +1,6 @@
 -- A table in one flat list: a row that is stored stands behind those before it. Assumes nothing.
 use Prim.Native.Nat.{ℕ, _+_, _*_, _≤_, _<_}
-use mathlib.Core.{Path._≡_, Path.refl, Path.ap, Path._∙_, List.List, List.[], List._∷_, List._++_}
+use mathlib.Core.{Path._≡_, Path.refl, Path._∙_, List.List, List.[], List._∷_, List._++_}
 use native.Mathlib.Omega.{arith}
 use lib.{ListN.length, ListN.getD, ListN.set, ListN.length-set, Seq.getD-set-same, Seq.getD-set-other, Dec.eqb}
 use borrow.Author.Tests.{eqb-true, eqb-false}

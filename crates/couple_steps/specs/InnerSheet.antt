@@ -23,7 +23,8 @@ abbrev pub linesFrom : (ids numbers answers : List ℕ) (many i : ℕ) → List 
 linesFrom ids numbers answers many i = ended (drop i (listing (flightLine ids numbers answers) many))
 
 -- a part: some lines at the front of the buffer, and those that are left
-pub record PartPut (ids numbers answers : List ℕ) (many from : ℕ) (out : List ℕ) (r : Part) (out′ : List ℕ) : Type 0 where
+pub record PartPut (ids numbers answers : List ℕ) (many from : ℕ) (out : List ℕ) (r : Part)
+    (out′ : List ℕ) : Type 0 where
   pub long : length out′ ≡ length out
   pub fits : r .size ≤ length out′
   pub joined : linesFrom ids numbers answers many from

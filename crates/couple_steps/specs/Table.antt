@@ -20,8 +20,8 @@ Rows = List (List ℕ)
 abbrev pub numbersOf : (columns : ℕ) (line : List ℕ) → List ℕ
 numbersOf columns line = listing (λ k. getD (flightOf columns line .values) k 0) columns
 
--- Line n of a file: the header, 16 otherwise; then rows, 16, then 18 for a date that doesn't exist or a row past 50,000,
--- which is the row of line 50,001
+-- Line n of a file: the header, 16 otherwise; then rows, 16, then 18 for a date that doesn't exist or a row past
+-- 50,000: row 50,000 stands in line 50,001
 unfoldable pub lineRefusal : (columns n : ℕ) (line : List ℕ) → ℕ
 lineRefusal columns n line =
     cond (eqb n 1)

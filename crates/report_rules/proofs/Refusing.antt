@@ -1,12 +1,12 @@
 -- A report is refused with the number and the line that the rules give. Assumes nothing.
 use Rattle.refusal.proofs.Laws.{nil-of}
 use mathlib.Core.{Path._≡_, Path.refl, Path.sym, Path.ap, Path._∙_, Bool.and-false, List.List, List.[], List._∷_}
-use Prim.Native.Nat.{ℕ, zero, suc, _+_, _≤_, _<_}
+use Prim.Native.Nat.{ℕ, suc, _+_, _≤_, _<_}
 use native.Mathlib.Omega.{arith}
 use lib.{ListN.length, ListN.getD, ListN.take, Dec.eqb}
 use borrow.Author.Tests.{eq-eqb, ne-eqb, eqb-true, eqb-false}
 use Rattle.text.specs.Sheet.{refusedText}
-use Rattle.text.specs.{Line.linesOf, Field.fieldOf, Number.showNumber, Spelled.bytes}
+use Rattle.text.specs.{Line.linesOf}
 use Rattle.text.specs.declared.number.Number.{Number}
 use Rattle.text.specs.declared.number.Number.the-variants.{Got, Off}
 use Rattle.text.proofs.{Digits.either, Sheets.refuses}

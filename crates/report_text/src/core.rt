@@ -14,7 +14,6 @@ use text::core::put_field;
 use text::core::put_refused;
 use text::core::put_text;
 use text::core::put_word;
-ghost use mathlib.Core.Path.{_≡_};
 ghost use mathlib.Core.List.{_∷_, _++_};
 ghost use Prim.Native.Nat.{_+_, _≤_, _<_};
 ghost use lib.ListN.{length};

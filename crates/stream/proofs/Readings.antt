@@ -68,7 +68,8 @@ module _ {A : Type 0} where
     -- No line is left out: where nothing is refused, as many lines are read as the text has
 
     -- one line, before others that are read without a refusal
-    pub line-fine : (s : Reading A) (l : List ℕ) (ls : List (List ℕ)) → linesRead step (lineRead step s l) ls .refusal ≡ 0
+    pub line-fine : (s : Reading A) (l : List ℕ) (ls : List (List ℕ))
+        → linesRead step (lineRead step s l) ls .refusal ≡ 0
         → (step .refusal (s .line) (s .held) l ≡ 0) × (lineRead step s l .line ≡ s .line + 1)
     unfolding lineRead
     line-fine s l ls z =

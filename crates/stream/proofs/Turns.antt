@@ -11,7 +11,7 @@ use Rattle.text.proofs.Digits.{either}
 use Rattle.stream.specs.declared.Turn.{Turn}
 use Rattle.stream.specs.Coming.{Coming, endless, Of}
 use Rattle.stream.specs.Coming.Coming.{whole, stopped, failed}
-use Rattle.stream.specs.Reading.{Step, Reading, readingAt, offAt, opening, closing, wholeRead, Onward, Longest}
+use Rattle.stream.specs.Reading.{Step, Reading, readingAt, offAt, closing, wholeRead, Onward, Longest}
 use Rattle.stream.specs.InnerFeeding.{stateReading, stateEnded, stateStopped, stateFailed, turnedTo, failedAt}
 use Rattle.stream.specs.InnerFeeding.{Waiting, Pieced, Lasted, Turned, Come, Done}
 use Rattle.stream.proofs.Readings.{closing-refused, stuck, onward-then, onward-more, onward-end}
@@ -86,7 +86,8 @@ module _ {A : Type 0} {step : Step A} {row : ℕ} where
           states = omega (arith, k .states);
         }
 
-  pub turn-last : {origin : Origin} {taken taken′ : ℕ} {s : Reading A} {bytes waited bytes′ : List ℕ} {t : Turn} {a′ : A}
+  pub turn-last : {origin : Origin} {taken taken′ : ℕ} {s : Reading A} {bytes waited bytes′ : List ℕ} {t : Turn}
+      {a′ : A}
       → Lasted step s bytes t a′ → bytes ≡ waited
       → ((old : List ℕ) → Came origin taken old → Whole origin old)
       → Turned origin step row s waited taken t a′ bytes′ taken′

@@ -19,8 +19,8 @@ pub struct Piece {
     pub refusal: u32,
 }
 
-// Where the reading of all stands: `left` bytes wait in front of the buffer for the end of line `line`, and `state` says
-// whether to read on. A line that is refused stands at `at`.
+// Where the reading of all stands: `left` bytes wait in front of the buffer for the end of line `line`, and `state`
+// says whether to read on. A line that is refused stands at `at`.
 pub struct Turn {
     pub at: usize,
     pub left: usize,

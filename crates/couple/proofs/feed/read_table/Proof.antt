@@ -1,5 +1,5 @@
 -- `couple::feed::read_table` meets its contract: all bytes that came, and where their reading stands. Assumes nothing.
-use mathlib.Core.Path.{_≡_, refl, _∙_}
+use mathlib.Core.Path.{_≡_, refl}
 use mathlib.Core.List.{[]}
 use Prim.Native.Nat.{_-_, _^_}
 use native.Mathlib.Omega.{arith}
@@ -13,8 +13,6 @@ use Rattle.couple_steps.specs.{Table.tableStep, Table.longestText, InnerTable.h
 use Rattle.couple_steps.proofs.{Longest.longest-table, Takes.roomy-as}
 use Rattle.couple.proofs.feed.read_table.Statement.{statement}
 use Rattle.couple.proofs.feed.read_table.Tie as tie
-use Rattle.couple.proofs.feed.read_table.Reads as reads
-use Rattle.couple.proofs.feed.read_table.Lts as lts
 
 abbrev Inv-loop : tie.InvT-loop
 Inv-loop opened name fd taken₀ table₀ columns bytes₀ left₀ line₀ taken table bytes left line =
@@ -28,7 +26,8 @@ loop-holds : tie.Need-loop-holds Inv-loop μ-loop
 loop-holds c =
     let s : tie.Start Inv-loop μ-loop = search in
     let a = s .args in (
-      rw (s .pre .1 .0, listing-none (rowIn (a .columns) (a .table .now))) (come-none [] (a .bytes .now) (s .pre .1 .1 .1)),
+      rw (s .pre .1 .0, listing-none (rowIn (a .columns) (a .table .now)))
+          (come-none [] (a .bytes .now) (s .pre .1 .1 .1)),
       refl,
       refl,
     )

@@ -20,5 +20,5 @@ write-requires c κs =
 pub refused-spec : {M : Type 1} → statement M
 refused-spec =
     tie.close (tie.spec (λ c. search needs) (λ c κs. search needs)
-    (λ c. let put : tie.After-put-refused = search in wrote-fits (put .put-refused .ensures .wrote)) slice-aggregate-write
-    write-requires (λ c. search needs))
+    (λ c. let put : tie.After-put-refused = search in wrote-fits (put .put-refused .ensures .wrote))
+    slice-aggregate-write write-requires (λ c. search needs))

@@ -88,7 +88,8 @@ returns-3 c =
     let s : tie.Start Inv-loop μ-loop = search in
     let l : tie.At-loop Inv-loop μ-loop = search in
     let a = s .args in
-    rest-none (l .loop .inv .3) (lines-none (now (a .ids)) (now (a .numbers)) (now (a .answers)) (a .many) (l .loop .i) (omega arith))
+    rest-none (l .loop .inv .3)
+    (lines-none (now (a .ids)) (now (a .numbers)) (now (a .answers)) (a .many) (l .loop .i) (omega arith))
 
 pub sheet-spec : {M : Type 1} → statement M
 sheet-spec =
@@ -97,4 +98,5 @@ sheet-spec =
     (λ c. let part : tie.After-put-lines Inv-loop μ-loop = search in
     sym (length-take-le _ _ (part .put-lines .ensures .fits))) written-requires-2 (λ c. search needs) returns-2
     (λ c. let part : tie.After-put-lines Inv-loop μ-loop = search in
-    omega (arith, part .put-lines .ensures .more, part .put-lines .ensures .within)) loop-again (λ c. search needs) returns-3)
+    omega (arith, part .put-lines .ensures .more, part .put-lines .ensures .within)) loop-again (λ c. search needs)
+    returns-3)

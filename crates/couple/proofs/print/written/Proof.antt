@@ -9,7 +9,8 @@ write-requires : tie.Need-write-requires
 write-requires c κs =
     let s : tie.Start = search in
     let a = s .args in
-    omega (arith, due-within (s .pre .1), sheet-short (a .ids .now) (a .numbers .now) (a .answers .now) (a .many), s .pre .0)
+    let short = sheet-short (a .ids .now) (a .numbers .now) (a .answers .now) (a .many) in
+    omega (arith, due-within (s .pre .1), short, s .pre .0)
 
 pub written-spec : {M : Type 1} → statement M
 written-spec =

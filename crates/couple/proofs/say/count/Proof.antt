@@ -5,8 +5,6 @@ use native.Mathlib.Omega.{arith}
 use borrow.Author.Needs.{needs}
 use Rattle.couple.proofs.say.count.Statement.{statement}
 use Rattle.couple.proofs.say.count.Tie as tie
-use Rattle.couple.proofs.say.count.Reads as reads
-use Rattle.couple.proofs.say.count.Lts as lts
 
 abbrev Inv-loop : tie.InvT-loop
 Inv-loop movements answers m with-track₀ circuits₀ none₀ i₀ with-track circuits none i =

@@ -10,7 +10,8 @@ header c =
     let test : tie.Then1 = search in
     let read : tie.After-header-refusal = search in
     let a = s .args in
-    header-taken (a .columns) (a .number) (a .table .now) (a .line .now) (test .if1 .taken) (read .header-refusal .ensures)
+    header-taken (a .columns) (a .number) (a .table .now) (a .line .now) (test .if1 .taken)
+    (read .header-refusal .ensures)
 
 refused : tie.Need-returns-2
 refused c =

@@ -20,7 +20,8 @@ abbrev μ-loop : tie.MeasureT-loop
 
 -- the next line lies within the bytes
 inside : (c : tie.At-loop Inv-loop μ-loop)
-    → let s : tie.Start Inv-loop μ-loop = search in (c .loop .at ≤ c .loop .end) × (c .loop .end ≤ length (s .args .bytes .now))
+    → let s : tie.Start Inv-loop μ-loop = search in
+    (c .loop .at ≤ c .loop .end) × (c .loop .end ≤ length (s .args .bytes .now))
 inside c = taking-inside (c .loop .inv .0)
 
 loop-holds : tie.Need-loop-holds Inv-loop μ-loop
