@@ -62,7 +62,7 @@ module _ (columns : ℕ) (heading : List ℕ) (headed : (line : List ℕ) → he
       let both = first-none (flightOf columns line .refusal) (refuse 18 (leb n (maxFlights + 1)) 0) e in
       (both .0, leb-true n (maxFlights + 1) (refuse-none 18 (leb n (maxFlights + 1)) 0 (omega arith) (both .1) .0))
 
-  first-header : n ≡ 1 → lineRefusal columns n line ≡ headerRefusal columns line
+  pub first-header : n ≡ 1 → lineRefusal columns n line ≡ headerRefusal columns line
   unfolding lineRefusal
   first-header one = rw (eq-eqb n 1 one) refl
 
@@ -82,12 +82,12 @@ module _ (columns : ℕ) (heading : List ℕ) (headed : (line : List ℕ) → he
       rw (ne-eqb n 1 more, reads-row columns line reads, le-leb n (maxFlights + 1) few) refl
 
   -- a row that is refused by itself, and one past 50,000
-  refused-row : (n ≡ 1 → ⊥) → (flightOf columns line .refusal ≡ 0 → ⊥)
+  pub refused-row : (n ≡ 1 → ⊥) → (flightOf columns line .refusal ≡ 0 → ⊥)
       → lineRefusal columns n line ≡ flightOf columns line .refusal
   unfolding lineRefusal
   refused-row more ne = rw (ne-eqb n 1 more, ne-eqb (flightOf columns line .refusal) 0 ne) refl
 
-  over-row : (n ≡ 1 → ⊥) → flightOf columns line .refusal ≡ 0 → maxFlights + 1 < n → lineRefusal columns n line ≡ 18
+  pub over-row : (n ≡ 1 → ⊥) → flightOf columns line .refusal ≡ 0 → maxFlights + 1 < n → lineRefusal columns n line ≡ 18
   unfolding lineRefusal
   over-row more z over = rw (ne-eqb n 1 more, z, lt-leb n (maxFlights + 1) over) refl
 

@@ -59,3 +59,9 @@ pub data Refused (columns : ℕ) (header file : List ℕ) (number line : ℕ) : 
   first : (before : ℕ) → before < length (linesOf file) → line ≡ before + 1
       → ((i : ℕ) → i < before → Passes columns header (i + 1) (getD (linesOf file) i []))
       → Fault columns header line (getD (linesOf file) before []) number → Refused columns header file number line
+
+-- A file is refused in one way, and one that is right in none
+pub record RefusedOnce (columns : ℕ) (header file : List ℕ) : Type 0 where
+  pub number= : (a b m n : ℕ) → Refused columns header file a m → Refused columns header file b n → a ≡ b
+  pub line= : (a b m n : ℕ) → Refused columns header file a m → Refused columns header file b n → m ≡ n
+  pub right : Right columns header file → (number line : ℕ) → Refused columns header file number line → ⊥
