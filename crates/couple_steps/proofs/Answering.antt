@@ -6,7 +6,7 @@ use Rattle.channel.specs.System.Origin.{input}
 use Rattle.text.specs.Sheet.{refusedText}
 use Rattle.stream.specs.declared.Turn.{Turn}
 use Rattle.stream.specs.Reading.{Reading}
-use Rattle.stream.specs.InnerFeeding.{ReadWhole, Done}
+use Rattle.stream.specs.Feeding.{ReadWhole, Done}
 use Rattle.stream.proofs.Turns.{of-as}
 use Rattle.couple_steps.specs.Table.{Rows, tableStep, tableOf, longestText}
 use Rattle.couple_steps.specs.Sheet.{coupledSheet}

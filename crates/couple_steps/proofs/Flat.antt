@@ -16,7 +16,7 @@ use Rattle.coupling_rules.specs.Refusals.{flightsFit, movementsFit}
 use Rattle.coupling_rules.specs.Tables.{flightsIn, movementsIn}
 use Rattle.stream.specs.declared.Turn.{Turn}
 use Rattle.stream.specs.Reading.{Reading}
-use Rattle.stream.specs.InnerFeeding.{ReadWhole}
+use Rattle.stream.specs.Feeding.{ReadWhole}
 use Rattle.couple_steps.specs.Table.{Rows, tableStep, tableOf, columnOf, flightsOf, movementsOf}
 use Rattle.couple_steps.specs.Sheet.{answersOf, trackText, flightLine, sheetText, coupledSheet}
 use Rattle.couple_steps.specs.Right.{trackHeading, movementHeading, RightTracks, RightMovements}

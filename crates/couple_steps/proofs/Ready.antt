@@ -13,7 +13,7 @@ use Rattle.coupling_rules.specs.Tables.{flightsIn, movementsIn}
 use Rattle.coupling_rules.proofs.Promised as rules
 use Rattle.stream.specs.declared.Turn.{Turn}
 use Rattle.stream.specs.Reading.{Reading}
-use Rattle.stream.specs.InnerFeeding.{ReadWhole, Done}
+use Rattle.stream.specs.Feeding.{ReadWhole, Done}
 use Rattle.stream.proofs.{Readings.whole-lines, Firsts.text-accepted}
 use Rattle.couple_steps.specs.Table.{Rows, tableStep, longestText}
 use Rattle.couple_steps.specs.Sheet.{sheetText}

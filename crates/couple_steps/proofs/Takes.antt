@@ -11,7 +11,7 @@ use Rattle.flights.specs.declared.Flight.{Flight}
 use Rattle.flights.specs.{Row.flightOf, Header.headerRefusal}
 use Rattle.channel.specs.{System.Origin, System.Broken, Input.Came}
 use Rattle.stream.specs.declared.Turn.{Turn}
-use Rattle.stream.specs.{InnerTaken.LineTaken, InnerFeeding.failedAt, InnerFeeding.Turned}
+use Rattle.stream.specs.{InnerTaken.LineTaken, Feeding.failedAt, Feeding.Turned}
 use Rattle.stream.proofs.Turns.{turn-failed}
 use Rattle.couple_steps.specs.Table.{Rows, lineRefusal, lineAfter, tableStep}
 use Rattle.couple_steps.specs.InnerTable.{rowsIn, heldIn, readingIn, nextLine, Roomy}

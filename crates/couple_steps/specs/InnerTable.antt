@@ -11,7 +11,7 @@ use Rattle.coupling_rules.specs.Limits.{maxFlights}
 use Rattle.channel.specs.System.{Origin}
 use Rattle.stream.specs.declared.Turn.{Turn}
 use Rattle.stream.specs.Reading.{Reading, readingAt}
-use Rattle.stream.specs.InnerFeeding.{Done}
+use Rattle.stream.specs.Feeding.{Done}
 use Rattle.couple_steps.specs.Table.{Rows, tableStep, longestText}
 
 -- row i, and the first n rows

@@ -1,4 +1,4 @@
 pub mod Opening
 pub mod Texts
-pub mod Turns
+pub mod Cleared
 pub mod Runs

@@ -1,26 +1,26 @@
 -- The texts of the program's steps, and which answer each is. Assumes nothing.
-use mathlib.Core.{Path._≡_, Path.sym, Path._∙_, List.List, List.[], List._++_}
+use mathlib.Core.{Path._≡_, Path.sym, Path._∙_, List.List, List.[]}
 use Prim.Native.Nat.{ℕ}
-use lib.{Dec.eqb, ListN.take}
-use borrow.Author.Tests.{ne-eqb, eqb-true, eqb-false}
+use lib.{ListN.take}
+use borrow.Author.Tests.{ne-eqb}
 use Rattle.room.specs.Room.{Wrote}
 use Rattle.room.proofs.Laws.{wrote-front, wrote-fits}
-use Rattle.text.proofs.Digits.{either}
 use Rattle.book_rules.specs.{Columns.Book, History.emptyBook}
 use Rattle.register.specs.declared.limits_csv.LimitsFile.{LimitsFile}
 use Rattle.register.specs.LimitsFile.{limitsOf}
-use Rattle.report_steps.specs.Reading.{readingAt, registered}
+use Rattle.stream.specs.declared.Turn.{Turn}
+use Rattle.stream.specs.{Reading.readingAt, Feeding.turnedTo, Feeding.Done}
+use Rattle.stream.specs.Coming.Coming.{stopped}
+use Rattle.stream.proofs.Turns.{of-as}
+use Rattle.report_steps.specs.{Stream.longestRow, Reading.registerStep}
 use Rattle.report_text.specs.Text.{bookText}
 use Rattle.text.specs.{Sheet.refusedText, InnerWithin.longestRefused, InnerWithin.WroteWithin}
 use Rattle.explain_text.specs.Text.{explainText}
 use Rattle.channel.specs.{System.none-came}
 use Rattle.channel.specs.System.Origin.{input}
-use Rattle.report_rules.specs.Report.{bookRows, Telling, registerText, endless, Opened}
-use Rattle.report_rules.specs.Report.Came.{whole, stopped, failed}
+use Rattle.report_rules.specs.Report.{bookRows, Telling, Opened}
 use Rattle.report_rules.proofs.Answers.{reading-refused, reading-reported, register-text, report-refused}
 use Rattle.report_rules.proofs.Answers.{answers-accepted}
-use Rattle.files.specs.declared.feed.Turn.{Turn}
-use Rattle.files.specs.Feeding.{stateEnded, stateStopped, turnedTo, Registered}
 use Rattle.files.specs.Kinds.{explain, tellingOf}
 use Rattle.files.specs.InnerSteps.{Sized, AnsweredIn, WrittenIn}
 
@@ -38,32 +38,18 @@ pub sized-report : (tell : Telling) (l : LimitsFile) (b : Book) {s e : List ℕ}
 sized-report tell l b {s} {e} {r} {size} n z w =
     record { fits = wrote-fits w; text = wrote-front w ∙ sym (reading-reported tell l (readingAt r n b) z) }
 
--- a register that was read to its end, and one that was not
-module _ (tell : Telling) (l : LimitsFile) {b₀ b : Book} {t : Turn} {out : List ℕ} {size : ℕ}
-    (k : Registered (l .points) b₀ t b)
-    (none : b₀ ≡ emptyBook (l .points) bookRows) (w : Sized tell l (turnedTo t b) out size) where
-  text-of : (register : List ℕ) → turnedTo t b ≡ registered (l .points) b₀ register
-      → take size out ≡ registerText tell l register
-  text-of register e = w .text ∙ register-text tell l register (turnedTo t b) (rw none at e)
-
-  pub answered-whole : t .state ≡ stateEnded → AnsweredIn tell l out size
-  answered-whole e = let q = k .ends e in
-      record { fits = w .fits; came = whole (k .all); heard = q .0; is = text-of (k .all) (q .1) }
-
-  pub answered-other : (t .state ≡ stateEnded → ⊥) → AnsweredIn tell l out size
-  answered-other ne =
-      either (eqb (t .state) stateStopped)
-      (λ yes. let e = eqb-true (t .state) stateStopped yes in
-      let q = k .stops e in
-      record {
-        fits = w .fits;
-        came = stopped (k .all);
-        heard = q .0;
-        is = λ rest. text-of (k .all ++ rest) (q .1 rest);
-      })
-      (λ no. let e = k .states ne (eqb-false (t .state) stateStopped no) in
-      let q = k .fails e in
-      record { fits = w .fits; came = failed (k .all); heard = q .0; is = text-of (k .all ++ endless) (q .1) })
+-- a register that was read, however its bytes came
+pub answered : (tell : Telling) (l : LimitsFile) {b₀ b : Book} {t : Turn} {out : List ℕ} {size : ℕ}
+    → Done input (registerStep (l .points)) longestRow b₀ t b → b₀ ≡ emptyBook (l .points) bookRows
+    → Sized tell l (turnedTo t b) out size → AnsweredIn tell l out size
+answered tell l {b₀} {b} {t} {out} {size} d none w =
+    record {
+      fits = w .fits;
+      came = d .came;
+      heard = d .heard;
+      is = of-as longestRow (d .came)
+          (λ register e. w .text ∙ register-text tell l register (turnedTo t b) (rw none at e)) (d .is);
+    }
 
 -- limits.csv refused, and accepted
 pub limits-refused : (tell : Telling) (limits : List ℕ) → Opened limits

@@ -7,9 +7,11 @@ use lib.ListN.{length, take}
 use Rattle.room.specs.Room.{Wrote}
 use Rattle.book_rules.specs.Columns.{Book}
 use Rattle.register.specs.declared.limits_csv.LimitsFile.{LimitsFile}
+use Rattle.channel.specs.System.Origin.{input}
+use Rattle.stream.specs.Coming.{Coming, Heard}
 use Rattle.report_steps.specs.Reading.{Reading}
 use Rattle.report_text.specs.declared.core.Report.{Report}
-use Rattle.report_rules.specs.Report.{Telling, readingText, registerText, Came, Heard, Answers, Written}
+use Rattle.report_rules.specs.Report.{Telling, readingText, registerText, Answers, Written}
 
 -- the first bytes of a buffer are the answer to a register that was read
 pub record Sized (tell : Telling) (l : LimitsFile) (s : Reading) (out : List ℕ) (size : ℕ) : Type 0 where
@@ -19,8 +21,8 @@ pub record Sized (tell : Telling) (l : LimitsFile) (s : Reading) (out : List ℕ
 -- the answer to a register, where limits.csv is accepted
 pub record AnsweredIn (tell : Telling) (l : LimitsFile) (out : List ℕ) (size : ℕ) : Type 0 where
   pub fits : size ≤ length out
-  pub came : Came
-  pub heard : Heard came
+  pub came : Coming
+  pub heard : Heard input came
   pub is : Answers (registerText tell l) came (take size out)
 
 -- the answer to limits.csv and the register

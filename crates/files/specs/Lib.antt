@@ -1,4 +1,2 @@
-pub mod Feeding
-pub mod InnerFeeding
 pub mod InnerSteps
 pub mod Kinds

@@ -1,8 +1,6 @@
 // The answer to limits.csv and a register: the text that a program writes. For a person, a refusal also gets a sentence
 // on standard error, and so do rows that an answer passed over.
 use crate::feed;
-use crate::feed::ENDED;
-use crate::feed::Turn;
 use crate::sentences;
 use channel::whole::FAILED;
 use channel::whole::read_file;
@@ -11,6 +9,7 @@ use movement::limits::MAX_POINTS;
 use register::limits_csv::LimitsFile;
 use report_text::core::Report;
 use report_text::core::put_report;
+use stream::Turn;
 use text::core::put_refused;
 ghost use mathlib.Core.Path.{_≡_};
 ghost use Prim.Native.Nat.{_≤_};
@@ -25,7 +24,7 @@ ghost use Rattle.text.specs.InnerWithin.{longestRefused, WroteWithin};
 ghost use Rattle.explain_text.specs.InnerRoom.{longestText};
 ghost use Rattle.channel.specs.Run.{Run};
 ghost use Rattle.report_rules.specs.Report.{bookRows, limitsRoom, Opened, Written, MayWrite};
-ghost use Rattle.files.specs.Feeding.{turnedTo};
+ghost use Rattle.stream.specs.Feeding.{turnedTo};
 ghost use Rattle.files.specs.InnerSteps.{Sized, AnsweredIn, WrittenIn, Told};
 ghost use Rattle.files.specs.Kinds.{tellingOf};
 
@@ -114,15 +113,11 @@ fn report_in(
     let points = limits.points as usize;
     let mut bytes = io::large_buffer();
     let read = feed::read_register(ids, groups, marks, levels, points, &mut bytes);
-    let state = read.state;
-    if state == ENDED {
-        return answer_whole(kind, ids, groups, marks, levels, limits, &bytes, read, out);
-    }
-    refuse(&bytes, read, limits, out)
+    answer_read(kind, ids, groups, marks, levels, limits, &bytes, read, out)
 }
 
-// The answer to a register that was read to its end.
-fn answer_whole(
+// The answer to a register that was read: its refusal, or the text of its book.
+fn answer_read(
     kind: u32,
     ids: &[u32],
     groups: &[u32],

@@ -3,47 +3,22 @@ use channel::input::Arrived;
 use channel::input::read_input;
 use report_steps::core::feeding::take_last;
 use report_steps::core::feeding::take_piece;
+use stream::ENDED;
+use stream::READING;
+use stream::STOPPED;
+use stream::Turn;
+use stream::core::failed;
 ghost use mathlib.Core.Path.{_≡_};
 ghost use mathlib.Core.Bool.{true};
 ghost use Prim.Native.Nat.{_+_, _^_, _≤_, _<_};
 ghost use lib.ListN.{length, take};
 ghost use Rattle.book_rules.specs.Columns.{bookNow, bookBefore, bookAfter, sound};
-ghost use Rattle.report_steps.specs.Stream.{longestLine};
-ghost use Rattle.report_steps.specs.Reading.{readingAt, Unended};
-ghost use Rattle.files.specs.Feeding.{failedAt, Waiting, Turned, Registered};
-ghost use Rattle.files.specs.InnerFeeding.{Pieced, Lasted};
-
-// Where the reading stands: `left` bytes wait in front of the buffer for the end of line `line`, and `state` says
-// whether to read on. A line that is refused stands at `at`.
-pub struct Turn {
-    pub at: usize,
-    pub left: usize,
-    pub line: u64,
-    pub refusal: u32,
-    pub state: u32,
-}
-
-// The states of a reading: to be read on, read to its end, refused before it, and failed.
-pub const READING: u32 = 0;
-
-pub const ENDED: u32 = 1;
-
-pub const STOPPED: u32 = 2;
-
-pub const FAILED: u32 = 3;
-
-// The input can't be read on. That is never taken for the end, or flights would drop out unseen.
-fn failed(line: u64) -> Turn
-    ensures { λ r. ⌜ r ≡ failedAt line ⌝ }
-{
-    Turn {
-        at: 0,
-        left: 0,
-        line,
-        refusal: 16,
-        state: FAILED,
-    }
-}
+ghost use Rattle.channel.specs.System.Origin.{input};
+ghost use Rattle.stream.specs.Reading.{readingAt, Unended};
+ghost use Rattle.stream.specs.Feeding.{Waiting, Turned, Done};
+ghost use Rattle.stream.specs.InnerFeeding.{Pieced, Lasted};
+ghost use Rattle.report_steps.specs.Stream.{longestRow, longestLine};
+ghost use Rattle.report_steps.specs.Reading.{registerStep};
 
 // The lines of a piece.
 fn piece(
@@ -59,8 +34,9 @@ fn piece(
     requires { ⌜ sound points (bookNow ids groups marks levels) ≡ true ⌝ }
     requires { ⌜ len ≤ length (now bytes) ⌝ }
     requires { ⌜ line + len < 2 ^ 64 ⌝ }
-    ensures { λ r. ⌜ Pieced points (readingAt 0 line (bookBefore ids groups marks levels))
-        (take len (now (bytes .entry))) r (bookAfter ids groups marks levels) (now (bytes .exit)) ⌝ }
+    ensures { λ r. ⌜ Pieced (registerStep points) longestRow (readingAt 0 line (bookBefore ids groups marks levels))
+        (take len (now (bytes .entry))) r (bookAfter ids groups marks levels) (now (bytes .exit))
+        × (sound points (bookAfter ids groups marks levels) ≡ true) ⌝ }
 {
     let p = take_piece(ids, groups, marks, levels, points, bytes, len, line);
     let refusal = p.refusal;
@@ -96,8 +72,9 @@ fn last(
     requires { ⌜ Unended (now bytes) ⌝ }
     requires { ⌜ 1 ≤ line ⌝ }
     requires { ⌜ line + length (now bytes) < 2 ^ 64 ⌝ }
-    ensures { λ r. ⌜ Lasted points (readingAt 0 line (bookBefore ids groups marks levels)) (now (bytes .entry))
-        r (bookAfter ids groups marks levels) ⌝ }
+    ensures { λ r. ⌜ Lasted (registerStep points) (readingAt 0 line (bookBefore ids groups marks levels))
+        (now (bytes .entry)) r (bookAfter ids groups marks levels)
+        × (sound points (bookAfter ids groups marks levels) ≡ true) ⌝ }
 {
     let f = take_last(ids, groups, marks, levels, points, bytes, line);
     Turn {
@@ -122,10 +99,11 @@ fn read_on(
     taken: &mut u64,
 ) -> Turn
     requires { ⌜ sound points (bookNow ids groups marks levels) ≡ true ⌝ }
-    requires { ⌜ Waiting (now bytes) left line (now taken) ⌝ }
-    ensures { λ r. ⌜ Turned points (readingAt 0 line (bookBefore ids groups marks levels))
-        (take left (now (bytes .entry))) (now (taken .entry)) r (bookAfter ids groups marks levels)
-        (now (bytes .exit)) (now (taken .exit)) ⌝ }
+    requires { ⌜ Waiting longestRow (now bytes) left line (now taken) ⌝ }
+    ensures { λ r. ⌜ Turned input (registerStep points) longestRow
+        (readingAt 0 line (bookBefore ids groups marks levels)) (take left (now (bytes .entry)))
+        (now (taken .entry)) r (bookAfter ids groups marks levels) (now (bytes .exit)) (now (taken .exit))
+        × (sound points (bookAfter ids groups marks levels) ≡ true) ⌝ }
 {
     match read_input(taken, &mut bytes[left..]) {
         Arrived::Bytes(n) => piece(ids, groups, marks, levels, points, bytes, left + n, line),
@@ -145,7 +123,7 @@ pub(crate) fn read_register(
 ) -> Turn
     requires { ⌜ sound points (bookNow ids groups marks levels) ≡ true ⌝ }
     requires { ⌜ longestLine < length (now bytes) ⌝ }
-    ensures { λ r. ⌜ Registered points (bookBefore ids groups marks levels) r
+    ensures { λ r. ⌜ Done input (registerStep points) longestRow (bookBefore ids groups marks levels) r
         (bookAfter ids groups marks levels) ⌝ }
 {
     let mut taken = 0;

@@ -11,11 +11,12 @@ use Rattle.book_rules.proofs.History.{history-sound}
 use Rattle.register.specs.declared.limits_csv.LimitsFile.{LimitsFile}
 use Rattle.register.specs.LimitsFile.{limitsOf}
 use Rattle.register.proofs.LimitsFront.{limits-front}
-use Rattle.report_steps.specs.Reading.{Reading, registered}
+use Rattle.stream.specs.Coming.{Coming}
+use Rattle.stream.proofs.Turns.{of-as}
+use Rattle.report_steps.specs.{Stream.longestRow, Reading.Reading, Reading.registered}
 use Rattle.report_text.specs.Text.{bookText}
 use Rattle.report_rules.specs.Report.{bookRows, Telling, readingText, registerText, answerText, answerOf, reportOf}
-use Rattle.report_rules.specs.Report.{limitsRoom, Came, Opened, Answers}
-use Rattle.report_rules.specs.Report.Came.{whole, stopped, failed}
+use Rattle.report_rules.specs.Report.{limitsRoom, Opened, Answers}
 use Rattle.report_rules.specs.Report.Opened.{all, cut, unread}
 use Rattle.report_rules.specs.Told.{LimitsFrom}
 use Rattle.report_rules.specs.Told.LimitsFrom.{ended, enough, missing}
@@ -26,7 +27,7 @@ unfolding readingText
 reading-refused tell l s ne = rw (ne-eqb (s .refusal) 0 ne) refl
 
 pub reading-reported : (tell : Telling) (l : LimitsFile) (s : Reading) → s .refusal ≡ 0
-    → readingText tell l s ≡ tell l (s .book)
+    → readingText tell l s ≡ tell l (s .held)
 unfolding readingText
 reading-reported tell l s z = rw z refl
 
@@ -48,12 +49,11 @@ pub report-accepted : (tell : Telling) (limits register : List ℕ) → limitsOf
 unfolding answerOf answerText
 report-accepted tell limits register z = rw z refl
 
-pub answers-accepted : (tell : Telling) (limits : List ℕ) (came : Came) (text : List ℕ) → limitsOf limits .refusal ≡ 0
+pub answers-accepted : (tell : Telling) (limits : List ℕ) (came : Coming) (text : List ℕ) → limitsOf limits .refusal ≡ 0
     → Answers (registerText tell (limitsOf limits)) came text
     → Answers (answerOf tell limits) came text
-answers-accepted tell limits (whole bytes) text z a = a ∙ sym (report-accepted tell limits bytes z)
-answers-accepted tell limits (stopped bytes) text z a = λ rest. a rest ∙ sym (report-accepted tell limits (bytes ++ rest) z)
-answers-accepted tell limits (failed bytes) text z a = a ∙ sym (report-accepted tell limits _ z)
+answers-accepted tell limits came text z a =
+    of-as longestRow came (λ register is. is ∙ sym (report-accepted tell limits register z)) a
 
 -- an empty book of the report is sound
 pub empty-sound : (p : ℕ) → 1 ≤ p → p ≤ 8 → sound p (emptyBook p bookRows) ≡ true

@@ -13,9 +13,11 @@ use Rattle.book_rules.specs.History.{Movement, emptyBook, movements, listOf, ac
 use Rattle.book_rules.proofs.History.{Told, told, told-empty}
 use Rattle.register.specs.Row.{layoutOf}
 use Rattle.report_steps.specs.Intake.{takenNumber, rowTaken}
-use Rattle.report_steps.specs.Reading.{Reading, opening, lineRefusal, lineAfter, lineRead, linesRead, closing}
+use Rattle.stream.specs.Reading.{opening, lineRead, linesRead, closing, wholeRead}
+use Rattle.stream.proofs.Readings.{stuck}
+use Rattle.report_steps.specs.Reading.{Reading, lineRefusal, lineAfter, registerStep}
 use Rattle.report_steps.specs.{Reading.registered, Booking.rowCalls, Booking.linesCalls, Booking.registerCalls}
-use Rattle.report_steps.proofs.{Readings.stuck, Bookings.row-booked, Bookings.register-rows}
+use Rattle.report_steps.proofs.Bookings.{row-booked, register-rows}
 use Rattle.report_rules.specs.Report.{bookRows}
 use Rattle.report_rules.specs.Flights.{rowsIn, flightsIn, howMany, standingIn, AllStand}
 use Rattle.report_rules.proofs.{Listed.accepted-then, Rows.row-read, Rows.row-flights}
@@ -30,28 +32,28 @@ flights-then test p row rows =
 
 -- a row that is read goes on: what is known behind it
 pub record Past (p n : ℕ) (s : Reading) (line : List ℕ) (ls : List (List ℕ)) (ms : List Movement) : Type 0 where
-  pub fine : takenNumber (rowTaken p (s .book) line) ≡ 0
-  pub refusal : lineRead p s line .refusal ≡ 0
-  pub number : lineRead p s line .line ≡ s .line + 1
-  pub told= : Told p n (lineRead p s line .book) (listOf ms (accepted p n ms (rowCalls p (s .book) line)))
+  pub fine : takenNumber (rowTaken p (s .held) line) ≡ 0
+  pub refusal : lineRead (registerStep p) s line .refusal ≡ 0
+  pub number : lineRead (registerStep p) s line .line ≡ s .line + 1
+  pub told= : Told p n (lineRead (registerStep p) s line .held) (listOf ms (accepted p n ms (rowCalls p (s .held) line)))
 
 row-past : (p n : ℕ) (s : Reading) (line : List ℕ) (ls : List (List ℕ)) (ms : List Movement)
-    → Told p n (s .book) ms
+    → Told p n (s .held) ms
     → 2 ≤ s .line
-    → linesRead p (lineRead p s line) ls .refusal ≡ 0 → Past p n s line ls ms
+    → linesRead (registerStep p) (lineRead (registerStep p) s line) ls .refusal ≡ 0 → Past p n s line ls ms
 unfolding lineRead lineRefusal lineAfter
 row-past p n s line ls ms t two z =
     let row = ne-eqb (s .line) 1 (λ e. absurd (omega arith)) in
-    let r = lineRead p s line .refusal in
+    let r = lineRead (registerStep p) s line .refusal in
     let none : r ≡ 0 = either (eqb r 0) (λ yes. eqb-true r 0 yes)
     (λ no. let ne = eqb-false r 0 no in
-    absurd (ne (ap (λ (q : Reading). q .refusal) (sym (stuck p (lineRead p s line) ls ne)) ∙ z))) in
-    let fine : takenNumber (rowTaken p (s .book) line) ≡ 0 = rw row at none in
+    absurd (ne (ap (λ (q : Reading). q .refusal) (sym (stuck (registerStep p) (lineRead (registerStep p) s line) ls ne)) ∙ z))) in
+    let fine : takenNumber (rowTaken p (s .held) line) ≡ 0 = rw row at none in
     record {
       fine = fine;
       refusal = none;
       number = rw (row, fine) refl;
-      told= = rw (row, row-booked p (s .book) line) (told p n (rowCalls p (s .book) line) (s .book) ms t);
+      told= = rw (row, row-booked p (s .held) line) (told p n (rowCalls p (s .held) line) (s .held) ms t);
     }
 
 -- rows behind the header, up to the last: all are read, and the flights among them join the movements
@@ -61,24 +63,24 @@ pub record AllRead (p n : ℕ) (s : Reading) (ls : List (List ℕ)) (ms : List M
       → howMany test (listOf ms (accepted p n ms (linesCalls p s ls))) ≡ howMany test ms + howMany test
       (flightsIn p ls)
 
-rows-read : (p n : ℕ) (s : Reading) (ls : List (List ℕ)) (ms : List Movement) → Told p n (s .book) ms
+rows-read : (p n : ℕ) (s : Reading) (ls : List (List ℕ)) (ms : List Movement) → Told p n (s .held) ms
     → 2 ≤ s .line
     → s .refusal ≡ 0
-    → linesRead p s ls .refusal ≡ 0 → AllRead p n s ls ms
+    → linesRead (registerStep p) s ls .refusal ≡ 0 → AllRead p n s ls ms
 unfolding linesRead linesCalls flightsIn howMany listOf accepted
 rows-read p n s [] ms t two z e = record { read = λ i h. absurd (omega arith); each = λ test. omega arith }
 rows-read p n s (l ∷ ls) ms t two z e =
     let go = eq-eqb (s .refusal) 0 z in
     let row = ne-eqb (s .line) 1 (λ q. absurd (omega arith)) in
     let k = row-past p n s l ls ms t two (rw go at e) in
-    let ns = listOf ms (accepted p n ms (rowCalls p (s .book) l)) in
-    let rest = rows-read p n (lineRead p s l) ls ns (k .told=) (omega (arith, k .number)) (k .refusal) (rw go at e) in
+    let ns = listOf ms (accepted p n ms (rowCalls p (s .held) l)) in
+    let rest = rows-read p n (lineRead (registerStep p) s l) ls ns (k .told=) (omega (arith, k .number)) (k .refusal) (rw go at e) in
     record {
-      read = each-read (row-read p (s .book) l (k .fine)) (rest .read);
+      read = each-read (row-read p (s .held) l (k .fine)) (rest .read);
       each = λ test. rw (go, row)
-          (ap (howMany test) (accepted-then p n ms (rowCalls p (s .book) l) (linesCalls p (lineRead p s l) ls))
+          (ap (howMany test) (accepted-then p n ms (rowCalls p (s .held) l) (linesCalls p (lineRead (registerStep p) s l) ls))
           ∙ rest .each test
-          ∙ omega (arith, row-flights p n (s .book) ms l t (k .fine) test, flights-then test p l ls));
+          ∙ omega (arith, row-flights p n (s .held) ms l t (k .fine) test, flights-then test p l ls));
     }
   where
     each-read : layoutOf p l .refusal ≡ 0
@@ -98,10 +100,10 @@ many-all (m ∷ ms) = omega (arith, many-all ms)
 -- one that is refused nowhere has a header
 headed : (p : ℕ) (b : Book) (register : List ℕ) → registered p b register .refusal ≡ 0
     → (lines : List (List ℕ)) → linesOf register ≡ lines
-    → (linesRead p (opening b) lines .refusal ≡ 0) × (linesRead p (opening b) lines .line ≡ 1 → ⊥)
-unfolding registered closing
+    → (linesRead (registerStep p) (opening b) lines .refusal ≡ 0) × (linesRead (registerStep p) (opening b) lines .line ≡ 1 → ⊥)
+unfolding wholeRead closing
 headed p b register z lines e =
-    let s = linesRead p (opening b) lines in
+    let s = linesRead (registerStep p) (opening b) lines in
     let y : closing s .refusal ≡ 0 = rw e at z in
     either (eqb (s .refusal) 0)
     (λ yes. either (eqb (s .line) 1)
@@ -111,24 +113,24 @@ headed p b register z lines e =
 
 -- the reading behind the header: nothing is in the book yet
 pub record Begun (p : ℕ) (b : Book) (head : List ℕ) (rows : List (List ℕ)) : Type 0 where
-  pub refusal : lineRead p (opening b) head .refusal ≡ 0
-  pub line : lineRead p (opening b) head .line ≡ 2
-  pub book : lineRead p (opening b) head .book ≡ b
-  pub rest : linesRead p (lineRead p (opening b) head) rows .refusal ≡ 0
+  pub refusal : lineRead (registerStep p) (opening b) head .refusal ≡ 0
+  pub line : lineRead (registerStep p) (opening b) head .line ≡ 2
+  pub book : lineRead (registerStep p) (opening b) head .held ≡ b
+  pub rest : linesRead (registerStep p) (lineRead (registerStep p) (opening b) head) rows .refusal ≡ 0
 
 begun : (p : ℕ) (b : Book) (head : List ℕ) (rows : List (List ℕ))
-    → linesRead p (opening b) (head ∷ rows) .refusal ≡ 0 → Begun p b head rows
+    → linesRead (registerStep p) (opening b) (head ∷ rows) .refusal ≡ 0 → Begun p b head rows
 unfolding linesRead lineRead lineAfter
 begun p b head rows z =
-    let s = lineRead p (opening b) head in
+    let s = lineRead (registerStep p) (opening b) head in
     let r = s .refusal in
     let none : r ≡ 0 = either (eqb r 0) (λ yes. eqb-true r 0 yes)
     (λ no. let ne = eqb-false r 0 no in
-    absurd (ne (ap (λ (q : Reading). q .refusal) (sym (stuck p s rows ne)) ∙ z))) in
+    absurd (ne (ap (λ (q : Reading). q .refusal) (sym (stuck (registerStep p) s rows ne)) ∙ z))) in
     record { refusal = none; line = rw none refl; book = refl; rest = z }
 
 calls-behind : (p : ℕ) (b : Book) (head : List ℕ) (rows : List (List ℕ))
-    → linesCalls p (opening b) (head ∷ rows) ≡ linesCalls p (lineRead p (opening b) head) rows
+    → linesCalls p (opening b) (head ∷ rows) ≡ linesCalls p (lineRead (registerStep p) (opening b) head) rows
 unfolding linesCalls
 calls-behind p b head rows = refl
 
@@ -139,12 +141,12 @@ from-none test fs = omega arith
 -- the movements standing are those of the rows' calls
 standing-rows : (p : ℕ) (register head : List ℕ) (rows : List (List ℕ)) → linesOf register ≡ head ∷ rows
     → standingIn p register
-    ≡ listOf [] (accepted p bookRows [] (linesCalls p (lineRead p (opening (emptyBook p bookRows)) head) rows))
+    ≡ listOf [] (accepted p bookRows [] (linesCalls p (lineRead (registerStep p) (opening (emptyBook p bookRows)) head) rows))
 unfolding movements registerCalls
 standing-rows p register head rows e = rw (e, calls-behind p (emptyBook p bookRows) head rows) refl
 
 -- a text with no line is not read
-none-read : (p : ℕ) (b : Book) → linesRead p (opening b) [] .line ≡ 1
+none-read : (p : ℕ) (b : Book) → linesRead (registerStep p) (opening b) [] .line ≡ 1
 unfolding linesRead
 none-read p b = refl
 
@@ -156,10 +158,10 @@ all-stand p register z = go (linesOf register) refl
     b = emptyBook p bookRows
 
     by-rows : (head : List ℕ) (rows : List (List ℕ)) → linesOf register ≡ head ∷ rows
-        → AllRead p bookRows (lineRead p (opening b) head) rows []
+        → AllRead p bookRows (lineRead (registerStep p) (opening b) head) rows []
     by-rows head rows e =
         let k = begun p b head rows (headed p b register z (head ∷ rows) e .0) in
-        rows-read p bookRows (lineRead p (opening b) head) rows [] (rw (k .book) (told-empty p bookRows))
+        rows-read p bookRows (lineRead (registerStep p) (opening b) head) rows [] (rw (k .book) (told-empty p bookRows))
         (omega (arith, k .line)) (k .refusal) (k .rest)
 
     go : (lines : List (List ℕ)) → linesOf register ≡ lines → AllStand p register

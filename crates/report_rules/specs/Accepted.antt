@@ -7,7 +7,8 @@ use lib.ListN.{length, getD, take}
 use Rattle.book_rules.specs.Columns.{Book}
 use Rattle.text.specs.Line.{linesOf}
 use Rattle.text.specs.Spelled.{bytes}
-use Rattle.report_steps.specs.Reading.{opening, linesRead, lineRefusal}
+use Rattle.stream.specs.Reading.{opening, linesRead}
+use Rattle.report_steps.specs.Reading.{lineRefusal, registerStep}
 
 -- a register read into the book b, where limits.csv has p points
 pub record RegisterAccepted (p : ℕ) (b : Book) (register : List ℕ) : Type 0 where
@@ -18,6 +19,6 @@ pub record RegisterAccepted (p : ℕ) (b : Book) (register : List ℕ) : Type 0 
       ≡ take (22 + 3 * p) (bytes "id,type,mtow,kind,time,l1,l2,l3,l4,l5,l6,l7,l8")
   -- and none of its lines is refused on the book that the lines before it leave
   pub each : (i : ℕ) → i < length (linesOf register)
-      → lineRefusal p (i + 1) (linesRead p (opening b) (take i (linesOf register)) .book)
+      → lineRefusal p (i + 1) (linesRead (registerStep p) (opening b) (take i (linesOf register)) .held)
       (getD (linesOf register) i [])
       ≡ 0

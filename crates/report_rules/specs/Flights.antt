@@ -58,7 +58,7 @@ howMany test (m ∷ ms) = cond (test m) 1 0 + howMany test ms
 
 -- the book that a register of p points gives, and the movements that its calls leave standing
 abbrev pub bookIn : ℕ → List ℕ → Book
-bookIn p register = registered p (emptyBook p bookRows) register .book
+bookIn p register = registered p (emptyBook p bookRows) register .held
 
 abbrev pub standingIn : ℕ → List ℕ → List Movement
 standingIn p register = movements p bookRows (registerCalls p (emptyBook p bookRows) register)

@@ -1,20 +1,19 @@
 -- When a report is refused, with which number and which line: RULES, "Files and the report program".
 -- Assumes nothing.
-use Prim.Native.Nat.{ℕ, _+_, _*_, _≤_, _<_}
+use Prim.Native.Nat.{ℕ, _+_, _*_, _≤_}
 use mathlib.Core.Path.{_≡_}
 use mathlib.Core.Logic.{_↔_}
-use mathlib.Core.List.{List, []}
-use lib.ListN.{length, getD, take}
+use mathlib.Core.List.{List}
+use lib.ListN.{take}
 use Rattle.book_rules.specs.Columns.{Book}
 use Rattle.book_rules.specs.Calls.{refusal, after}
 use Rattle.book_rules.specs.History.{emptyBook}
-use Rattle.text.specs.Line.{linesOf}
 use Rattle.text.specs.Sheet.{Refuses}
 use Rattle.text.specs.Spelled.{bytes}
 use Rattle.register.specs.LimitsFile.{limitsOf}
 use Rattle.register.specs.Row.{layoutOf}
 use Rattle.report_steps.specs.Intake.{entering, supplying}
-use Rattle.report_steps.specs.Reading.{opening, linesRead, lineRefusal, registered}
+use Rattle.report_steps.specs.Reading.{lineRefusal, registered}
 use Rattle.report_text.specs.Text.{bookRefusal}
 use Rattle.report_rules.specs.Report.{bookRows, reportOf}
 use Rattle.report_rules.specs.Flights.{bookIn}
@@ -31,24 +30,7 @@ pub record ReportRefused (limits register : List ℕ) : Type 0 where
       → (bookRefusal (limitsOf limits) (bookIn p register) ≡ 0 → ⊥)
       → Refuses (reportOf limits register) (bookRefusal (limitsOf limits) (bookIn p register)) 0
 
--- The first refusal of a register counts
-
--- the lines before the line of that number are read without a refusal, and on the book that they leave it is refused
-pub record FirstRefused (p : ℕ) (b : Book) (register : List ℕ) : Type 0 where
-  pub before : ℕ
-  pub reached : before < length (linesOf register)
-  pub fine : linesRead p (opening b) (take before (linesOf register)) .refusal ≡ 0
-  pub line : registered p b register .line ≡ before + 1
-  pub number : registered p b register .refusal
-      ≡ lineRefusal p (before + 1) (linesRead p (opening b) (take before (linesOf register)) .book)
-      (getD (linesOf register) before [])
-
--- a register with no line has no header: 16 at its line 1
-pub record RegisterRefused (p : ℕ) (b : Book) (register : List ℕ) : Type 0 where
-  pub empty : length (linesOf register) ≡ 0
-      → (registered p b register .refusal ≡ 16) × (registered p b register .line ≡ 1)
-  pub first : 1 ≤ length (linesOf register) → (registered p b register .refusal ≡ 0 → ⊥)
-      → FirstRefused p b register
+-- The first refusal of a register counts: `TextRefused (registerStep p) b register` of crate stream
 
 -- What refuses a line
 

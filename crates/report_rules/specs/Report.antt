@@ -1,10 +1,10 @@
 -- The whole report, from bytes to bytes: RULES, "Files and the report program".
 -- Assumes nothing.
-use Prim.Native.Nat.{ℕ, _+_}
+use Prim.Native.Nat.{ℕ}
 use mathlib.Core.Path.{_≡_}
 use mathlib.Core.Bool.{cond}
-use mathlib.Core.List.{List, [], _++_}
-use lib.ListN.{length, replicate}
+use mathlib.Core.List.{List, []}
+use lib.ListN.{length}
 use lib.Dec.{eqb}
 use Rattle.channel.specs.System.{Origin, First, Whole, Broken}
 use Rattle.channel.specs.System.Origin.{input, file}
@@ -12,7 +12,8 @@ use Rattle.book_rules.specs.Columns.{Book}
 use Rattle.book_rules.specs.History.{emptyBook}
 use Rattle.register.specs.declared.limits_csv.LimitsFile.{LimitsFile}
 use Rattle.register.specs.LimitsFile.{limitsOf}
-use Rattle.report_steps.specs.Stream.{longestLine}
+use Rattle.stream.specs.Coming.{Coming, Heard, Of}
+use Rattle.report_steps.specs.Stream.{longestRow}
 use Rattle.report_steps.specs.Reading.{Reading, registered}
 use Rattle.text.specs.Sheet.{refusedText}
 use Rattle.text.specs.Spelled.{bytes}
@@ -28,7 +29,7 @@ Telling = LimitsFile → Book → List ℕ
 
 -- the answer to a register that was read: the text of its book, or its refusal and line
 unfoldable pub readingText : Telling → LimitsFile → Reading → List ℕ
-readingText tell l s = cond (eqb (s .refusal) 0) (tell l (s .book)) (refusedText (s .refusal) (s .line))
+readingText tell l s = cond (eqb (s .refusal) 0) (tell l (s .held)) (refusedText (s .refusal) (s .line))
 
 -- the answer to a register, where limits.csv is accepted: it is read into an empty book
 unfoldable pub registerText : Telling → LimitsFile → List ℕ → List ℕ
@@ -53,28 +54,10 @@ reportOf limits register = answerOf bookText limits register
 abbrev pub limitsRoom : ℕ
 limitsRoom = 4096
 
--- the register's, to their end; up to a line that is refused, where the reading stops; or up to a read that failed
-pub data Came : Type 0 where
-  whole : List ℕ → Came
-  stopped : List ℕ → Came
-  failed : List ℕ → Came
-
--- bytes of a line longer than any on its layout
-abbrev pub endless : List ℕ
-endless = replicate (longestLine + 1) 0
-
--- The text that goes with it: of all bytes; the same whatever would follow; or, since a read that fails is never an
--- end, that of a register whose line being read goes on for longer than any line on its layout
-abbrev pub Answers : (List ℕ → List ℕ) → Came → List ℕ → Type 0
-Answers answer (whole bytes) text = text ≡ answer bytes
-Answers answer (stopped bytes) text = (rest : List ℕ) → text ≡ answer (bytes ++ rest)
-Answers answer (failed bytes) text = text ≡ answer (bytes ++ endless)
-
--- that they came so: standard input ended behind them, they came first, or the next read failed
-abbrev pub Heard : Came → Type 0
-Heard (whole bytes) = Whole input bytes
-Heard (stopped bytes) = First input bytes
-Heard (failed bytes) = Broken input bytes
+-- the text that goes with how the register came: of all bytes; the same whatever would follow; or, since a read that
+-- fails is never an end, that of a register whose line being read goes on for longer than any line on its layout
+abbrev pub Answers : (List ℕ → List ℕ) → Coming → List ℕ → Type 0
+Answers answer came text = Of longestRow came (λ register. text ≡ answer register)
 
 -- the file of that name in the current folder
 abbrev pub limitsOrigin : Origin
@@ -89,8 +72,8 @@ pub data Opened (limits : List ℕ) : Type 0 where
 -- a text that may be written: it is the program's of the bytes that came
 pub record Written (tell : Telling) (limits text : List ℕ) : Type 0 where
   pub opened : Opened limits
-  pub came : Came
-  pub heard : Heard came
+  pub came : Coming
+  pub heard : Heard input came
   pub is : Answers (answerOf tell limits) came text
 
 -- of whatever limits.csv was

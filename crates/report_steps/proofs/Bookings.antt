@@ -13,7 +13,8 @@ use Rattle.book_rules.proofs.{Accepted.after-refused, History.history-rows}
 use Rattle.register.specs.declared.row.Layout.{Layout}
 use Rattle.register.specs.Row.{layoutOf}
 use Rattle.report_steps.specs.Intake.{entering, layoutAfter, enteredAfter, rowAfter}
-use Rattle.report_steps.specs.Reading.{Reading, lineAfter, lineRead, linesRead, opening, closing, registered}
+use Rattle.stream.specs.Reading.{lineRead, linesRead, opening, closing, wholeRead}
+use Rattle.report_steps.specs.Reading.{Reading, lineAfter, registerStep, registered}
 use Rattle.report_steps.specs.Booking.{layoutCalls, rowCalls, linesCalls, registerCalls}
 
 booked-then : (b : Book) (cs ds : List Made) → booked b (cs ++ ds) ≡ booked (booked b cs) ds
@@ -40,41 +41,41 @@ unfolding lineAfter booked
 line-booked p n b line = either (eqb n 1) (λ yes. rw yes refl) (λ no. rw no (row-booked p b line))
 
 read-booked : (p : ℕ) (s : Reading) (l : List ℕ)
-    → lineRead p s l .book ≡ booked (s .book) (cond (eqb (s .line) 1) [] (rowCalls p (s .book) l))
+    → lineRead (registerStep p) s l .held ≡ booked (s .held) (cond (eqb (s .line) 1) [] (rowCalls p (s .held) l))
 unfolding lineRead
-read-booked p s l = line-booked p (s .line) (s .book) l
+read-booked p s l = line-booked p (s .line) (s .held) l
 
 lines-booked : (p : ℕ) (s : Reading) (ls : List (List ℕ))
-    → linesRead p s ls .book ≡ booked (s .book) (linesCalls p s ls)
+    → linesRead (registerStep p) s ls .held ≡ booked (s .held) (linesCalls p s ls)
 unfolding linesRead linesCalls booked
 lines-booked p s [] = refl
-lines-booked p s (l ∷ ls) = go (eqb (s .refusal) 0) (lines-booked p (lineRead p s l) ls)
+lines-booked p s (l ∷ ls) = go (eqb (s .refusal) 0) (lines-booked p (lineRead (registerStep p) s l) ls)
   where
     go : (t : Bool)
-        → linesRead p (lineRead p s l) ls .book ≡ booked (lineRead p s l .book) (linesCalls p (lineRead p s l) ls)
-        → cond t (linesRead p (lineRead p s l) ls) s .book
-        ≡ booked (s .book) (cond t (cond (eqb (s .line) 1) [] (rowCalls p (s .book) l) ++ linesCalls p
-        (lineRead p s l) ls) [])
+        → linesRead (registerStep p) (lineRead (registerStep p) s l) ls .held ≡ booked (lineRead (registerStep p) s l .held) (linesCalls p (lineRead (registerStep p) s l) ls)
+        → cond t (linesRead (registerStep p) (lineRead (registerStep p) s l) ls) s .held
+        ≡ booked (s .held) (cond t (cond (eqb (s .line) 1) [] (rowCalls p (s .held) l) ++ linesCalls p
+        (lineRead (registerStep p) s l) ls) [])
     go false r = refl
     go true r =
-        r ∙ ap (λ (b : Book). booked b (linesCalls p (lineRead p s l) ls)) (read-booked p s l)
-        ∙ sym (booked-then (s .book) (cond (eqb (s .line) 1) [] (rowCalls p (s .book) l))
-        (linesCalls p (lineRead p s l) ls))
+        r ∙ ap (λ (b : Book). booked b (linesCalls p (lineRead (registerStep p) s l) ls)) (read-booked p s l)
+        ∙ sym (booked-then (s .held) (cond (eqb (s .line) 1) [] (rowCalls p (s .held) l))
+        (linesCalls p (lineRead (registerStep p) s l) ls))
 
-closing-book : (s : Reading) → closing s .book ≡ s .book
+closing-book : (s : Reading) → closing s .held ≡ s .held
 unfolding closing
 closing-book s = either (eqb (s .refusal) 0 && eqb (s .line) 1) (λ yes. rw yes refl) (λ no. rw no refl)
 
 -- the book of a register is the book after its calls
 pub register-booked : (p : ℕ) (b : Book) (bytes : List ℕ)
-    → registered p b bytes .book ≡ booked b (registerCalls p b bytes)
-unfolding registered registerCalls
+    → registered p b bytes .held ≡ booked b (registerCalls p b bytes)
+unfolding wholeRead registerCalls
 register-booked p b bytes =
-    closing-book (linesRead p (opening b) (linesOf bytes)) ∙ lines-booked p (opening b) (linesOf bytes)
+    closing-book (linesRead (registerStep p) (opening b) (linesOf bytes)) ∙ lines-booked p (opening b) (linesOf bytes)
 
 -- and so, from an empty book, the rows of the movements that its calls leave standing
 pub register-rows : (p n : ℕ) (bytes : List ℕ)
-    → registered p (emptyBook p n) bytes .book
+    → registered p (emptyBook p n) bytes .held
     ≡ rowsOf p (n - length (movements p n (registerCalls p (emptyBook p n) bytes)))
     (movements p n (registerCalls p (emptyBook p n) bytes))
 register-rows p n bytes =

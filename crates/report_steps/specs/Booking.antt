@@ -11,7 +11,8 @@ use Rattle.text.specs.Line.{linesOf}
 use Rattle.register.specs.declared.row.Layout.{Layout}
 use Rattle.register.specs.Row.{layoutOf}
 use Rattle.report_steps.specs.Intake.{entering, supplying}
-use Rattle.report_steps.specs.Reading.{Reading, opening, lineRead}
+use Rattle.stream.specs.Reading.{opening, lineRead}
+use Rattle.report_steps.specs.Reading.{Reading, registerStep}
 
 -- a row on its layout: *enter*, and where that is accepted and its levels are not blank, *supply*
 unfoldable pub layoutCalls : ℕ → Book → Layout → List Made
@@ -29,7 +30,7 @@ unfoldable pub linesCalls : ℕ → Reading → List (List ℕ) → List Made
 linesCalls p s [] = []
 linesCalls p s (l ∷ ls) =
     cond (eqb (s .refusal) 0)
-    (cond (eqb (s .line) 1) [] (rowCalls p (s .book) l) ++ linesCalls p (lineRead p s l) ls)
+    (cond (eqb (s .line) 1) [] (rowCalls p (s .held) l) ++ linesCalls p (lineRead (registerStep p) s l) ls)
     []
 
 unfoldable pub registerCalls : ℕ → Book → List ℕ → List Made

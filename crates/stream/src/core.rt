@@ -4,7 +4,7 @@ use crate::Turn;
 ghost use mathlib.Core.Path.{_≡_};
 ghost use Prim.Native.Nat.{_+_, _≤_};
 ghost use lib.ListN.{length, take, drop};
-ghost use Rattle.stream.specs.InnerFeeding.{failedAt};
+ghost use Rattle.stream.specs.Feeding.{failedAt};
 
 // The text can't be read on. That is never taken for the end, or lines would drop out unseen.
 pub fn failed(line: u64) -> Turn

@@ -2,37 +2,25 @@
 // read of the whole.
 use crate::core::take_row;
 use register::header::register_points;
+use stream::Feed;
+use stream::Piece;
+use stream::core::to_front;
 use text::core::line_end;
 use text::number::Number;
 ghost use mathlib.Core.Path.{_≡_};
 ghost use mathlib.Core.Bool.{true};
 ghost use Prim.Native.Nat.{_+_, _^_, _≤_, _<_};
-ghost use lib.ListN.{length, take, drop};
+ghost use lib.ListN.{length, take};
 ghost use Rattle.book_rules.specs.Columns.{bookNow, bookBefore, bookAfter, sound};
-ghost use Rattle.report_steps.specs.Reading.{pointsRefusal, headerPoints, readingAt, Unended};
-ghost use Rattle.report_steps.specs.InnerTaken.{LineTaken, LinesTaken, LastTaken, PieceTaken};
+ghost use Rattle.stream.specs.Reading.{readingAt, Unended};
+ghost use Rattle.stream.specs.InnerTaken.{LineTaken, LinesTaken, LastTaken, PieceTaken};
+ghost use Rattle.report_steps.specs.Stream.{longestRow};
+ghost use Rattle.report_steps.specs.Reading.{pointsRefusal, headerPoints, registerStep};
 
 // The longest row of a register on its layout, and with its CRLF the longest line.
 pub const LONGEST_ROW: usize = 84;
 
 const LONGEST_LINE: usize = LONGEST_ROW + 2;
-
-// Where the reading stands: the bytes before `at` are read; `line` is the number of the next line, or of the one that
-// is refused.
-pub struct Feed {
-    pub at: usize,
-    pub line: u64,
-    pub refusal: u32,
-}
-
-// The same once a piece is taken: `left` bytes of the next line wait at the front of the buffer. Where a line is
-// refused none was moved, and it begins at `at`.
-pub struct Piece {
-    pub at: usize,
-    pub left: usize,
-    pub line: u64,
-    pub refusal: u32,
-}
 
 // The refusal of a first line: it is the header of a register with as many levels as there are points.
 fn header_refusal(line: &[u8], points: usize) -> u32
@@ -60,7 +48,7 @@ pub fn take_line(
     number: u64,
 ) -> u32
     requires { ⌜ sound points (bookNow ids groups marks levels) ≡ true ⌝ }
-    ensures { λ r. ⌜ LineTaken points number (bookBefore ids groups marks levels) (now (line .entry)) r
+    ensures { λ r. ⌜ LineTaken (registerStep points) number (bookBefore ids groups marks levels) (now (line .entry)) r
         (bookAfter ids groups marks levels) ⌝ }
 {
     if number == 1 {
@@ -81,8 +69,9 @@ pub fn take_lines(
 ) -> Feed
     requires { ⌜ sound points (bookNow ids groups marks levels) ≡ true ⌝ }
     requires { ⌜ line + length (now bytes) < 2 ^ 64 ⌝ }
-    ensures { λ r. ⌜ LinesTaken points (readingAt 0 line (bookBefore ids groups marks levels)) (now (bytes .entry))
-        (r .at) (readingAt (r .refusal) (r .line) (bookAfter ids groups marks levels)) ⌝ }
+    ensures { λ r. ⌜ LinesTaken (registerStep points) (readingAt 0 line (bookBefore ids groups marks levels))
+        (now (bytes .entry)) (r .at) (readingAt (r .refusal) (r .line) (bookAfter ids groups marks levels))
+        × (sound points (bookAfter ids groups marks levels) ≡ true) ⌝ }
 {
     let mut at = 0;
     let mut number = line;
@@ -121,8 +110,9 @@ pub fn take_last(
     requires { ⌜ Unended (now bytes) ⌝ }
     requires { ⌜ 1 ≤ line ⌝ }
     requires { ⌜ line + length (now bytes) < 2 ^ 64 ⌝ }
-    ensures { λ r. ⌜ LastTaken points (readingAt 0 line (bookBefore ids groups marks levels)) (now (bytes .entry))
-        (readingAt (r .refusal) (r .line) (bookAfter ids groups marks levels)) ⌝ }
+    ensures { λ r. ⌜ LastTaken (registerStep points) (readingAt 0 line (bookBefore ids groups marks levels))
+        (now (bytes .entry)) (readingAt (r .refusal) (r .line) (bookAfter ids groups marks levels))
+        × (sound points (bookAfter ids groups marks levels) ≡ true) ⌝ }
 {
     if bytes.len() == 0 {
         if line == 1 {
@@ -153,18 +143,6 @@ pub fn take_last(
     }
 }
 
-// Moves `n` bytes from `from` on to the front.
-pub fn to_front(bytes: &mut [u8], from: usize, n: usize)
-    requires { ⌜ from + n ≤ length (now bytes) ⌝ }
-    ensures { λ r. ⌜ take n (now (bytes .exit)) ≡ take n (drop from (now (bytes .entry))) ⌝ }
-{
-    let mut i = 0;
-    while i < n {
-        bytes[i] = bytes[from + i];
-        i += 1;
-    }
-}
-
 // Takes a piece of a register: the first `len` bytes of the buffer, those that waited and those that came.
 pub fn take_piece(
     ids: &mut [u32],
@@ -179,9 +157,9 @@ pub fn take_piece(
     requires { ⌜ sound points (bookNow ids groups marks levels) ≡ true ⌝ }
     requires { ⌜ len ≤ length (now bytes) ⌝ }
     requires { ⌜ line + len < 2 ^ 64 ⌝ }
-    ensures { λ r. ⌜ PieceTaken points (readingAt 0 line (bookBefore ids groups marks levels))
+    ensures { λ r. ⌜ PieceTaken (registerStep points) longestRow (readingAt 0 line (bookBefore ids groups marks levels))
         (take len (now (bytes .entry))) (readingAt (r .refusal) (r .line) (bookAfter ids groups marks levels))
-        (take (r .left) (now (bytes .exit))) ⌝ }
+        (take (r .left) (now (bytes .exit))) × (sound points (bookAfter ids groups marks levels) ≡ true) ⌝ }
 {
     let feed = take_lines(ids, groups, marks, levels, points, &bytes[..len], line);
     let at = feed.at;

@@ -7,7 +7,7 @@ use lib.{ListN.length, Seq.length-take-le}
 use Rattle.movement.specs.Limits.{maxPoints}
 use Rattle.book_rules.specs.Columns.{Book, bookOf}
 use Rattle.report_rules.specs.Report.{bookRows}
-use Rattle.files.proofs.Turns.{cleared, cleared-levels}
+use Rattle.files.proofs.Cleared.{cleared, cleared-levels}
 use borrow.Author.Needs.{needs}
 use Rattle.files.proofs.core.report.Statement.{statement}
 use Rattle.files.proofs.core.report.Tie as tie

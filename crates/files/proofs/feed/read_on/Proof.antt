@@ -7,7 +7,7 @@ use lib.{ListN.length, ListN.take, Seq.length-take-le}
 use borrow.Rule.Slice.PartMut.{putMid, take-put}
 use Rattle.channel.specs.declared.input.Arrived.the-variants.{Bytes, End, Failed}
 use Rattle.channel.proofs.Behind.{front-behind, behind-fits, gave-as}
-use Rattle.files.proofs.Turns.{turn-failed, turn-piece, turn-last}
+use Rattle.stream.proofs.Turns.{turn-failed, turn-piece, turn-last}
 use borrow.Author.Needs.{needs}
 use Rattle.files.proofs.feed.read_on.Statement.{statement}
 use Rattle.files.proofs.feed.read_on.Tie as tie
@@ -83,28 +83,31 @@ last-requires c κs =
 piece : tie.Need-returns
 piece c =
     let w : tie.After-read-input = search in
-    let k : tie.After-n = search in
+    let came : tie.After-n = search in
     let pieced : tie.After-piece = search in
     let s = start w in
     let a = s .args in
-    let n = k .n .given .0 .0 in
-    let e = k .n .given .1 in
+    let n = came .n .given .0 .0 in
+    let e = came .n .given .1 in
     let gave = gave-as (w .read-input .ensures) (Bytes n) e in
     let long : length (pieced .piece .last .1 .1 .1 .1 .1 .0) ≡ length (a .bytes .now) = search needs in
-    turn-piece (take (a .left) (a .bytes .now)) (take n (w .read-input .last .1 .0)) (pieced .piece .ensures)
-    (front-behind (a .left) (length (a .bytes .now) - a .left) n (a .bytes .now) (w .read-input .last .1 .0)
-    (inside s) (gave .1))
-    (s .pre .1 .first) (omega (arith, s .pre .1 .room, long))
-    (omega (arith, counted w n e, length-take-le (a .left + n) (buffer w) (within w n e))) (gave .3)
-    (omega (arith, gave .0, gave .2)) (gave .4)
+    let k = pieced .piece .ensures in (
+      turn-piece (take (a .left) (a .bytes .now)) (take n (w .read-input .last .1 .0)) (k .0)
+          (front-behind (a .left) (length (a .bytes .now) - a .left) n (a .bytes .now) (w .read-input .last .1 .0)
+          (inside s) (gave .1))
+          (s .pre .1 .first) (omega (arith, s .pre .1 .room, long))
+          (omega (arith, counted w n e, length-take-le (a .left + n) (buffer w) (within w n e))) (gave .3)
+          (omega (arith, gave .0, gave .2)) (gave .4),
+      k .1,
+    )
 
 last : tie.Need-returns-2
 last c =
     let w : tie.After-read-input = search in
     let told : tie.After-enum-told = search in
     let lasted : tie.After-last = search in
-    turn-last (lasted .last .ensures) (front w)
-    (gave-as (w .read-input .ensures) End (told .enum-told .given .1) .1)
+    let k = lasted .last .ensures in
+    (turn-last (k .0) (front w) (gave-as (w .read-input .ensures) End (told .enum-told .given .1) .1), k .1)
 
 failed : tie.Need-returns-3
 failed c =
@@ -114,9 +117,11 @@ failed c =
     let a = start w .args in
     let kept : length (w .read-input .last .1 .0) ≡ length (a .bytes .now) - a .left = search needs in
     let some : 1 ≤ length (w .read-input .last .1 .0) =
-    omega (arith, kept, start w .pre .1 .short, start w .pre .1 .room) in
-    turn-failed (start w .pre .0) (broken .failed .ensures)
-    (gave-as (w .read-input .ensures) Failed (told .enum-told2 .given .1) .1 some)
+    omega (arith, kept, start w .pre .1 .short, start w .pre .1 .room) in (
+      turn-failed (broken .failed .ensures)
+          (gave-as (w .read-input .ensures) Failed (told .enum-told2 .given .1) .1 some),
+      start w .pre .0,
+    )
 
 pub read-on-spec : {M : Type 1} → statement M
 read-on-spec =

@@ -1,6 +1,7 @@
 -- `report_steps::core::feeding::take_last` meets its contract: the last line, or none. Assumes nothing.
 use Rattle.book_rules.specs.Columns.{Book, bookOf}
-use Rattle.report_steps.proofs.Takings.{last-headless, last-empty, last-refused, last-taken}
+use Rattle.stream.proofs.Takings.{last-headless, last-empty, last-refused, last-taken}
+use Rattle.report_steps.proofs.Takings.{taken-sound}
 use borrow.Author.Needs.{needs}
 use Rattle.report_steps.proofs.core.feeding.take_last.Statement.{statement}
 use Rattle.report_steps.proofs.core.feeding.take_last.Tie as tie
@@ -22,28 +23,29 @@ headless : tie.Need-returns
 headless c =
     let none = c .before in
     let s = start (none .before) in
-    last-headless (s .args .points) (s .args .line) (book s) (s .args .bytes .now) (s .pre .0) (none .if1 .taken)
-    (c .if2 .taken)
+    (last-headless (s .args .line) (book s) (s .args .bytes .now) (none .if1 .taken) (c .if2 .taken), s .pre .0)
 
 empty : tie.Need-returns-2
 empty c =
     let none = c .before in
     let s = start (none .before) in
-    last-empty (s .args .points) (s .args .line) (book s) (s .args .bytes .now) (s .pre .0) (none .if1 .taken)
-    (c .if2 .left)
+    (last-empty (s .args .line) (book s) (s .args .bytes .now) (none .if1 .taken) (c .if2 .left), s .pre .0)
 
 refused : tie.Need-returns-3
 refused c =
     let line = taken (c .before) in
     let s = start (some line .before) in
-    last-refused (line .take-line .ensures) (s .pre .0) (s .pre .1 .0) (some line .if1 .left) (c .if3 .taken)
+    let k = line .take-line .ensures in
+    (last-refused k (s .pre .1 .0) (some line .if1 .left) (c .if3 .taken), taken-sound _ (s .pre .0) k)
 
 accepted : tie.Need-returns-4
 accepted c =
     let line = taken (c .before) in
     let s = start (some line .before) in
-    last-taken (line .take-line .ensures) (s .pre .0) (s .pre .1 .0) (some line .if1 .left) (s .pre .1 .1 .0)
-    (c .if3 .left)
+    let k = line .take-line .ensures in (
+      last-taken k (s .pre .1 .0) (some line .if1 .left) (s .pre .1 .1 .0) (c .if3 .left),
+      taken-sound _ (s .pre .0) k,
+    )
 
 pub take-last-spec : {M : Type 1} → statement M
 take-last-spec =

@@ -1,22 +1,23 @@
 -- `report_steps::core::feeding::take_lines` meets its contract: the lines before `at` are taken. Assumes nothing.
-use mathlib.Core.Path.{_≡_, refl}
+use mathlib.Core.{Path._≡_, Path.refl, Bool.true}
 use Prim.Native.Nat.{_-_, _≤_}
 use native.Mathlib.Omega.{arith}
 use lib.ListN.{length}
 use borrow.Author.Needs.{needs}
-use Rattle.book_rules.specs.Columns.{bookOf}
-use Rattle.report_steps.specs.Reading.{readingAt}
-use Rattle.report_steps.proofs.Takings.{Taking, taking-inside, taking-none, taking-next, taking-refused}
-use Rattle.report_steps.proofs.Takings.{taking-done}
+use Rattle.book_rules.specs.Columns.{bookOf, sound}
+use Rattle.stream.specs.Reading.{readingAt}
+use Rattle.stream.proofs.Takings.{Taking, taking-inside, taking-none, taking-next, taking-refused, taking-done}
+use Rattle.report_steps.specs.Reading.{registerStep}
+use Rattle.report_steps.proofs.Takings.{taken-sound}
 use Rattle.report_steps.proofs.core.feeding.take_lines.Statement.{statement}
 use Rattle.report_steps.proofs.core.feeding.take_lines.Tie as tie
 
 abbrev Inv-loop : tie.InvT-loop
 Inv-loop ids₀ groups₀ marks₀ levels₀ points bytes line at₀ number₀ end₀ ids groups marks levels
     at number end =
-    (Taking points (readingAt 0 line (bookOf ids₀ groups₀ marks₀ levels₀)) bytes at number
+    (Taking (registerStep points) (readingAt 0 line (bookOf ids₀ groups₀ marks₀ levels₀)) bytes at number
     (bookOf ids groups marks levels) end)
-    × (length ids ≡ length ids₀) × (length groups ≡ length groups₀) × (length marks ≡ length marks₀)
+    × (sound points (bookOf ids groups marks levels) ≡ true) × (length ids ≡ length ids₀) × (length groups ≡ length groups₀) × (length marks ≡ length marks₀)
     × (length levels ≡ length levels₀)
 
 abbrev μ-loop : tie.MeasureT-loop
@@ -45,8 +46,8 @@ loop-holds c =
     let a = s .args in
     let b = bookOf (a .ids .now) (a .groups .now) (a .marks .now) (a .levels .now) in
     let none =
-    taking-none (a .points) (a .line) (c .line-end .result) (a .bytes .now) b (s .pre .0) (c .line-end .ensures) in
-    (none, refl, refl, refl, refl)
+    taking-none (a .line) (c .line-end .result) (a .bytes .now) b (c .line-end .ensures) in
+    (none, s .pre .0, refl, refl, refl, refl)
 
 line-starts : tie.Need-part-take-line-start Inv-loop μ-loop
 line-starts c = let entered = c .before .before .before .before in inside (entered .before) .0
@@ -54,7 +55,10 @@ line-starts c = let entered = c .before .before .before .before in inside (enter
 refused : tie.Need-returns Inv-loop μ-loop
 refused c =
     let line = taken (c .before) in
-    taking-refused (turn line .loop .inv .0) (omega arith) (line .take-line .ensures) (c .if1 .taken)
+    let l = turn line .loop .inv in (
+      taking-refused (l .0) (omega arith) (line .take-line .ensures) (c .if1 .taken),
+      taken-sound _ (l .1) (line .take-line .ensures),
+    )
 
 add-number : tie.Need-add-number Inv-loop μ-loop
 add-number c =
@@ -69,16 +73,16 @@ loop-again c =
     let one =
     taking-next k (omega arith) (line .take-line .ensures) (c .line-end2 .result) (next .if1 .left)
     (c .line-end2 .ensures) in
-    (one, search needs, search needs, search needs, search needs)
+    (one, taken-sound _ (turn line .loop .inv .1) (line .take-line .ensures), search needs, search needs, search needs, search needs)
 
 pub take-lines-spec : {M : Type 1} → statement M
 take-lines-spec =
     tie.close (tie.spec Inv-loop μ-loop (λ c κs. omega arith) loop-holds (λ c. inside c .1) line-starts line-starts
     (λ c. let entered = c .before .before .before .before in inside (entered .before) .1)
-    (λ c κs. let lent = c .before .before in lent .before .before .before .before .loop .inv .0 .kept)
+    (λ c κs. let lent = c .before .before in lent .before .before .before .before .loop .inv .1)
     (λ c. search needs) (λ c. search needs) (λ c. search needs) (λ c. search needs) refused
     (λ c. omega (arith, inside (turn (taken (c .before))) .1)) add-number
     (λ c κs. omega (arith, inside (turn (taken (c .before))) .1))
     (λ c. let l = turn (taken (c .before .before)) in omega (arith, inside l .0, inside l .1)) loop-again
     (λ c. search needs) (λ c. search needs) (λ c. search needs) (λ c. search needs)
-    (λ c. taking-done (c .before .loop .inv .0) (omega arith)))
+    (λ c. (taking-done (c .before .loop .inv .0) (omega arith), c .before .loop .inv .1)))

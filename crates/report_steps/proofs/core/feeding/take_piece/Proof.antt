@@ -4,7 +4,9 @@ use mathlib.Core.Path.{_≡_, refl, sym, _∙_}
 use Prim.Native.Nat.{_-_, _≤_}
 use native.Mathlib.Omega.{arith}
 use lib.{ListN.length, ListN.take, ListN.drop, ListN.length-drop, Seq.length-take-le}
-use Rattle.report_steps.proofs.Pieces.{piece-refused, piece-long, piece-left, waiting}
+use Rattle.stream.proofs.Pieces.{piece-refused, piece-long, piece-left, waiting}
+use Rattle.report_steps.specs.Stream.{longestRow}
+use Rattle.report_steps.proofs.LongLines.{longest-register}
 use borrow.Author.Needs.{needs}
 use Rattle.report_steps.proofs.core.feeding.take_piece.Statement.{statement}
 use Rattle.report_steps.proofs.core.feeding.take_piece.Tie as tie
@@ -30,7 +32,7 @@ left-of c =
     length-drop (c .take-lines .result .at) (take (s .args .len) (s .args .bytes .now)) ∙ rw (whole s) refl
 
 begins : (c : tie.After-take-lines) → c .take-lines .result .at ≤ start c .args .len
-begins c = rw (whole (start c)) at (c .take-lines .ensures .within)
+begins c = rw (whole (start c)) at (c .take-lines .ensures .0 .within)
 
 slice-aggregate : tie.Need-slice-aggregate-take-lines
 slice-aggregate c =
@@ -45,11 +47,18 @@ take-lines-requires c κs =
     let s = levels .before .before .before .before in
     (s .pre .0, rw (whole s) (s .pre .1 .1))
 
+refused : tie.Need-returns
+refused c =
+    let k = taken (c .before) .take-lines .ensures in
+    (piece-refused longestRow _ (k .0) (c .if1 .taken), k .1)
+
 long : tie.Need-returns-2
 long c =
     let fine = c .before in
     let lines = taken (fine .before) in
-    piece-long _ (lines .take-lines .ensures) (fine .if1 .left) (rw (left-of lines) (c .if2 .taken))
+    let k = lines .take-lines .ensures in
+    let longest = longest-register (start lines .args .points) in
+    (piece-long longestRow _ (k .0) longest (fine .if1 .left) (rw (left-of lines) (c .if2 .taken)), k .1)
 
 to-front-requires : tie.Need-to-front-requires
 to-front-requires c κs =
@@ -65,13 +74,16 @@ left c =
     let lines = taken (fine .before) in
     let s = start lines in
     let at = lines .take-lines .result .at in
-    piece-left _ (lines .take-lines .ensures) (fine .if1 .left) (rw (left-of lines) (short .if2 .left))
-    (moved .to-front .ensures ∙ sym (waiting (s .args .bytes .now) at (s .args .len) (begins lines) (s .pre .1 .0)))
+    let k = lines .take-lines .ensures in (
+      piece-left longestRow _ (k .0) (fine .if1 .left) (rw (left-of lines) (short .if2 .left))
+          (moved .to-front .ensures ∙ sym (waiting (s .args .bytes .now) at (s .args .len) (begins lines) (s .pre .1 .0))),
+      k .1,
+    )
 
 pub take-piece-spec : {M : Type 1} → statement M
 take-piece-spec =
     tie.close (tie.spec (λ c. search needs) slice-aggregate take-lines-requires (λ c. begins (taken c))
     (λ c. search needs) (λ c. search needs) (λ c. search needs) (λ c. search needs) (λ c. search needs)
-    (λ c. piece-refused _ (taken (c .before) .take-lines .ensures) (c .if1 .taken)) (λ c. search needs)
+    refused (λ c. search needs)
     (λ c. search needs) (λ c. search needs) (λ c. search needs) (λ c. search needs) long to-front-requires
     (λ c. search needs) (λ c. search needs) (λ c. search needs) (λ c. search needs) (λ c. search needs) left)

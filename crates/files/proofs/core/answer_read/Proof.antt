@@ -1,10 +1,10 @@
--- `files::core::answer_whole` meets its contract: a refusal's one line, or the report of the book. Assumes nothing.
+-- `files::core::answer_read` meets its contract: a refusal's one line, or the report of the book. Assumes nothing.
 use Rattle.book_rules.specs.Columns.{Book, bookOf}
 use Rattle.files.proofs.Texts.{sized-refused, sized-report}
 use Rattle.files.specs.Kinds.{tellingOf}
 use borrow.Author.Needs.{needs}
-use Rattle.files.proofs.core.answer_whole.Statement.{statement}
-use Rattle.files.proofs.core.answer_whole.Tie as tie
+use Rattle.files.proofs.core.answer_read.Statement.{statement}
+use Rattle.files.proofs.core.answer_read.Tie as tie
 
 abbrev book : tie.Start → Book
 book s = bookOf (s .args .ids .now) (s .args .groups .now) (s .args .marks .now) (s .args .levels .now)
@@ -24,7 +24,7 @@ returns-2 c =
     sized-report (tellingOf (s .args .kind)) (s .args .limits) (book s) (s .args .read .line) (test .if1 .left)
     (written .put-told .ensures .wrote)
 
-pub answer-whole-spec : {M : Type 1} → statement M
-answer-whole-spec =
+pub answer-read-spec : {M : Type 1} → statement M
+answer-read-spec =
     tie.close (tie.spec (λ c κs. search needs) (λ c. search needs) returns (λ c κs. search needs)
     (λ c κs. search needs) (λ c. search needs) returns-2)
