@@ -8,42 +8,46 @@ use lib.Dec.{eqb, leb, ltb}
 use denote.Ref.{RefT, now}
 use denote.Triple.Both.{Both}
 use Rattle.refusal.specs.Range.{allWithin}
-use Rattle.movement.specs.Limits.{maxRows, maxPoints, maxIdentity, maxLevel, groupCount}
+use Rattle.movement.specs.Limits.{maxRows, maxPoints, maxIdentity, maxCount, maxLevel, groupCount}
+use Rattle.movement.specs.Rules.{zeroElsewhere}
 
--- four columns: one identity, group and mark a row, and as many levels a row as there are points
+-- five columns: one identity, group and mark a row, and for each point whether the row counts there and its level
 pub record Book : Type 0 where
   pub identities : List ℕ
   pub groups : List ℕ
   pub marks : List ℕ
+  pub counts : List ℕ
   pub levels : List ℕ
 
-abbrev pub bookOf : (identities groups marks levels : List ℕ) → Book
-bookOf ids gs ms ls = record { identities = ids; groups = gs; marks = ms; levels = ls }
+abbrev pub bookOf : (identities groups marks counts levels : List ℕ) → Book
+bookOf ids gs ms cs ls = record { identities = ids; groups = gs; marks = ms; counts = cs; levels = ls }
 
--- a column that is lent, at entry and at exit; and the book of four lent columns: now, before the call and after it
+-- a column that is lent, at entry and at exit; and the book of five lent columns: now, before the call and after it
 abbrev pub LentColumn : Type 0
 LentColumn = Both (RefT (List ℕ)) (RefT (List ℕ))
 
-abbrev pub bookNow : (ids groups marks levels : RefT (List ℕ)) → Book
-bookNow ids gs ms ls = bookOf (now ids) (now gs) (now ms) (now ls)
+abbrev pub bookNow : (ids groups marks counts levels : RefT (List ℕ)) → Book
+bookNow ids gs ms cs ls = bookOf (now ids) (now gs) (now ms) (now cs) (now ls)
 
-abbrev pub bookBefore : (ids groups marks levels : LentColumn) → Book
-bookBefore ids gs ms ls = bookOf (now (ids .entry)) (now (gs .entry)) (now (ms .entry)) (now (ls .entry))
+abbrev pub bookBefore : (ids groups marks counts levels : LentColumn) → Book
+bookBefore ids gs ms cs ls = bookNow (ids .entry) (gs .entry) (ms .entry) (cs .entry) (ls .entry)
 
-abbrev pub bookAfter : (ids groups marks levels : LentColumn) → Book
-bookAfter ids gs ms ls = bookOf (now (ids .exit)) (now (gs .exit)) (now (ms .exit)) (now (ls .exit))
+abbrev pub bookAfter : (ids groups marks counts levels : LentColumn) → Book
+bookAfter ids gs ms cs ls = bookNow (ids .exit) (gs .exit) (ms .exit) (cs .exit) (ls .exit)
 
 -- Soundness
 
 -- points and rows in range, and columns that fit, by their lengths
-unfoldable pub shapeFits : (points rows groups marks levels : ℕ) → Bool
-shapeFits points rows groups marks levels =
+unfoldable pub shapeFits : (points rows groups marks counts levels : ℕ) → Bool
+shapeFits points rows groups marks counts levels =
     (leb 1 points && leb points maxPoints)
     && ((leb 1 rows && leb rows maxRows)
-    && ((eqb groups rows && eqb marks rows) && eqb levels (rows * points)))
+    && ((eqb groups rows && eqb marks rows) && (eqb counts (rows * points) && eqb levels (rows * points))))
 
 unfoldable pub shaped : ℕ → Book → Bool
-shaped p b = shapeFits p (length (b .identities)) (length (b .groups)) (length (b .marks)) (length (b .levels))
+shaped p b =
+    shapeFits p (length (b .identities)) (length (b .groups)) (length (b .marks)) (length (b .counts))
+    (length (b .levels))
 
 -- y may stand right after x: it is unused, or x is used and lower
 unfoldable pub follows : ℕ → ℕ → Bool
@@ -66,18 +70,29 @@ headSound x g m = cond (eqb x 0) (eqb g 0 && eqb m 0) (leb x maxIdentity && (ltb
 unfoldable pub topLevel : ℕ → ℕ
 topLevel m = cond (eqb m 0) 0 maxLevel
 
-unfoldable pub rowSound : (identity group mark : ℕ) (levels : List ℕ) → Bool
-rowSound x g m ls = headSound x g m && allWithin (topLevel m) ls
+-- the highest number that stands for where a row counts: 0 where it is unused
+unfoldable pub topCount : ℕ → ℕ
+topCount x = cond (eqb x 0) 0 maxCount
 
-unfoldable pub rowsSound : (points : ℕ) (identities groups marks levels : List ℕ) → Bool
-rowsSound p [] gs ms ls = true
-rowsSound p (x ∷ xs) [] ms ls = true
-rowsSound p (x ∷ xs) (g ∷ gs) [] ls = true
-rowsSound p (x ∷ xs) (g ∷ gs) (m ∷ ms) ls = rowSound x g m (take p ls) && rowsSound p xs gs ms (drop p ls)
+-- a row's values point by point: where it counts, and its levels, zero where it doesn't count
+unfoldable pub cellsSound : (identity mark : ℕ) (counts levels : List ℕ) → Bool
+cellsSound x m cs ls = allWithin (topCount x) cs && (allWithin (topLevel m) ls && zeroElsewhere cs ls)
+
+unfoldable pub rowSound : (identity group mark : ℕ) (counts levels : List ℕ) → Bool
+rowSound x g m cs ls = headSound x g m && cellsSound x m cs ls
+
+unfoldable pub rowsSound : (points : ℕ) (identities groups marks counts levels : List ℕ) → Bool
+rowsSound p [] gs ms cs ls = true
+rowsSound p (x ∷ xs) [] ms cs ls = true
+rowsSound p (x ∷ xs) (g ∷ gs) [] cs ls = true
+rowsSound p (x ∷ xs) (g ∷ gs) (m ∷ ms) cs ls =
+    rowSound x g m (take p cs) (take p ls) && rowsSound p xs gs ms (drop p cs) (drop p ls)
 
 unfoldable pub sound : ℕ → Book → Bool
 sound p b =
-    shaped p b && (rising (b .identities) && rowsSound p (b .identities) (b .groups) (b .marks) (b .levels))
+    shaped p b
+    && (rising (b .identities)
+    && rowsSound p (b .identities) (b .groups) (b .marks) (b .counts) (b .levels))
 
 -- Places
 
@@ -96,6 +111,10 @@ stands x xs = ltb (indexOf x xs) (length xs)
 -- the place of a new identity x: the first row that is unused or not lower
 unfoldable pub placeOf : ℕ → List ℕ → ℕ
 placeOf x xs = firstAt (λ y. eqb y 0 || leb x y) xs
+
+-- the p values that row k has in a column of one a point
+unfoldable pub cellsAt : (points row : ℕ) → List ℕ → List ℕ
+cellsAt p k xs = take p (drop (k * p) xs)
 
 -- Changes of one column, at an index of it; values that take the place of as many others are `put` there (crate room)
 

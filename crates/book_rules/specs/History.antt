@@ -8,7 +8,7 @@ use lib.ListN.{length, replicate}
 use lib.Dec.{eqb, leb, ltb}
 use Rattle.refusal.specs.Refuse.{refuse}
 use Rattle.movement.specs.Limits.{maxRows, maxPoints}
-use Rattle.movement.specs.Rules.{movementRefusal, identityFits, levelsFit}
+use Rattle.movement.specs.Rules.{movementRefusal, identityFits, levelsFit, countsFit, zeroElsewhere}
 use Rattle.movement.specs.Group.{groupOf}
 use Rattle.book_rules.specs.Columns.{Book, bookOf, sound}
 use Rattle.book_rules.specs.Calls.{Call, refusedOr, refusal, after}
@@ -21,13 +21,15 @@ pub data Held : Type 0 where
   none : Held
   holds : List ℕ → Held
 
+-- a movement: counts has one number a point, 1 where it counts and 0 where it doesn't
 pub record Movement : Type 0 where
   pub identity : ℕ
   pub group : ℕ
+  pub counts : List ℕ
   pub held : Held
 
-abbrev pub movement : ℕ → ℕ → Held → Movement
-movement x g h = record { identity = x; group = g; held = h }
+abbrev pub movement : (identity group : ℕ) (counts : List ℕ) → Held → Movement
+movement x g cs h = record { identity = x; group = g; counts = cs; held = h }
 
 -- a movement more, in rising identity
 unfoldable pub added : Movement → List Movement → List Movement
@@ -37,7 +39,8 @@ added m (a ∷ ms) = cond (leb (m .identity) (a .identity)) (m ∷ (a ∷ ms)) (
 -- the movement of identity x now holds h
 unfoldable pub holding : ℕ → Held → List Movement → List Movement
 holding x h [] = []
-holding x h (a ∷ ms) = cond (eqb (a .identity) x) (movement (a .identity) (a .group) h ∷ ms) (a ∷ holding x h ms)
+holding x h (a ∷ ms) =
+    cond (eqb (a .identity) x) (movement (a .identity) (a .group) (a .counts) h ∷ ms) (a ∷ holding x h ms)
 
 -- the movement of identity x is gone
 unfoldable pub without : ℕ → List Movement → List Movement
@@ -46,7 +49,7 @@ without x (a ∷ ms) = cond (eqb (a .identity) x) ms (a ∷ without x ms)
 
 -- what an accepted call does to the list of movements
 unfoldable pub step : List Movement → Call → List Movement
-step ms (enter x t k s m) = added (movement x (groupOf t k s) none) ms
+step ms (enter x t k s m cs) = added (movement x (groupOf t k s) cs none) ms
 step ms (supply x ls) = holding x (holds ls) ms
 step ms (takeBack x) = holding x none ms
 step ms (withdraw x) = without x ms
@@ -80,21 +83,28 @@ unfoldable pub computed : ℕ → List Movement → Bool
 computed x [] = false
 computed x (a ∷ ms) = cond (eqb (a .identity) x) (hasLevels (a .held)) (computed x ms)
 
+-- where the movement of identity x counts
+unfoldable pub countsFor : ℕ → List Movement → List ℕ
+countsFor x [] = []
+countsFor x (a ∷ ms) = cond (eqb (a .identity) x) (a .counts) (countsFor x ms)
+
 -- points and rows in range
 unfoldable pub sizesFit : ℕ → ℕ → Bool
 sizesFit p n = (leb 1 p && leb p maxPoints) && (leb 1 n && leb n maxRows)
 
 -- the refusal of a call where these movements stand, in a book of n rows and p points, as the rules say
 unfoldable pub standingRefusal : (points rows : ℕ) (standing : List Movement) (call : Call) → ℕ
-standingRefusal p n ms (enter x t k s m) =
-    refusedOr (movementRefusal t k s m)
+standingRefusal p n ms (enter x t k s m cs) =
+    refuse 9 (countsFit p cs)
+    (refusedOr (movementRefusal t k s m)
     (refuse 3 (identityFits x)
     (refuse 4 (not (standing x ms))
-    (refuse 6 (ltb (length ms) n) 0)))
+    (refuse 6 (ltb (length ms) n) 0))))
 standingRefusal p n ms (supply x ls) =
     refuse 3 (identityFits x)
     (refuse 7 (levelsFit p ls)
-    (refuse 5 (standing x ms) 0))
+    (refuse 5 (standing x ms)
+    (refuse 19 (zeroElsewhere (countsFor x ms) ls) 0)))
 standingRefusal p n ms (takeBack x) =
     refuse 3 (identityFits x)
     (refuse 5 (standing x ms)
@@ -167,6 +177,9 @@ groupCell a = a .group ∷ []
 abbrev pub markCell : Movement → List ℕ
 markCell a = markOf (a .held) ∷ []
 
+abbrev pub countCells : Movement → List ℕ
+countCells a = a .counts
+
 abbrev pub levelCells : ℕ → Movement → List ℕ
 levelCells p a = levelsOf p (a .held)
 
@@ -174,11 +187,11 @@ levelCells p a = levelsOf p (a .held)
 unfoldable pub rowsOf : (points unused : ℕ) → List Movement → Book
 rowsOf p unused ms =
     bookOf (column identityCell 1 unused ms) (column groupCell 1 unused ms) (column markCell 1 unused ms)
-    (column (levelCells p) p unused ms)
+    (column countCells p unused ms) (column (levelCells p) p unused ms)
 
 -- n rows, all unused
 unfoldable pub emptyBook : (points rows : ℕ) → Book
-emptyBook p n = bookOf (replicate n 0) (replicate n 0) (replicate n 0) (replicate (n * p) 0)
+emptyBook p n = bookOf (replicate n 0) (replicate n 0) (replicate n 0) (replicate (n * p) 0) (replicate (n * p) 0)
 
 -- The theorem's statement
 

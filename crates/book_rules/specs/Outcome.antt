@@ -1,11 +1,13 @@
 -- What a call on a book means for whoever makes it: every outcome that its contract allows. Assumes nothing.
-use Prim.Native.Nat.{ℕ, _≤_}
+use Prim.Native.Nat.{ℕ, _≤_, _<_}
 use mathlib.Core.Path.{_≡_}
 use mathlib.Core.List.{List}
-use lib.ListN.{length}
+use lib.ListN.{length, replicate}
 use Rattle.book_rules.specs.Columns.{Book}
-use Rattle.book_rules.specs.Calls.{Call}
+use Rattle.book_rules.specs.Calls.{Call, refusal}
+use Rattle.book_rules.specs.Calls.Call.{enter}
 use Rattle.book_rules.specs.History.{Made, movements, booked, emptyBook}
+use Rattle.book_rules.specs.Reasons.{Fields, Full}
 use Rattle.book_rules.specs.SoundBook.{SoundBook}
 use Rattle.book_rules.specs.Lookup.{found, listed, Does}
 use Rattle.book_rules.specs.Lookup.Row.{nowhere}
@@ -29,6 +31,12 @@ pub record EmptyHolds (p n : ℕ) : Type 0 where
   pub rows : length (emptyBook p n .identities) ≡ n
   pub none : (x : ℕ) → 1 ≤ x → found x p (emptyBook p n) ≡ nowhere
   pub sound= : (1 ≤ p) × (p ≤ 8) → (1 ≤ n) × (n ≤ 50000) → SoundBook p (emptyBook p n)
+
+-- a movement may count at no point: it is entered as any other
+abbrev pub MayCountNowhere : (p : ℕ) (b : Book) → Type 0
+MayCountNowhere p b =
+    (x t k s m : ℕ) → SoundBook p b → Fields t k s m → 150 < m → (1 ≤ x) × (x ≤ 99999)
+    → found x p b ≡ nowhere → (Full b → ⊥) → refusal p b (enter x t k s m (replicate p 0)) ≡ 0
 
 -- look-up says everything: two sound books of as many rows in which each identity is found alike are one
 abbrev pub FoundAlike : (p : ℕ) (b b′ : Book) → Type 0

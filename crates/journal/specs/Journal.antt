@@ -1,6 +1,6 @@
 -- A journal: a sequence of calls as numbers, one after the other, and what making them all gives. Assumes nothing.
---   1 enter: identity, type, kind, time, mass      2 supply: identity, how many levels follow, those levels
---   3 take back: identity                          4 withdraw: identity
+--   1 enter: identity, type, kind, time, mass, how many yes and no follow, those
+--   2 supply: identity, how many levels follow, those levels     3 take back: identity     4 withdraw: identity
 use Prim.Native.Nat.{ℕ, zero, suc, _+_, _-_}
 use mathlib.Core.Path.{_≡_}
 use mathlib.Core.Bool.{Bool, true, cond, _&&_, _||_}
@@ -19,13 +19,14 @@ use Rattle.book_rules.specs.History.{Made, made, booked, answered}
 -- how many numbers the call at the front has, by its first number; 0 where that is none of 1 to 4
 unfoldable pub widthOf : List ℕ → ℕ
 widthOf j =
-    cond (eqb (getD j 0 0) 1) 6
+    cond (eqb (getD j 0 0) 1) (7 + getD j 6 0)
     (cond (eqb (getD j 0 0) 2) (3 + getD j 2 0)
     (cond (eqb (getD j 0 0) 3 || eqb (getD j 0 0) 4) 2 0))
 
 -- an *enter* and a *supply* at the front
 abbrev pub enterAt : List ℕ → Call
-enterAt j = enter (getD j 1 0) (getD j 2 0) (getD j 3 0) (getD j 4 0) (getD j 5 0)
+enterAt j =
+    enter (getD j 1 0) (getD j 2 0) (getD j 3 0) (getD j 4 0) (getD j 5 0) (take (getD j 6 0) (drop 7 j))
 
 abbrev pub supplyAt : List ℕ → Call
 supplyAt j = supply (getD j 1 0) (take (getD j 2 0) (drop 3 j))

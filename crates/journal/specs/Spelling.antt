@@ -9,7 +9,7 @@ use Rattle.book_rules.specs.Calls.Call.{enter, supply, takeBack, withdraw}
 use Rattle.journal.specs.Journal.{callsOf, laidOut}
 
 unfoldable pub spelled : Call → List ℕ
-spelled (enter x t k s m) = 1 ∷ x ∷ t ∷ k ∷ s ∷ m ∷ []
+spelled (enter x t k s m cs) = 1 ∷ x ∷ t ∷ k ∷ s ∷ m ∷ length cs ∷ cs
 spelled (supply x ls) = 2 ∷ x ∷ length ls ∷ ls
 spelled (takeBack x) = 3 ∷ x ∷ []
 spelled (withdraw x) = 4 ∷ x ∷ []
@@ -21,8 +21,8 @@ journalOf (c ∷ cs) = spelled c ++ journalOf cs
 -- how a journal is read, number by number
 pub record Spelled : Type 0 where
   pub nothing : callsOf [] ≡ []
-  pub enter= : (x t k s m : ℕ) (rest : List ℕ)
-      → callsOf (1 ∷ x ∷ t ∷ k ∷ s ∷ m ∷ rest) ≡ enter x t k s m ∷ callsOf rest
+  pub enter= : (x t k s m : ℕ) (cs rest : List ℕ)
+      → callsOf (1 ∷ x ∷ t ∷ k ∷ s ∷ m ∷ length cs ∷ (cs ++ rest)) ≡ enter x t k s m cs ∷ callsOf rest
   pub supply= : (x : ℕ) (ls rest : List ℕ)
       → callsOf (2 ∷ x ∷ length ls ∷ (ls ++ rest)) ≡ supply x ls ∷ callsOf rest
   pub take-back= : (x : ℕ) (rest : List ℕ) → callsOf (3 ∷ x ∷ rest) ≡ takeBack x ∷ callsOf rest

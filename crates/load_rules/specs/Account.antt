@@ -11,14 +11,14 @@ use Rattle.level.specs.Level.{levelGiven, levelValue}
 use Rattle.level.specs.Neighbours.{Quotient}
 use Rattle.movement.specs.Limits.{groupCount}
 use Rattle.book_rules.specs.Columns.{Book}
-use Rattle.book_rules.specs.History.{Made, emptyBook, booked, movements}
+use Rattle.book_rules.specs.History.{Made, emptyBook, booked}
 use Rattle.load_rules.specs.declared.Group.{Group}
 use Rattle.load_rules.specs.declared.Load.{Load}
 use Rattle.load_rules.specs.Shares.{bookShares}
 use Rattle.load_rules.specs.Tally.{tally}
 use Rattle.load_rules.specs.Factors.{Fraction, sumTo, generalFactor}
 use Rattle.load_rules.specs.Load.{countsOf, scaledEnergy, scaledSum, answer}
-use Rattle.load_rules.specs.Afresh.{computedIn, missingIn, energyOfGroup, countsAt, loadAfter}
+use Rattle.load_rules.specs.Afresh.{computedIn, missingIn, energyOfGroup, countsAt, loadAfter, standingAt}
 
 -- V, U, S and the scaled energy of a group
 abbrev pub groupNumbers : Group → List ℕ
@@ -85,8 +85,9 @@ pub record AccountTells (v u s : ℕ → ℕ) (load : Load) (numbers : List ℕ)
 abbrev pub accountAfter : (p n pt : ℕ) (calls : List Made) (days : ℕ) → List ℕ
 accountAfter p n pt cs days = accountOf p pt (booked (emptyBook p n) cs) days
 
--- where its load is answered: V, U and S are those of the movements that stand, and V+U+W is their number
+-- where its load is answered: V, U and S are those of the movements that stand and count at the point, and V+U+W is
+-- their number
 pub record AccountsEach (p n pt : ℕ) (cs : List Made) (days : ℕ) : Type 0 where
-  pub tells : AccountTells (λ g. computedIn g (movements p n cs)) (λ g. missingIn g (movements p n cs))
-      (λ g. energyOfGroup pt g (movements p n cs)) (loadAfter p n pt cs days) (accountAfter p n pt cs days)
-  pub standing : getD (accountAfter p n pt cs days) 72 0 ≡ length (movements p n cs)
+  pub tells : AccountTells (λ g. computedIn g (standingAt p n pt cs)) (λ g. missingIn g (standingAt p n pt cs))
+      (λ g. energyOfGroup pt g (standingAt p n pt cs)) (loadAfter p n pt cs days) (accountAfter p n pt cs days)
+  pub standing : getD (accountAfter p n pt cs days) 72 0 ≡ length (standingAt p n pt cs)

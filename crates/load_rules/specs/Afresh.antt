@@ -18,7 +18,7 @@ use Rattle.book_rules.specs.History.Held.{none, holds}
 use Rattle.load_rules.specs.declared.Counts.{Counts}
 use Rattle.load_rules.specs.declared.Load.{Load}
 use Rattle.load_rules.specs.declared.Judged.{Judged}
-use Rattle.load_rules.specs.Shares.{sharesOf}
+use Rattle.load_rules.specs.Shares.{countingAt, Everywhere, sharesOf}
 use Rattle.load_rules.specs.Factors.{Fraction, wholeFraction, times, plus, Equal, scaledBy}
 use Rattle.load_rules.specs.Factors.{sumTo, groupFactor, generalFactor}
 use Rattle.load_rules.specs.Load.{daysFit, loadOf, bookLoad}
@@ -26,12 +26,12 @@ use Rattle.load_rules.specs.Verdict.{refusalNumber, overNumber, judgedOf
 use Rattle.load_rules.specs.Refusals.{InRange, DaysInRange, LimitInRange, NoneHeld, NoneComputed}
 use Rattle.load_rules.specs.Refusals.{LoadNumbers, VerdictNumbers}
 
--- the load and the verdict at point pt of movements in a book of n rows and p points
+-- the load and the verdict at point pt of movements in a book of n rows and p points: those that count there
 unfoldable pub listLoad : (p n pt : ℕ) (movements : List Movement) (days : ℕ) → Load
-listLoad p n pt ms days = loadOf (sizesFit p n && ltb pt p) (sharesOf pt ms) days
+listLoad p n pt ms days = loadOf (sizesFit p n && ltb pt p) (sharesOf pt (countingAt pt ms)) days
 
 unfoldable pub listVerdict : (p n pt : ℕ) (movements : List Movement) (days limit : ℕ) → Judged
-listVerdict p n pt ms days limit = judgedOf (sizesFit p n && ltb pt p) (sharesOf pt ms) days limit
+listVerdict p n pt ms days limit = judgedOf (sizesFit p n && ltb pt p) (sharesOf pt (countingAt pt ms)) days limit
 
 -- Each movement, one by one
 
@@ -58,24 +58,33 @@ unfoldable pub energyOfGroup : (pt g : ℕ) → List Movement → ℕ
 energyOfGroup pt g [] = 0
 energyOfGroup pt g (m ∷ ms) = cond (eqb (m .group) g) (heldEnergy pt (m .group) (m .held)) 0 + energyOfGroup pt g ms
 
--- V, U and S of group g at point pt, over these movements
+-- V, U and S of group g at point pt, over those of these movements that count there
 pub record Brought (pt g : ℕ) (ms : List Movement) (v u s : ℕ) : Type 0 where
-  pub computed : computedIn g ms ≡ v
-  pub missing : missingIn g ms ≡ u
-  pub energy : energyOfGroup pt g ms ≡ s
+  pub computed : computedIn g (countingAt pt ms) ≡ v
+  pub missing : missingIn g (countingAt pt ms) ≡ u
+  pub energy : energyOfGroup pt g (countingAt pt ms) ≡ s
 
 -- what movements bring, by look-up: nothing by none, each its own to its own group, and two lists the sum of both
 pub record EachBrings (pt : ℕ) : Type 0 where
   pub nobody : (g : ℕ) → Brought pt g [] 0 0 0
   -- a computed one counts in V, with the energy of its level at the point and 0, 500 or 1,000 hundredths by its period
-  pub computed : (x g : ℕ) (ls : List ℕ)
-      → Brought pt g (movement x g (holds ls) ∷ []) 1 0 (energyOf (getD ls pt 0 + 500 * (g % 3)))
+  pub computed : (x g : ℕ) (cs ls : List ℕ) → getD cs pt 0 ≡ 1
+      → Brought pt g (movement x g cs (holds ls) ∷ []) 1 0 (energyOf (getD ls pt 0 + 500 * (g % 3)))
   -- any other in U, with no energy
-  pub missing : (x g : ℕ) → Brought pt g (movement x g none ∷ []) 0 1 0
+  pub missing : (x g : ℕ) (cs : List ℕ) → getD cs pt 0 ≡ 1 → Brought pt g (movement x g cs none ∷ []) 0 1 0
   pub elsewhere : (g : ℕ) (m : Movement) → ¬ (m .group ≡ g) → Brought pt g (m ∷ []) 0 0 0
-  pub joined : (g : ℕ) (xs ys : List Movement) → Brought pt g (xs ++ ys)
-      (computedIn g xs + computedIn g ys) (missingIn g xs + missingIn g ys)
-      (energyOfGroup pt g xs + energyOfGroup pt g ys)
+  -- one that doesn't count at the point brings nothing to any group
+  pub not-there : (g : ℕ) (m : Movement) → getD (m .counts) pt 0 ≡ 0 → Brought pt g (m ∷ []) 0 0 0
+  pub joined : (g v u s v′ u′ s′ : ℕ) (xs ys : List Movement) → Brought pt g xs v u s → Brought pt g ys v′ u′ s′
+      → Brought pt g (xs ++ ys) (v + v′) (u + u′) (s + s′)
+  -- those that count at the point are kept in their order, those that don't are left out
+  pub left-none : countingAt pt [] ≡ []
+  pub kept : (m : Movement) (ms : List Movement) → getD (m .counts) pt 0 ≡ 1
+      → countingAt pt (m ∷ ms) ≡ m ∷ countingAt pt ms
+  pub left-out : (m : Movement) (ms : List Movement) → getD (m .counts) pt 0 ≡ 0
+      → countingAt pt (m ∷ ms) ≡ countingAt pt ms
+  -- all of them, where each counts everywhere
+  pub everybody : (p : ℕ) (ms : List Movement) → pt < p → Everywhere p ms → countingAt pt ms ≡ ms
   -- and one is computed exactly if not every one lacks levels
   pub some : (ms : List Movement) → someComputed ms ≡ false ↔ NoneHeld ms
 
@@ -107,12 +116,12 @@ pub record TotalHolds (v u s : ℕ → ℕ) (total : ℕ) : Type 0 where
   pub total-is : 0 < known → Quotient (sumTo gives 18 * (known + unknown)) known total
   pub empty : known ≡ 0 → total ≡ 0
 
--- what an answered load over these days says of the movements that stand
+-- what an answered load over these days says of the movements that stand and count at the point
 pub record CountsEach (a : Load) (pt : ℕ) (ms : List Movement) (days : ℕ) : Type 0 where
   -- its V and U are those of the list
   pub computed : (g : ℕ) → g < groupCount → countsAt a g .computed ≡ computedIn g ms
   pub missing : (g : ℕ) → g < groupCount → countsAt a g .missing ≡ missingIn g ms
-  -- and add up to the number standing
+  -- and add up to the number standing that count there
   pub standing : sumTo (λ g. countsAt a g .computed + countsAt a g .missing) groupCount ≡ length ms
   -- where one is computed, the computed ones times both factors add up to the number standing
   pub weighed : someComputed ms ≡ true → Equal (weightTo (countsAt a) groupCount) (wholeFraction (length ms))
@@ -135,6 +144,12 @@ pub record Alone (a : Load) : Type 0 where
   pub level : levelGiven (a .level) ≡ 0
   pub counts : (g : ℕ) → g < 18 → (countsAt a g .computed ≡ 0) × (countsAt a g .missing ≡ 0)
 
+-- the answer where nobody counts at the point
+pub record NobodyThere (a : Load) : Type 0 where
+  pub answered : a .refused ≡ 0
+  pub total : a .total ≡ 0
+  pub below : levelGiven (a .level) ≡ 0
+
 -- the load and the verdict at point pt after calls cs, refused ones included, on an empty book of n rows and p points
 abbrev pub loadAfter : (p n pt : ℕ) (calls : List Made) (days : ℕ) → Load
 loadAfter p n pt cs days = bookLoad p pt (booked (emptyBook p n) cs) days
@@ -142,24 +157,31 @@ loadAfter p n pt cs days = bookLoad p pt (booked (emptyBook p n) cs) days
 abbrev pub verdictAfter : (p n pt : ℕ) (calls : List Made) (days limit : ℕ) → Judged
 verdictAfter p n pt cs days limit = bookVerdict p pt (booked (emptyBook p n) cs) days limit
 
--- Demand 3, after any calls
+-- the movements that such calls leave standing and that count at point pt
+abbrev pub standingAt : (p n pt : ℕ) (calls : List Made) → List Movement
+standingAt p n pt cs = countingAt pt (movements p n cs)
+
+-- Demand 3, after any calls, at each point
 pub record EachCountedOnce (p n pt : ℕ) (cs : List Made) (days : ℕ) : Type 0 where
   -- load and verdict are those worked afresh from the list of movements
   pub afresh : loadAfter p n pt cs days ≡ listLoad p n pt (movements p n cs) days
   pub verdict : (limit : ℕ) → verdictAfter p n pt cs days limit ≡ listVerdict p n pt (movements p n cs) days limit
-  -- where one is computed, the load is not refused
-  pub answered : sizesFit p n ≡ true → pt < p → daysFit days ≡ true → someComputed (movements p n cs) ≡ true
+  -- where one that counts there is computed, the load is not refused
+  pub answered : sizesFit p n ≡ true → pt < p → daysFit days ≡ true → someComputed (standingAt p n pt cs) ≡ true
       → loadAfter p n pt cs days .refused ≡ 0
-  -- and one that is not refused counts each movement
+  -- and one that is not refused counts each movement that counts there
   pub counts : loadAfter p n pt cs days .refused ≡ 0
-      → CountsEach (loadAfter p n pt cs days) pt (movements p n cs) days
+      → CountsEach (loadAfter p n pt cs days) pt (standingAt p n pt cs) days
+  -- where nobody counts, whoever stands elsewhere, the total is 0 and the level below zero
+  pub nobody : InRange p n pt → DaysInRange days → length (standingAt p n pt cs) ≡ 0
+      → NobodyThere (loadAfter p n pt cs days)
   -- each refusal is given exactly where its reason holds and no earlier one does, and alone
-  pub refusals : LoadNumbers (InRange p n pt) (DaysInRange days) (NoneComputed (movements p n cs))
+  pub refusals : LoadNumbers (InRange p n pt) (DaysInRange days) (NoneComputed (standingAt p n pt cs))
       (loadAfter p n pt cs days .refused)
   pub alone : ¬ (loadAfter p n pt cs days .refused ≡ 0) → Alone (loadAfter p n pt cs days)
   -- of a verdict too
   pub verdict-refusals : (limit : ℕ)
-      → VerdictNumbers (InRange p n pt) (DaysInRange days) (LimitInRange limit) (NoneComputed (movements p n cs))
+      → VerdictNumbers (InRange p n pt) (DaysInRange days) (LimitInRange limit) (NoneComputed (standingAt p n pt cs))
       (refusalNumber (verdictAfter p n pt cs days limit))
   -- a verdict is over exactly if it is given, and the load over the same days has a level, greater than the limit
   pub over : (limit : ℕ) → overNumber (verdictAfter p n pt cs days limit) ≡ 1

@@ -6,3 +6,4 @@ pub mod Verdict
 pub mod Refusals
 pub mod Afresh
 pub mod Account
+pub mod Elsewhere

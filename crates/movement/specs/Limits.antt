@@ -12,6 +12,10 @@ maxPoints = 8
 abbrev pub maxIdentity : ℕ
 maxIdentity = 99999
 
+-- whether a movement counts at a point: 1 yes, 0 no
+abbrev pub maxCount : ℕ
+maxCount = 1
+
 -- exposure levels and limits, in hundredths of a dB
 abbrev pub maxLevel : ℕ
 maxLevel = 12000

@@ -9,6 +9,7 @@ use lib.ListN.{length, getD}
 use Rattle.movement.specs.Period.{periodOf, periodNumber, weightOf}
 use Rattle.movement.specs.Group.{groupOf, groupPeriod}
 use Rattle.movement.specs.Rules.{fieldsFit, counts, movementRefusal, identityFits, levelsFit}
+use Rattle.movement.specs.Rules.{countsFit, zeroElsewhere}
 
 -- type 0 to 2, kind 0 or 1, a second of the day, up to 1,000,000 kg, and no small movement of 6,000 kg or more
 pub record FieldsInRange (type kind second mass : ℕ) : Type 0 where
@@ -23,6 +24,15 @@ pub record LevelsInRange (points : ℕ) (levels : List ℕ) : Type 0 where
   pub one-a-point : length levels ≡ points
   pub level-most : (i : ℕ) → i < length levels → getD levels i 0 ≤ 12000
 
+-- as many numbers as points, each yes or no
+pub record CountsInRange (points : ℕ) (counts : List ℕ) : Type 0 where
+  pub one-a-point : length counts ≡ points
+  pub yes-or-no : (i : ℕ) → i < length counts → getD counts i 0 ≤ 1
+
+-- a level is zero wherever the movement doesn't count
+abbrev pub ZeroElsewhere : (points : ℕ) (counts levels : List ℕ) → Type 0
+ZeroElsewhere points cs ls = (j : ℕ) → j < points → getD cs j 0 ≡ 0 → getD ls j 0 ≡ 0
+
 pub record RangesHold : Type 0 where
   -- rule 1
   pub fields : (type kind second mass : ℕ)
@@ -33,6 +43,11 @@ pub record RangesHold : Type 0 where
   pub identity : (x : ℕ) → identityFits x ≡ true ↔ (1 ≤ x) × (x ≤ 99999)
   -- rule 7
   pub levels : (points : ℕ) (ls : List ℕ) → levelsFit points ls ≡ true ↔ LevelsInRange points ls
+  -- yes or no for each point
+  pub counts= : (points : ℕ) (cs : List ℕ) → countsFit points cs ≡ true ↔ CountsInRange points cs
+  -- rule 19, where there is one of each a point
+  pub elsewhere : (points : ℕ) (cs ls : List ℕ) → length cs ≡ points → length ls ≡ points
+      → zeroElsewhere cs ls ≡ true ↔ ZeroElsewhere points cs ls
   -- 1 exactly where rule 1 is broken, 2 exactly where rule 1 holds and the mass is 150 kg or less
   pub one : (type kind second mass : ℕ)
       → movementRefusal type kind second mass ≡ 1 ↔ ¬ FieldsInRange type kind second mass

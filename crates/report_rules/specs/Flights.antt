@@ -5,7 +5,7 @@ use Prim.Native.Char.{code}
 use mathlib.Core.Path.{_≡_}
 use mathlib.Core.Bool.{Bool, true, cond, not}
 use mathlib.Core.List.{List, [], _∷_}
-use lib.ListN.{length, getD, take, drop}
+use lib.ListN.{length, getD, take, drop, replicate}
 use lib.Dec.{eqb, ltb}
 use Rattle.level.specs.declared.Level.{Level}
 use Rattle.level.specs.Level.{levelGiven, levelValue}
@@ -35,11 +35,12 @@ use Rattle.report_rules.specs.Report.{bookRows, reportOf}
 abbrev pub rowsIn : List ℕ → List (List ℕ)
 rowsIn register = drop 1 (linesOf register)
 
--- a row's movement: identity, group by type, kind and time, and its levels, or none where they are blank
+-- a row's movement: identity, group by type, kind and time, counting at every point, and its levels, or none where
+-- they are blank
 abbrev pub flightOf : ℕ → Layout → Movement
 flightOf p row =
     movement (row .fields .identity) (groupOf (row .fields .ty) (row .fields .kind) (row .fields .time))
-    (cond (eqb (row .fields .computed) 0) none (holds (take p (row .levels))))
+    (replicate p 1) (cond (eqb (row .fields .computed) 0) none (holds (take p (row .levels))))
 
 -- a flight is a row over 150 kg
 unfoldable pub flightsIn : ℕ → List (List ℕ) → List Movement

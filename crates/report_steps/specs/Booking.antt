@@ -17,8 +17,8 @@ use Rattle.report_steps.specs.Reading.{Reading, registerStep}
 -- a row on its layout: *enter*, and where that is accepted and its levels are not blank, *supply*
 unfoldable pub layoutCalls : ℕ → Book → Layout → List Made
 layoutCalls p b l =
-    made p (entering l)
-    ∷ cond (eqb (refusal p b (entering l)) 0)
+    made p (entering p l)
+    ∷ cond (eqb (refusal p b (entering p l)) 0)
     (cond (eqb (l .fields .computed) 0) [] (made p (supplying p l) ∷ []))
     []
 

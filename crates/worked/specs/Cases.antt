@@ -5,6 +5,7 @@ use mathlib.Core.Path.{_≡_}
 use mathlib.Core.Bool.{true}
 use mathlib.Core.List.{List, [], _∷_}
 use Rattle.movement.specs.Period.{periodNumber}
+use Rattle.movement.specs.Ranges.{CountsInRange}
 use Rattle.movement.specs.Group.{groupPeriod}
 use Rattle.book_rules.specs.Columns.{Book}
 use Rattle.book_rules.specs.Calls.{Called, refusal}
@@ -30,15 +31,15 @@ pub data Case : Type 0 where
 
 -- an accepted *enter* at this second stores a group of the period of this number, which the load reads from it
 pub record InPeriod (second number : ℕ) : Type 0 where
-  pub stored : (p x t k m : ℕ) (b b′ : Book) → Called p b (enter x t k second m) 0 b′
-      → found x p b′ ≡ bare p (6 * t + 3 * k + number)
+  pub stored : (p x t k m : ℕ) (cs : List ℕ) (b b′ : Book) → Called p b (enter x t k second m cs) 0 b′
+      → found x p b′ ≡ bare p (6 * t + 3 * k + number) cs
   pub loaded : (t k : ℕ) → periodNumber (groupPeriod (6 * t + 3 * k + number)) ≡ number
 
 -- an *enter* of this type and mass, on an empty book of any size, is answered so
 abbrev pub EnterAnswered : (type kg answer : ℕ) → Type 0
 EnterAnswered t kg answer =
-    (p n x k s : ℕ) → (1 ≤ p) × (p ≤ 8) → (1 ≤ n) × (n ≤ 50000) → (1 ≤ x) × (x ≤ 99999)
-    → k ≤ 1 → s ≤ 86399 → refusal p (emptyBook p n) (enter x t k s kg) ≡ answer
+    (p n x k s : ℕ) (cs : List ℕ) → (1 ≤ p) × (p ≤ 8) → (1 ≤ n) × (n ≤ 50000) → (1 ≤ x) × (x ≤ 99999)
+    → CountsInRange p cs → k ≤ 1 → s ≤ 86399 → refusal p (emptyBook p n) (enter x t k s kg cs) ≡ answer
 
 -- what each says: of the row that *enter* makes and the load reads, of the very *enter*, of the energy that the load
 -- adds up, and of the contours that the calls list and print
