@@ -10,13 +10,13 @@ use Rattle.soundness.proofs.rows_sound.Statement.{statement}
 use Rattle.soundness.proofs.rows_sound.Tie as tie
 
 abbrev Inv-loop : tie.InvT-loop
-Inv-loop ids groups marks levels points i₀ at₀ i at =
+Inv-loop ids groups marks counts levels points i₀ at₀ i at =
     (i ≤ length ids) × ((at ≡ i * points)
-    × (rowsSound points ids groups marks levels ≡ rowsSound points (drop i ids) (drop i groups)
-    (drop i marks) (drop at levels)))
+    × (rowsSound points ids groups marks counts levels ≡ rowsSound points (drop i ids) (drop i groups)
+    (drop i marks) (drop at counts) (drop at levels)))
 
 abbrev μ-loop : tie.MeasureT-loop
-μ-loop ids groups marks levels points i₀ at₀ i at = length ids - i
+μ-loop ids groups marks counts levels points i₀ at₀ i at = length ids - i
 
 -- the places that the facts below look back to
 abbrev entry : tie.In-loop Inv-loop μ-loop → tie.Start Inv-loop μ-loop
@@ -25,15 +25,14 @@ entry c = search
 abbrev start : tie.After-row-sound Inv-loop μ-loop → tie.Start Inv-loop μ-loop
 start c = search
 
--- a row's levels end within the column
-space : (c : tie.In-loop Inv-loop μ-loop)
-    → c .before .loop .at + entry c .args .points ≤ length (entry c .args .levels .now)
-space c =
+-- a row's part of a column with one value a point ends within the column
+space : (c : tie.In-loop Inv-loop μ-loop) (xs : List ℕ)
+    → length xs ≡ length (entry c .args .ids .now) * entry c .args .points
+    → c .before .loop .at + entry c .args .points ≤ length xs
+space c xs l =
     let s : tie.Start Inv-loop μ-loop = search in
-    room (s .args .points) (c .before .loop .i) (c .before .loop .at) (length (s .args .ids .now))
-    (length (s .args .levels .now)) (c .before .loop .inv .1 .0)
-    (c .loop-test .taken)
-    (s .pre .1 .1)
+    room (s .args .points) (c .before .loop .i) (c .before .loop .at) (length (s .args .ids .now)) (length xs)
+    (c .before .loop .inv .1 .0) (c .loop-test .taken) l
 
 mul-row-sound-4 : tie.Need-mul-row-sound-4 Inv-loop μ-loop
 mul-row-sound-4 c =
@@ -49,12 +48,13 @@ rest c =
     let i = head .loop .i in
     let z = start .args in
     rowsSound (z .points) (drop (i + 1) (z .ids .now)) (drop (i + 1) (z .groups .now))
-    (drop (i + 1) (z .marks .now)) (drop (head .loop .at + z .points) (z .levels .now))
+    (drop (i + 1) (z .marks .now)) (drop (head .loop .at + z .points) (z .counts .now))
+    (drop (head .loop .at + z .points) (z .levels .now))
 
 -- what the rows say from here on, where row i's test gave t
 next : (c : tie.After-row-sound Inv-loop μ-loop) {t : Bool} → c .row-sound .result ≡ t
     → rowsSound (start c .args .points) (start c .args .ids .now) (start c .args .groups .now)
-    (start c .args .marks .now) (start c .args .levels .now)
+    (start c .args .marks .now) (start c .args .counts .now) (start c .args .levels .now)
     ≡ (t && rest c)
 next c e =
     let turn : tie.In-loop Inv-loop μ-loop = search in
@@ -62,7 +62,7 @@ next c e =
     let z : tie.Start Inv-loop μ-loop = search in
     s .loop .inv .1 .1
     ∙ rows-more (z .args .points) (z .args .ids .now) (z .args .groups .now) (z .args .marks .now)
-    (z .args .levels .now) (s .loop .i) (s .loop .at)
+    (z .args .counts .now) (z .args .levels .now) (s .loop .i) (s .loop .at)
     (turn .loop-test .taken)
     (z .pre .0)
     (z .pre .1 .0)
@@ -83,7 +83,7 @@ returns-2 : tie.Need-returns-2 Inv-loop μ-loop
 returns-2 c =
     let z : tie.Start Inv-loop μ-loop = search in
     sym (c .before .loop .inv .1 .1
-    ∙ rows-end (z .args .points) (z .args .ids .now) _ _ _ (c .before .loop .i) (c .loop-test .left))
+    ∙ rows-end (z .args .points) (z .args .ids .now) _ _ _ _ (c .before .loop .i) (c .loop-test .left))
 
 pub rows-sound-spec : {M : Type 1} → statement M
 rows-sound-spec =
