@@ -1,8 +1,9 @@
 -- `soundness::rows_sound` meets its contract. Assumes nothing.
 use mathlib.Core.{Path._≡_, Path.sym, Path._∙_, Bool.Bool, Bool._&&_}
-use Prim.Native.Nat.{_+_, _-_, _*_, _≤_}
+use Prim.Native.Nat.{ℕ, _+_, _-_, _*_, _≤_}
 use native.Mathlib.Omega.{arith}
 use lib.ListN.{length, drop}
+use borrow.Rule.Slice.PartMut.{mid-len}
 use borrow.Author.{Tests.not-true, Tests.not-false, Needs.needs}
 use Rattle.book_rules.specs.Columns.{rowsSound}
 use Rattle.book_rules.proofs.Scans.{room, room-next, rows-more, rows-end}
@@ -25,20 +26,36 @@ entry c = search
 abbrev start : tie.After-row-sound Inv-loop μ-loop → tie.Start Inv-loop μ-loop
 start c = search
 
--- a row's part of a column with one value a point ends within the column
-space : (c : tie.In-loop Inv-loop μ-loop) (xs : List ℕ)
-    → length xs ≡ length (entry c .args .ids .now) * entry c .args .points
-    → c .before .loop .at + entry c .args .points ≤ length xs
-space c xs l =
+-- a row's parts of the columns with one value a point end within them
+spaces : (c : tie.In-loop Inv-loop μ-loop) → let a = entry c .args in
+    (c .before .loop .at + a .points ≤ length (a .counts .now))
+    × (c .before .loop .at + a .points ≤ length (a .levels .now))
+spaces c =
     let s : tie.Start Inv-loop μ-loop = search in
-    room (s .args .points) (c .before .loop .i) (c .before .loop .at) (length (s .args .ids .now)) (length xs)
-    (c .before .loop .inv .1 .0) (c .loop-test .taken) l
+    let space = λ (n : ℕ) (e : n ≡ length (s .args .ids .now) * s .args .points).
+    room (s .args .points) (c .before .loop .i) (c .before .loop .at) (length (s .args .ids .now)) n
+    (c .before .loop .inv .1 .0) (c .loop-test .taken) e in
+    (space _ (s .pre .1 .1 .0), space _ (s .pre .1 .1 .1))
 
 mul-row-sound-4 : tie.Need-mul-row-sound-4 Inv-loop μ-loop
 mul-row-sound-4 c =
     let start : tie.Start Inv-loop μ-loop = search in
     let turn : tie.In-loop Inv-loop μ-loop = search in
-    omega (arith, space turn, start .good)
+    omega (arith, spaces turn .0, start .good)
+
+mul-row-sound-5 : tie.Need-mul-row-sound-5 Inv-loop μ-loop
+mul-row-sound-5 c =
+    let start : tie.Start Inv-loop μ-loop = search in
+    let turn : tie.In-loop Inv-loop μ-loop = search in
+    omega (arith, spaces turn .1, start .good)
+
+row-sound-requires : tie.Need-row-sound-requires Inv-loop μ-loop
+row-sound-requires c κs =
+    let turn : tie.In-loop Inv-loop μ-loop = search in
+    let s = entry turn .args in
+    let at = turn .before .loop .at in
+    mid-len at (at + s .points) (s .levels .now) (spaces turn .1)
+    ∙ sym (mid-len at (at + s .points) (s .counts .now) (spaces turn .0))
 
 -- what the rows after row i say
 abbrev rest : tie.After-row-sound Inv-loop μ-loop → Bool
@@ -87,8 +104,10 @@ returns-2 c =
 
 pub rows-sound-spec : {M : Type 1} → statement M
 rows-sound-spec =
-    tie.close (tie.spec Inv-loop μ-loop (λ c. search needs) (λ c. omega (arith, space c)) (λ c. search needs)
+    tie.close (tie.spec Inv-loop μ-loop (λ c. search needs) (λ c. omega (arith, spaces c .0)) (λ c. search needs)
     (λ c. search needs) (λ c. search needs) (λ c. search needs) (λ c. search needs) (λ c. search needs)
-    mul-row-sound-4 (λ c. search needs) (λ c. search needs) (λ c. space (c .before .before .before))
-    (λ c κs. search needs) (λ c. sym (next (c .before) (not-true _ (c .if1 .taken)))) (λ c. search needs)
-    (λ c. search needs) loop-again returns-2)
+    mul-row-sound-4 (λ c. search needs) (λ c. search needs)
+    (λ c. let turn : tie.In-loop Inv-loop μ-loop = search in spaces turn .0) mul-row-sound-5 (λ c. search needs)
+    (λ c. search needs) (λ c. let turn : tie.In-loop Inv-loop μ-loop = search in spaces turn .1) row-sound-requires
+    (λ c. sym (next (c .before) (not-true _ (c .if1 .taken)))) (λ c. search needs) (λ c. search needs) loop-again
+    returns-2)

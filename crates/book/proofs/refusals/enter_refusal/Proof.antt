@@ -6,7 +6,7 @@ use Rattle.refusal.specs.Refuse.{refuse}
 use Rattle.refusal.proofs.Laws.{passed, failed}
 use Rattle.movement.specs.Rules.{movementRefusal, identityFits, countsFit}
 use Rattle.book_rules.specs.{Calls.enterRefusal, Columns.stands}
-use Rattle.book_rules.proofs.Accepted.{enter-unfit, enter-refused, enter-allowed, identity-in}
+use Rattle.book_rules.proofs.Accepted.{enter-refused, enter-allowed, identity-in}
 use Rattle.book.proofs.refusals.enter_refusal.Statement.{statement}
 use Rattle.book.proofs.refusals.enter_refusal.Tie as tie
 
@@ -76,6 +76,6 @@ returns-6 c =
 pub enter-refusal-spec : {M : Type 1} → statement M
 enter-refusal-spec =
     tie.close (tie.spec (λ c κs. search needs)
-    (λ c. sym (enter-unfit _ _ _ _ _ _ _ _ (failed (c .before .counts-fit .ensures) (c .if1 .taken))))
+    (λ c. unfold enterRefusal in simp (failed (c .before .counts-fit .ensures) (c .if1 .taken)))
     (λ c κs. search needs) returns-2 (λ c κs. search needs) returns-3 stands-at-requires returns-4 returns-5
     returns-6)
