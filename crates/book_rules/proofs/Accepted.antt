@@ -5,9 +5,9 @@ use Prim.Native.Nat.{ℕ, _≤_, _<_}
 use native.Mathlib.Omega.{arith}
 use lib.{ListN.length, ListN.getD, Dec.eqb, Dec.leb, Dec.ltb}
 use borrow.Author.Tests.{ltb-true, leb-true, eqb-true, eqb-false, eq-eqb, ne-eqb}
-use Rattle.refusal.specs.Refuse.{refuse}
+use Rattle.refusal.specs.{Refuse.refuse, Range.allWithin}
 use Rattle.refusal.proofs.Laws.{and-left, and-right, refuse-none}
-use Rattle.movement.specs.Limits.{maxIdentity, maxMass, typeCount, kindCount, secondsADay}
+use Rattle.movement.specs.Limits.{maxIdentity, maxMass, maxCount, maxLevel, typeCount, kindCount, secondsADay}
 use Rattle.movement.specs.Aircraft.{aircraftNumbered, massFits}
 use Rattle.movement.specs.Rules.{fieldsFit, movementRefusal, identityFits, levelsFit, countsFit, zeroElsewhere}
 use Rattle.book_rules.specs.Columns.{Book, indexOf, stands, cellsAt, sound}
@@ -65,16 +65,16 @@ identity-in x e = (
 )
 
 -- there is one value a point
-fit-length : (p : ℕ) (vs : List ℕ) {rest : Bool} → (eqb (length vs) p && rest) ≡ true → length vs ≡ p
-fit-length p vs e = eqb-true (length vs) p (and-left (eqb (length vs) p) _ e)
+fit-length : (p top : ℕ) (vs : List ℕ) → (eqb (length vs) p && allWithin top vs) ≡ true → length vs ≡ p
+fit-length p top vs e = eqb-true (length vs) p (and-left (eqb (length vs) p) _ e)
 
 pub levels-length : (p : ℕ) (ls : List ℕ) → levelsFit p ls ≡ true → length ls ≡ p
 unfolding levelsFit
-levels-length p ls e = fit-length p ls e
+levels-length p ls e = fit-length p maxLevel ls e
 
 pub counts-length : (p : ℕ) (cs : List ℕ) → countsFit p cs ≡ true → length cs ≡ p
 unfolding countsFit
-counts-length p cs e = fit-length p cs e
+counts-length p cs e = fit-length p maxCount cs e
 
 -- the identity of a supply, a take back or a withdrawal
 pub record Stood (ids : List ℕ) (x : ℕ) : Type 0 where

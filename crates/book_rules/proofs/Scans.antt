@@ -52,7 +52,9 @@ pub cells-more : (most top : ℕ) (cs ls : List ℕ) (i : ℕ) {t : Bool} → i 
     → cellsWithin most top (drop i cs) (drop i ls) ≡ (t && cellsWithin most top (drop (i + 1) cs) (drop (i + 1) ls))
 cells-more most top cs ls i h k e =
     rw (within-more most cs i h refl, within-more top ls i k refl, elsewhere-more cs ls i h k refl, e)
-    (regroup _ _ _ _ _ _)
+    (regroup (leb (getD cs i 0) most) (allWithin most (drop (i + 1) cs)) (leb (getD ls i 0) top)
+    (allWithin top (drop (i + 1) ls)) (ltb 0 (getD cs i 0) || eqb (getD ls i 0) 0)
+    (zeroElsewhere (drop (i + 1) cs) (drop (i + 1) ls)))
 
 pub cells-end : (most top : ℕ) (cs ls : List ℕ) (i : ℕ) → length cs ≤ i → length ls ≤ i
     → cellsWithin most top (drop i cs) (drop i ls) ≡ true
