@@ -1,15 +1,14 @@
 -- `book::refusals::supply_refusal` meets its contract. Assumes nothing.
-use mathlib.Core.Path.{_≡_, refl, sym, ap, _∙_}
-use mathlib.Core.Bool.{Bool}
-use Prim.Native.Nat.{_+_, _-_, _*_, _≤_}
+use mathlib.Core.Path.{_≡_, refl, _∙_}
+use Prim.Native.Nat.{_+_, _*_, _≤_}
 use native.Mathlib.Omega.{arith}
-use lib.ListN.{length, take, drop}
+use lib.ListN.{length}
 use borrow.Author.{Tests.not-true, Tests.not-false, Needs.needs}
 use Rattle.refusal.specs.Refuse.{refuse}
 use Rattle.refusal.proofs.Laws.{passed, failed}
 use Rattle.movement.specs.Rules.{zeroElsewhere}
 use Rattle.book_rules.specs.{Calls.supplyRefusal, Columns.stands, Columns.indexOf, Columns.cellsAt}
-use Rattle.book_rules.proofs.{Accepted.Stood, Accepted.identity-in, Scans.room}
+use Rattle.book_rules.proofs.{Accepted.Stood, Accepted.identity-in, Scans.room, Cells.cells-part}
 use Rattle.book.proofs.Stood.{stood-index, stood-below}
 use Rattle.book.proofs.refusals.supply_refusal.Statement.{statement}
 use Rattle.book.proofs.refusals.supply_refusal.Tie as tie
@@ -69,18 +68,16 @@ space c =
 judged : (c : tie.After-zero-elsewhere) → let a = start (c .before) .args in
     supplyRefusal (a .points) (a .ids .now) (a .counts .now) (a .identity) (a .given .now)
     ≡ refuse 19 (c .zero-elsewhere .result) 0
-unfolding cellsAt
 judged c =
     let left3 : tie.Else3 = search in
     let a = start left3 .args in
-    let at = a .at * a .points in
-    let n : at + a .points - at ≡ a .points = omega arith in
-    let index = stood-index (start left3 .pre .0) (stood left3) in
     past (left3 .before .before)
-    ∙ ap (λ (t : Bool). refuse 5 t _) (stood left3 .stands=)
-    ∙ ap (λ n. refuse 19 (zeroElsewhere (cellsAt (a .points) n (a .counts .now)) (a .given .now)) 0) index
-    ∙ ap (λ k. refuse 19 (zeroElsewhere (take k (drop at (a .counts .now))) (a .given .now)) 0) (sym n)
-    ∙ ap (λ (t : Bool). refuse 19 t 0) (sym (c .zero-elsewhere .ensures))
+    ∙ rw (
+      stood left3 .stands=,
+      stood-index (start left3 .pre .0) (stood left3),
+      ← cells-part (a .points) (a .at) (a .at * a .points) (a .counts .now) refl,
+      ← c .zero-elsewhere .ensures,
+    ) refl
 
 pub supply-refusal-spec : {M : Type 1} → statement M
 supply-refusal-spec =
