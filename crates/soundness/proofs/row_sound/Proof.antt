@@ -16,7 +16,8 @@ returns c =
 
 returns-2 : tie.Need-returns-2
 unfolding rowSound
-returns-2 c = let s = c .before .before .before in
+returns-2 c =
+    let s : tie.Start = search in
     let h : headSound (s .args .x) (s .args .g) (s .args .m) ≡ false = sym (c .before .head-sound .ensures)
     ∙ c .if1 .left in
     rw h refl

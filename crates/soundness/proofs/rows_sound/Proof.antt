@@ -26,16 +26,19 @@ entry c = search
 abbrev start : tie.After-row-sound Inv-loop μ-loop → tie.Start Inv-loop μ-loop
 start c = search
 
--- a row's parts of the columns with one value a point end within them
+-- a row's part of a column with one value a point ends within the column: n is the column's length
+space : (c : tie.In-loop Inv-loop μ-loop) {n : ℕ} → n ≡ length (entry c .args .ids .now) * entry c .args .points
+    → c .before .loop .at + entry c .args .points ≤ n
+space c {n} e =
+    let s : tie.Start Inv-loop μ-loop = search in
+    room (s .args .points) (c .before .loop .i) (c .before .loop .at) (length (s .args .ids .now)) n
+    (c .before .loop .inv .1 .0) (c .loop-test .taken) e
+
+-- the columns that say where rows count, and of levels
 spaces : (c : tie.In-loop Inv-loop μ-loop) → let a = entry c .args in
     (c .before .loop .at + a .points ≤ length (a .counts .now))
     × (c .before .loop .at + a .points ≤ length (a .levels .now))
-spaces c =
-    let s : tie.Start Inv-loop μ-loop = search in
-    let space = λ (n : ℕ) (e : n ≡ length (s .args .ids .now) * s .args .points).
-    room (s .args .points) (c .before .loop .i) (c .before .loop .at) (length (s .args .ids .now)) n
-    (c .before .loop .inv .1 .0) (c .loop-test .taken) e in
-    (space _ (s .pre .1 .1 .0), space _ (s .pre .1 .1 .1))
+spaces c = (space c (entry c .pre .1 .1 .0), space c (entry c .pre .1 .1 .1))
 
 mul-row-sound-4 : tie.Need-mul-row-sound-4 Inv-loop μ-loop
 mul-row-sound-4 c =
