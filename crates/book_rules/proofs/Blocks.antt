@@ -13,6 +13,7 @@ use Rattle.room.specs.Room.{put}
 use Rattle.book_rules.specs.Columns.{cellsAt, opened, closed}
 use Rattle.book_rules.specs.History.{Held, Movement, movement, added, holding, without, countsFor, column}
 use Rattle.book_rules.specs.History.{countCells}
+use Rattle.book_rules.proofs.Cells.{cells-first, cells-next}
 
 -- row k is the place of a new identity x
 pub data Place (x : ℕ) : List Movement → ℕ → Type 0 where
@@ -113,27 +114,19 @@ module _ (f : Movement → List ℕ) (w : ℕ) where
   column-more u (a ∷ ms) =
       ap (λ (t : List ℕ). f a ++ t) (column-more u ms) ∙ sym (append-assoc (f a) (column f w u ms) (replicate w 0))
 
-  -- the values of the first row, and of one after it
-  cells-first : (u : ℕ) (a : Movement) (ms : List Movement) → length (f a) ≡ w
-      → cellsAt w zero (column f w u (a ∷ ms)) ≡ f a
-  unfolding cellsAt column
-  cells-first u a ms e =
-      ap (λ n. take w (drop n (f a ++ column f w u ms))) (zero-mul w) ∙ take-at (f a) (column f w u ms) w e
-
-  cells-later : (u k : ℕ) (a : Movement) (ms : List Movement) → length (f a) ≡ w
-      → cellsAt w (suc k) (column f w u (a ∷ ms)) ≡ cellsAt w k (column f w u ms)
-  unfolding cellsAt column
-  cells-later u k a ms e =
-      let q : suc k * w ≡ length (f a) + k * w = omega (arith, suc-mul k w) in
-      ap (λ n. take w (drop n (f a ++ column f w u ms))) q
-      ∙ ap (take w) (drop-append-add (f a) (column f w u ms) (k * w))
-
 -- where the movement of a row counts stands in that row
 pub counts-at : {x k : ℕ} {ms : List Movement} (p u : ℕ) → Sized countCells p ms → Found x ms k
     → cellsAt p k (column countCells p u ms) ≡ countsFor x ms
-counts-at {x} p u s (this {a} {ms} e) = cells-first countCells p u a ms (s .0) ∙ sym (counts-this x a ms e)
+unfolding column
+counts-at {x} p u s (this {a} {ms} e) =
+    cells-first p (a .counts ++ column countCells p u ms)
+    ∙ take-at (a .counts) (column countCells p u ms) p (s .0)
+    ∙ sym (counts-this x a ms e)
 counts-at {x} p u s (later {a} {ms} {k} e r) =
-    cells-later countCells p u k a ms (s .0) ∙ counts-at p u (s .1) r ∙ sym (counts-later x a ms e)
+    sym (cells-next p k (a .counts ++ column countCells p u ms))
+    ∙ ap (cellsAt p k) (drop-at (a .counts) (column countCells p u ms) p (s .0))
+    ∙ counts-at p u (s .1) r
+    ∙ sym (counts-later x a ms e)
 
 -- the values from n on are changed by r
 abbrev changeAt : ℕ → (List ℕ → List ℕ) → List ℕ → List ℕ

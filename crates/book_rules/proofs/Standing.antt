@@ -5,10 +5,11 @@ use mathlib.Core.{Bool.true, Bool.and-true, Bool.or-true, List.List, List.[], Li
 use Prim.Native.Nat.{ℕ, zero, suc, _+_, _*_, _≤_, _<_}
 use native.Mathlib.{Nat.mul-one, Nat.suc-mul, Omega.arith}
 use lib.ListN.{length, replicate, length-replicate, replicate-append-replicate}
-use lib.{Seq.take-at, Seq.drop-at, Dec.leb, Dec.ltb}
+use lib.{Seq.take-at, Seq.drop-at, Dec.leb}
 use borrow.Author.Tests.{le-leb, lt-ltb, eq-eqb, ne-eqb}
 use Rattle.refusal.specs.Range.{allWithin}
 use Rattle.movement.specs.{Limits.maxIdentity, Limits.maxCount, Limits.groupCount, Rules.zeroElsewhere}
+use Rattle.movement.proofs.Elsewhere.{elsewhere-zeros}
 use Rattle.book_rules.specs.Columns.{sound, shaped, shapeFits, rising, followed, follows, headSound, topLevel}
 use Rattle.book_rules.specs.Columns.{topCount, cellsSound, rowSound, rowsSound}
 use Rattle.book_rules.specs.History.{Held, Movement, added, holding, without, countsFor, markOf, levelsOf}
@@ -21,20 +22,20 @@ use Rattle.book_rules.proofs.Blocks.{counts-later}
 use Rattle.book_rules.proofs.Blocks.{Place.last, Place.here, Place.there, Found.this, Found.later}
 
 -- a value for every point, none over `top`
-pub record Cells (p top : ℕ) (vs : List ℕ) : Type 0 where
+pub record PerPoint (p top : ℕ) (vs : List ℕ) : Type 0 where
   pub wide : length vs ≡ p
   pub within : allWithin top vs ≡ true
 
 -- levels in range; none counts as zeros
 abbrev pub Filled : ℕ → Held → Type 0
-Filled p h = Cells p (topLevel (markOf h)) (levelsOf p h)
+Filled p h = PerPoint p (topLevel (markOf h)) (levelsOf p h)
 
 -- in range, with levels of zero where it doesn't count
 pub record Good (p : ℕ) (a : Movement) : Type 0 where
   pub low : 1 ≤ a .identity
   pub high : a .identity ≤ maxIdentity
   pub group< : a .group < groupCount
-  pub counted : Cells p maxCount (a .counts)
+  pub counted : PerPoint p maxCount (a .counts)
   pub filled : Filled p (a .held)
   pub silent : zeroElsewhere (a .counts) (levelsOf p (a .held)) ≡ true
 
@@ -179,12 +180,6 @@ unfolding allWithin
 zeros-within top zero = refl
 zeros-within top (suc n) = rw (le-leb 0 top (omega arith)) (zeros-within top n)
 
-pub zeros-silent : (cs : List ℕ) (n : ℕ) → zeroElsewhere cs (replicate n 0) ≡ true
-unfolding zeroElsewhere
-zeros-silent [] n = refl
-zeros-silent (c ∷ cs) zero = refl
-zeros-silent (c ∷ cs) (suc n) = rw (or-true (ltb 0 c)) (zeros-silent cs n)
-
 zeros-rise : (n : ℕ) → rising (replicate n 0) ≡ true
 unfolding rising followed follows
 zeros-rise zero = refl
@@ -246,7 +241,7 @@ zero-rows p (suc u) =
       take-at (replicate p 0) (replicate (u * p) 0) p l,
       drop-at (replicate p 0) (replicate (u * p) 0) p l,
       zeros-within 0 p,
-      zeros-silent (replicate p 0) p,
+      elsewhere-zeros (replicate p 0) p,
     )
     (zero-rows p u)
 

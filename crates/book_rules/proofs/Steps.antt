@@ -12,7 +12,7 @@ use Rattle.refusal.proofs.Laws.{and-left, and-right}
 use Rattle.movement.specs.Limits.{groupCount, maxCount, maxLevel}
 use Rattle.movement.specs.{Aircraft.aircraftNumbered, Kind.kindNumbered, Period.periodOf, Group.groupOf}
 use Rattle.movement.specs.Rules.{identityFits, levelsFit, countsFit, zeroElsewhere}
-use Rattle.movement.proofs.Numbers.{group-below}
+use Rattle.movement.proofs.{Numbers.group-below, Elsewhere.elsewhere-zeros}
 use Rattle.book_rules.specs.Columns.{bookOf, firstAt, indexOf, placeOf, stands, topLevel}
 use Rattle.book_rules.specs.Calls.{Call, enterRefusal, withdrawRefusal, soundRefusal, changed, rowIn, rowOut}
 use Rattle.book_rules.specs.Calls.{rowMarked}
@@ -25,10 +25,10 @@ use Rattle.book_rules.proofs.Accepted.{entered, withdrawn, taken-back, 
 use Rattle.book_rules.proofs.Blocks.{Place, Found, length-column, column-in, column-out, column-held}
 use Rattle.book_rules.proofs.Blocks.{column-kept, counts-at}
 use Rattle.book_rules.proofs.Blocks.{Place.last, Place.here, Place.there, Found.this, Found.later}
-use Rattle.book_rules.proofs.Standing.{Cells, Filled, Good, AllGood, Rising, New, good-added, length-added}
+use Rattle.book_rules.proofs.Standing.{PerPoint, Filled, Good, AllGood, Rising, New, good-added, length-added}
 use Rattle.book_rules.proofs.Standing.{rising-added, good-without, length-without, rising-without, Silent}
 use Rattle.book_rules.proofs.Standing.{good-holding, length-holding, rising-holding, sized-one, sized-counts}
-use Rattle.book_rules.proofs.Standing.{sized-levels, zeros-within, zeros-silent}
+use Rattle.book_rules.proofs.Standing.{sized-levels, zeros-within}
 
 -- From a place in the column of identities to one in the list
 
@@ -168,10 +168,10 @@ filled-none p = record { wide = length-replicate {A = ℕ} p 0; within = zeros-w
 
 silent-none : (p : ℕ) (cs : List ℕ) → zeroElsewhere cs (levelsOf p none) ≡ true
 unfolding levelsOf
-silent-none p cs = zeros-silent cs p
+silent-none p cs = elsewhere-zeros cs p
 
 -- values that passed the test of their number and range
-given-cells : (p top : ℕ) (vs : List ℕ) → (eqb (length vs) p && allWithin top vs) ≡ true → Cells p top vs
+given-cells : (p top : ℕ) (vs : List ℕ) → (eqb (length vs) p && allWithin top vs) ≡ true → PerPoint p top vs
 given-cells p top vs e =
     let n = eqb (length vs) p in
     record { wide = eqb-true (length vs) p (and-left n _ e); within = and-right n _ e }
@@ -180,7 +180,7 @@ filled-levels : (p : ℕ) (ls : List ℕ) → levelsFit p ls ≡ true → Filled
 unfolding levelsOf markOf topLevel levelsFit
 filled-levels p ls e = given-cells p maxLevel ls e
 
-given-counts : (p : ℕ) (cs : List ℕ) → countsFit p cs ≡ true → Cells p maxCount cs
+given-counts : (p : ℕ) (cs : List ℕ) → countsFit p cs ≡ true → PerPoint p maxCount cs
 unfolding countsFit
 given-counts p cs e = given-cells p maxCount cs e
 
