@@ -120,7 +120,10 @@ fn load_of(
     requires { ⌜ daysFit days ≡ true ⌝ }
     ensures { λ r. ⌜ r ≡ loadOf true (bookShares points point (bookBefore ids groups marks counts levels)) days ⌝ }
 {
-    answer_from(groups_of(ids, groups, marks, counts, levels, points, point), days)
+    answer_from(
+        groups_of(ids, groups, marks, counts, levels, points, point),
+        days,
+    )
 }
 
 // A refusal's number alone.

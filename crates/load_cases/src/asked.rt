@@ -81,14 +81,7 @@ fn show_load(line: &[u8], load: Load) {
     told(line, 7, 0, &got);
 }
 
-fn total(
-    ids: &[u32],
-    groups: &[u32],
-    marks: &[u32],
-    counts: &[u32],
-    levels: &[u32],
-    line: &[u8],
-) {
+fn total(ids: &[u32], groups: &[u32], marks: &[u32], counts: &[u32], levels: &[u32], line: &[u8]) {
     let points = place(line, 4);
     let point = place(line, 5);
     let days = number(line, 6);
@@ -120,7 +113,17 @@ fn verdict(
     let limit = number(line, 7);
     show_verdict(
         line,
-        load::verdict_at(ids, groups, marks, counts, levels, points, point, days, limit),
+        load::verdict_at(
+            ids,
+            groups,
+            marks,
+            counts,
+            levels,
+            points,
+            point,
+            days,
+            limit,
+        ),
     );
 }
 
@@ -163,7 +166,15 @@ pub(crate) fn ask(
         return;
     }
     if what == b'w' {
-        book::withdraw(ids, groups, marks, counts, levels, place(line, 4), number(line, 5));
+        book::withdraw(
+            ids,
+            groups,
+            marks,
+            counts,
+            levels,
+            place(line, 4),
+            number(line, 5),
+        );
         return;
     }
     told_of(ids, groups, marks, counts, levels, line);

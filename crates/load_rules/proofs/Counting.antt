@@ -14,15 +14,17 @@ module _ (pt : ℕ) where
   unfolding countingAt
   counting-none = refl
 
-  pub counting-kept : (m : Movement) (ms : List Movement) → ¬ (getD (m .counts) pt 0 ≡ 0)
-      → countingAt pt (m ∷ ms) ≡ m ∷ countingAt pt ms
-  unfolding countingAt
-  counting-kept m ms n = rw (ne-eqb (getD (m .counts) pt 0) 0 n) refl
-
   pub counting-left-out : (m : Movement) (ms : List Movement) → getD (m .counts) pt 0 ≡ 0
       → countingAt pt (m ∷ ms) ≡ countingAt pt ms
   unfolding countingAt
-  counting-left-out m ms e = rw (eq-eqb (getD (m .counts) pt 0) 0 e) refl
+  counting-left-out m ms e =
+      ap (λ (t : Bool). cond t (countingAt pt ms) (m ∷ countingAt pt ms)) (eq-eqb (getD (m .counts) pt 0) 0 e)
+
+  pub counting-kept : (m : Movement) (ms : List Movement) → ¬ (getD (m .counts) pt 0 ≡ 0)
+      → countingAt pt (m ∷ ms) ≡ m ∷ countingAt pt ms
+  unfolding countingAt
+  counting-kept m ms n =
+      ap (λ (t : Bool). cond t (countingAt pt ms) (m ∷ countingAt pt ms)) (ne-eqb (getD (m .counts) pt 0) 0 n)
 
   -- what two lists begin with alike changes nothing
   pub counting-cons : (m : Movement) (ms ns : List Movement) → countingAt pt ms ≡ countingAt pt ns

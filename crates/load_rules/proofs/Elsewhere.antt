@@ -41,9 +41,9 @@ module _ (p pt : ℕ) where
       → countingAt pt (at a ms) ≡ countingAt pt ms)
       → (ms : List Movement) → getD (countsFor x ms) pt 0 ≡ 0 → countingAt pt (f ms) ≡ countingAt pt ms
   unfolding countsFor
-  changed-same x f at none some here [] e = ap (countingAt pt) none
-  changed-same x f at none some here (a ∷ ms) e =
-      ap (countingAt pt) (some a ms) ∙ go (eqb (a .identity) x) e (changed-same x f at none some here ms)
+  changed-same x f at empty cons here [] e = ap (countingAt pt) empty
+  changed-same x f at empty cons here (a ∷ ms) e =
+      ap (countingAt pt) (cons a ms) ∙ go (eqb (a .identity) x) e (changed-same x f at empty cons here ms)
     where
       go : (t : Bool) → getD (cond t (a .counts) (countsFor x ms)) pt 0 ≡ 0
           → (getD (countsFor x ms) pt 0 ≡ 0 → countingAt pt (f ms) ≡ countingAt pt ms)
