@@ -11,7 +11,7 @@ use Rattle.book_rules.specs.Lookup.Row.{nowhere, row}
 use Rattle.book_rules.proofs.Cells.{cells-first, cells-next}
 
 -- an identity that stands is found
-pub isFound : Row → Bool
+unfoldable pub isFound : Row → Bool
 isFound nowhere = false
 isFound (row g m cs ls) = true
 

@@ -127,15 +127,17 @@ pub good-holding : {p x k : ℕ} {ms : List Movement} (h : Held) → Filled p h 
     → AllGood p (holding x h ms)
 good-holding {p} {x} h f z s (this {a} {ms} e) =
     let old = s .0 in
-    subst (AllGood p) (sym (holding-this x h a ms e))
-    (record {
-      low = old .low;
-      high = old .high;
-      group< = old .group<;
-      counted = old .counted;
-      filled = f;
-      silent = rw (counts-this x a ms e) at z;
-    }, s .1)
+    subst (AllGood p) (sym (holding-this x h a ms e)) (
+      record {
+        low = old .low;
+        high = old .high;
+        group< = old .group<;
+        counted = old .counted;
+        filled = f;
+        silent = rw (counts-this x a ms e) at z;
+      },
+      s .1,
+    )
 good-holding {p} {x} h f z s (later {a} {ms} e r) =
     subst (AllGood p) (sym (holding-later x h a ms e))
     (s .0, good-holding h f (rw (counts-later x a ms e) at z) (s .1) r)
