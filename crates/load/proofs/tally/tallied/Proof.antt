@@ -34,6 +34,13 @@ row c =
     row-at (entry c .args .points) (entry c .args .point) (book (entry c)) (entry c .pre .1 .0) (entry c .pre .1 .1)
     (c .before .loop .i) (c .loop-test .taken)
 
+-- the turn in which a row that counts is read, and the one in which it is stored
+abbrev reading : tie.After-shared-slice-known7 Inv-loop μ-loop → tie.In-loop Inv-loop μ-loop
+reading c = c .before .before .before
+
+abbrev storing : tie.After-with-row Inv-loop μ-loop → tie.In-loop Inv-loop μ-loop
+storing c = reading (c .before .before .before .before)
+
 with-row-requires : tie.Need-with-row-requires Inv-loop μ-loop
 unfolding groupAt
 with-row-requires c κs =
@@ -75,28 +82,16 @@ pub tallied-spec : {M : Type 1} → statement M
 tallied-spec =
     tie.close (tie.spec Inv-loop μ-loop
     (λ c. unfold sharesTo in (omega arith, let s : tie.Start Inv-loop μ-loop = search in s .pre .0 .0))
-    (λ c. let d : tie.In-loop Inv-loop μ-loop = search in omega (arith, row d .in-levels, entry d .good))
-    (λ c. let d : tie.In-loop Inv-loop μ-loop = search in omega (arith, row d .in-levels, entry d .good))
-    (λ c. let d : tie.In-loop Inv-loop μ-loop = search in omega (arith, row d .in-levels, entry d .good))
-    (λ c. let d : tie.In-loop Inv-loop μ-loop = search in row d .in-counts)
-    (λ c. search needs)
-    (λ c. let d : tie.In-loop Inv-loop μ-loop = search in row d .in-groups)
-    (λ c. let d : tie.In-loop Inv-loop μ-loop = search in omega (arith, row d .group<))
-    (λ c. let d : tie.In-loop Inv-loop μ-loop = search in omega (arith, row d .group<))
-    (λ c. let d : tie.In-loop Inv-loop μ-loop = search in omega (arith, row d .group<))
-    (λ c. let d : tie.In-loop Inv-loop μ-loop = search in omega (arith, row d .group<))
-    (λ c. let d : tie.In-loop Inv-loop μ-loop = search in omega (arith, row d .group<))
-    (λ c. let d : tie.In-loop Inv-loop μ-loop = search in omega (arith, row d .group<))
-    (λ c. let d : tie.In-loop Inv-loop μ-loop = search in omega (arith, row d .group<))
-    (λ c. search needs)
-    (λ c. let d : tie.In-loop Inv-loop μ-loop = search in row d .in-marks)
-    (λ c. let d : tie.In-loop Inv-loop μ-loop = search in omega (arith, row d .in-levels, entry d .good))
-    (λ c. let d : tie.In-loop Inv-loop μ-loop = search in row d .in-levels)
-    with-row-requires
-    (λ c. let d : tie.In-loop Inv-loop μ-loop = search in omega (arith, row d .group<))
-    (λ c. let d : tie.In-loop Inv-loop μ-loop = search in omega (arith, row d .group<))
-    (λ c. let d : tie.In-loop Inv-loop μ-loop = search in omega (arith, row d .group<))
-    (λ c. let d : tie.In-loop Inv-loop μ-loop = search in omega (arith, row d .group<))
-    (λ c. let d : tie.In-loop Inv-loop μ-loop = search in omega (arith, row d .group<))
-    (λ c. let d : tie.In-loop Inv-loop μ-loop = search in omega (arith, row d .group<))
+    (λ c. omega (arith, row c .in-levels, entry c .good)) (λ c. omega (arith, row c .in-levels, entry c .good))
+    (λ c. omega (arith, row c .in-levels, entry c .good)) (λ c. row (c .before) .in-counts) (λ c. search needs)
+    (λ c. row (reading c) .in-groups) (λ c. omega (arith, row (reading c) .group<))
+    (λ c. omega (arith, row (reading c) .group<)) (λ c. omega (arith, row (reading c) .group<))
+    (λ c. omega (arith, row (reading c) .group<)) (λ c. omega (arith, row (reading c) .group<))
+    (λ c. omega (arith, row (reading c) .group<)) (λ c. omega (arith, row (reading c) .group<)) (λ c. search needs)
+    (λ c. row (reading (c .before .before)) .in-marks)
+    (λ c. let d = reading (c .before .before) in omega (arith, row d .in-levels, entry d .good))
+    (λ c. row (reading (c .before .before .before)) .in-levels) with-row-requires
+    (λ c. omega (arith, row (storing c) .group<)) (λ c. omega (arith, row (storing c) .group<))
+    (λ c. omega (arith, row (storing c) .group<)) (λ c. omega (arith, row (storing c) .group<))
+    (λ c. omega (arith, row (storing c) .group<)) (λ c. omega (arith, row (storing c) .group<))
     (λ c. search needs) (λ c. search needs) loop-again returns)
