@@ -1,4 +1,4 @@
--- What rows have at each point, tested over whole columns: for the loop that reads them, for each row, and for all rows.
+-- What rows have at each point, tested over whole columns: for the loop that reads them, for a row, and for all rows.
 -- Assumes nothing.
 use mathlib.Core.{Path._≡_, Path.refl, Path.sym, Path.ap, Path._∙_, Bool.Bool, Bool.true, Bool.false, Bool.cond}
 use mathlib.Core.{Bool._&&_, Bool._||_, Bool.and-true, Bool.and-false, Bool.true≢false, Logic._⊎_, Logic.⊎-elim}
