@@ -80,8 +80,8 @@ pub row-refused : (p n : ℕ) (b : Book) (row : List ℕ) → (n ≡ 1 → ⊥) 
 unfolding lineRefusal rowTaken layoutTaken enteredTaken
 row-refused p n b row more =
     let l = layoutOf p row in
-    let r = refusal p b (entering l) in
-    let s = refusal p (after p b (entering l)) (supplying p l) in
+    let r = refusal p b (entering p l) in
+    let s = refusal p (after p b (entering p l)) (supplying p l) in
     let two = ne-eqb n 1 more in
     record {
       off = λ ne. rw (two, ne-eqb (l .refusal) 0 ne) refl;

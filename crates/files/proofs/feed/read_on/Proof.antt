@@ -14,7 +14,7 @@ use Rattle.files.proofs.feed.read_on.Tie as tie
 
 -- where the function starts, and the buffer once the read is done
 abbrev start : tie.After-read-input → tie.Start
-start w = let lent = w .before .before .before .before in lent .before .before .before .before
+start w = search
 
 abbrev buffer : tie.After-read-input → List ℕ
 buffer w =
@@ -90,7 +90,7 @@ piece c =
     let n = came .n .given .0 .0 in
     let e = came .n .given .1 in
     let gave = gave-as (w .read-input .ensures) (Bytes n) e in
-    let long : length (pieced .piece .last .1 .1 .1 .1 .1 .0) ≡ length (a .bytes .now) = search needs in
+    let long : length (pieced .piece .last .1 .1 .1 .1 .1 .1 .0) ≡ length (a .bytes .now) = search needs in
     let k = pieced .piece .ensures in (
       turn-piece (take (a .left) (a .bytes .now)) (take n (w .read-input .last .1 .0)) (k .0)
           (front-behind (a .left) (length (a .bytes .now) - a .left) n (a .bytes .now) (w .read-input .last .1 .0)
