@@ -24,6 +24,7 @@ use Rattle.report_steps.specs.Booking.{layoutCalls, rowCalls, linesCalls, regis
 use Rattle.report_rules.specs.Report.{bookRows}
 use Rattle.report_rules.specs.Flights.{standingIn}
 use Rattle.report_rules.specs.AllCount.{AllCount}
+use Rattle.report_rules.proofs.Elsewhere.{register-most}
 
 module _ (p : ℕ) where
   -- movements with one yes a point, and calls that bring no other in
@@ -142,4 +143,5 @@ all-count p register =
       each = each;
       everywhere = everywhere;
       all = λ pt h. each-brings pt .everybody p (standingIn p register) h everywhere;
+      never = λ e. absurd (omega (arith, register-most p register, e));
     }

@@ -73,7 +73,7 @@ header-exactly p b line =
       otherwise = points-other p (headerPoints line);
     }
 
-supplied-number : (s : ℕ) → takenNumber (suppliedTaken s) ≡ s
+pub supplied-number : (s : ℕ) → takenNumber (suppliedTaken s) ≡ s
 supplied-number s = either (eqb s 0) (λ yes. rw yes (sym (eqb-true s 0 yes))) (λ no. rw no refl)
 
 pub row-refused : (p n : ℕ) (b : Book) (row : List ℕ) → (n ≡ 1 → ⊥) → RowRefused p n b row

@@ -8,7 +8,7 @@ use lib.{ListN.take, ListN.replicate, Dec.eqb, Dec.ltb}
 use borrow.Author.Tests.{eq-eqb, ne-eqb, eqb-true, eqb-false, le-ltb}
 use Rattle.text.proofs.Digits.{either}
 use Rattle.movement.specs.Group.{groupOf}
-use Rattle.book_rules.specs.{Columns.Book, Columns.sound, Calls.refusal, Calls.after}
+use Rattle.book_rules.specs.{Columns.Book, Columns.sound, Calls.Call, Calls.refusal, Calls.after}
 use Rattle.book_rules.specs.History.{Held, Movement, movement, step, listOf, Made, made, listRefusal, accepted, booked}
 use Rattle.book_rules.specs.History.Held.{none, holds}
 use Rattle.book_rules.proofs.History.{Told, refusal-told, told}
@@ -110,13 +110,22 @@ flight-given : (p : ℕ) (l : Layout) → (l .fields .computed ≡ 0 → ⊥)
     (replicate p 1) (holds (take p (l .levels)))
 flight-given p l ne = rw (ne-eqb (l .fields .computed) 0 ne) refl
 
+-- a call that is accepted
+pub told-one : (p n : ℕ) (b : Book) (ms : List Movement) (c : Call) → Told p n b ms → refusal p b c ≡ 0
+    → Told p n (after p b c) (step ms c)
+unfolding booked
+told-one p n b ms c t z =
+    subst (λ (ns : List Movement). Told p n (after p b c) ns)
+    (one-accepted p n ms (made p c) [] (sym (refusal-told p n b ms (made p c) t) ∙ z) ∙ none-left p n (step ms c))
+    (told p n (made p c ∷ []) b ms t)
+
 -- the list of movements after a row: its flight counts once, and a row that is passed over not at all
 pub row-flights : (p n : ℕ) (b : Book) (ms : List Movement) (line : List ℕ) → Told p n b ms
     → takenNumber (rowTaken p b line) ≡ 0
     → (test : Movement → Bool)
     → howMany test (listOf ms (accepted p n ms (rowCalls p b line)))
     ≡ howMany test ms + howMany test (flightsIn p (line ∷ []))
-unfolding step booked
+unfolding step
 row-flights p n b ms line t z test = go (row-did p b line z)
   where
     l : Layout
@@ -136,12 +145,6 @@ row-flights p n b ms line t z test = go (row-did p b line z)
 
     entered : List Movement
     entered = step ms (entering p l)
-
-    told-entered : refusal p b (entering p l) ≡ 0 → Told p n (after p b (entering p l)) entered
-    told-entered in-book =
-        subst (λ (ns : List Movement). Told p n (after p b (entering p l)) ns)
-        (one-accepted p n ms (made p (entering p l)) [] (sym listed ∙ in-book) ∙ none-left p n entered)
-        (told p n (made p (entering p l) ∷ []) b ms t)
 
     known : refusal p b (entering p l) ≡ 0 → Entering (l .fields .mass) x ms
     known in-book =
@@ -170,7 +173,7 @@ row-flights p n b ms line t z test = go (row-did p b line z)
         ∙ sym (flight-yes p line (known in-book .heavy)))
     go (given in-book some fine) =
         let accepts : listRefusal p n entered (made p (supplying p l)) ≡ 0 =
-        sym (refusal-told p n (after p b (entering p l)) entered (made p (supplying p l)) (told-entered in-book))
+        sym (refusal-told p n (after p b (entering p l)) entered (made p (supplying p l)) (told-one p n b ms (entering p l) t in-book))
         ∙ fine in
         ap (λ (cs : List Made). howMany test (listOf ms (accepted p n ms cs))) (calls-given p b line read in-book some)
         ∙ ap (howMany test) (one-accepted p n ms (made p (entering p l)) (made p (supplying p l) ∷ [])

@@ -40,7 +40,7 @@ line-booked : (p n : ℕ) (b : Book) (line : List ℕ)
 unfolding lineAfter booked
 line-booked p n b line = either (eqb n 1) (λ yes. rw yes refl) (λ no. rw no (row-booked p b line))
 
-read-booked : (p : ℕ) (s : Reading) (l : List ℕ)
+pub read-booked : (p : ℕ) (s : Reading) (l : List ℕ)
     → lineRead (registerStep p) s l .held ≡ booked (s .held) (cond (eqb (s .line) 1) [] (rowCalls p (s .held) l))
 unfolding lineRead
 read-booked p s l = line-booked p (s .line) (s .held) l
