@@ -1,12 +1,11 @@
 -- `report_text::core::book_refusal` meets its contract. The loop's invariant: the points passed are answered.
 -- Assumes nothing.
 use mathlib.Core.Path.{_≡_, sym, ap, _∙_}
-use Prim.Native.Nat.{_-_, _≤_}
+use Prim.Native.Nat.{ℕ, _-_, _≤_}
 use native.Mathlib.Omega.{arith}
 use borrow.Author.Needs.{needs}
 use Rattle.book_rules.specs.Columns.{Book, bookOf}
 use Rattle.load_rules.specs.declared.Load.{Load}
-use Rattle.load_rules.specs.Load.{bookLoad}
 use Rattle.report_text.specs.Text.{refusedTo}
 use Rattle.report_text.proofs.Judging.{none-judged, one-answered, one-refused}
 use Rattle.report_text.proofs.core.book_refusal.Statement.{statement}
@@ -23,11 +22,9 @@ abbrev book : tie.Start Inv-loop μ-loop → Book
 book s =
     let a = s .args in bookOf (a .ids .now) (a .groups .now) (a .marks .now) (a .counts .now) (a .levels .now)
 
--- the refusal that the load answers is that of the point
-refusal-is : (c : tie.After-load-at Inv-loop μ-loop) → let s : tie.Start Inv-loop μ-loop = search in
-    let l : tie.At-loop Inv-loop μ-loop = search in
-    c .load-at .result .refused ≡ bookLoad (s .args .points) (l .loop .point) (book s) (s .args .days) .refused
-refusal-is c = ap (λ (a : Load). a .refused) (c .load-at .ensures)
+-- the refusal alone
+abbrev refusal : Load → ℕ
+refusal a = a .refused
 
 refused : tie.Need-returns Inv-loop μ-loop
 refused c =
@@ -35,7 +32,7 @@ refused c =
     let l : tie.At-loop Inv-loop μ-loop = search in
     let turn : tie.In-loop Inv-loop μ-loop = search in
     let loaded : tie.After-load-at Inv-loop μ-loop = search in
-    let q = refusal-is loaded in
+    let q = ap refusal (loaded .load-at .ensures) in
     let a = s .args in
     q ∙ sym (one-refused (a .points) (a .days) (book s) (l .loop .point) (a .points) (l .loop .inv .0)
     (λ z. c .if1 .taken (q ∙ z)) (turn .loop-test .taken))
@@ -48,7 +45,7 @@ loop-again c =
     let none : tie.Else1 Inv-loop μ-loop = search in
     let a = s .args in (
       one-answered (a .points) (a .days) (book s) (l .loop .point) (l .loop .inv .0)
-          (sym (refusal-is loaded) ∙ none .if1 .left),
+          (sym (ap refusal (loaded .load-at .ensures)) ∙ none .if1 .left),
       omega arith,
     )
 
@@ -63,4 +60,4 @@ answered c =
 pub book-refusal-spec : {M : Type 1} → statement M
 book-refusal-spec =
     tie.close (tie.spec Inv-loop μ-loop (λ c. (none-judged _ _ _, omega arith)) (λ c. search needs) refused
-    (λ c. search needs) loop-again answered)
+    (λ c. search needs) (λ c. search needs) loop-again answered)
