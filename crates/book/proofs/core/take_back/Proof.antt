@@ -11,7 +11,7 @@ use Rattle.book.proofs.core.take_back.Statement.{statement}
 use Rattle.book.proofs.core.take_back.Tie as tie
 
 abbrev book : tie.Start → Book
-book s = bookNow (s .args .ids) (s .args .groups) (s .args .marks) (s .args .levels)
+book s = bookNow (s .args .ids) (s .args .groups) (s .args .marks) (s .args .counts) (s .args .levels)
 
 -- the places that the facts below look back to
 abbrev start : tie.Else1 → tie.Start

@@ -6,16 +6,18 @@ use Rattle.book.proofs.rows.row_in.Statement.{statement}
 use Rattle.book.proofs.rows.row_in.Tie as tie
 
 room : (s : tie.Start)
-    → RoomIn (s .args .points) (bookNow (s .args .ids) (s .args .groups) (s .args .marks) (s .args .levels))
-    (s .args .at) (s .args .rows)
-room s = room-in _ _ _ _ (s .pre .0) (s .pre .1)
+    → RoomIn (s .args .points)
+    (bookNow (s .args .ids) (s .args .groups) (s .args .marks) (s .args .counts) (s .args .levels)) (s .args .at)
+    (s .args .rows)
+room s = room-in _ _ _ _ (s .pre .0) (s .pre .1 .0)
 
 pub row-in-spec : {M : Type 1} → statement M
 row-in-spec =
-    tie.close (tie.spec (λ c. search needs) (λ c κs. let start : tie.Start = search in room start .ids)
+    tie.close (tie.spec (λ c. search needs) (λ c. let start : tie.Start = search in room start .at-fits)
+    (λ c. let start : tie.Start = search in room start .count-fits)
+    (λ c κs. let start : tie.Start = search in room start .ids)
     (λ c κs. let start : tie.Start = search in room start .groups)
     (λ c κs. let start : tie.Start = search in room start .marks)
-    (λ c. let start : tie.Start = search in room start .at-fits)
-    (λ c. let start : tie.Start = search in room start .count-fits)
+    (λ c κs. let start : tie.Start = search in rw (start .pre .1 .1) (room start .counts))
     (λ c κs. let start : tie.Start = search in room start .levels) (λ c. search needs) (λ c. search needs)
-    (λ c. search needs) (λ c. search needs) (λ c. unfold rowIn in cc))
+    (λ c. search needs) (λ c. search needs) (λ c. search needs) (λ c. unfold rowIn in cc))

@@ -24,7 +24,7 @@ abbrev entry : tie.In-loop Inv-loop μ-loop → tie.Start Inv-loop μ-loop
 entry c = search
 
 abbrev book : tie.Start Inv-loop μ-loop → Book
-book s = bookNow (s .args .ids) (s .args .groups) (s .args .marks) (s .args .levels)
+book s = bookNow (s .args .ids) (s .args .groups) (s .args .marks) (s .args .counts) (s .args .levels)
 
 -- the row that a turn reads
 row : (c : tie.In-loop Inv-loop μ-loop)
