@@ -94,8 +94,8 @@ two-enter p b x t k s m cs ok fit l = rw (ok, fit, two-moved t k s m l) refl
 -- a row says yes at every point
 pub all-fit : (p : ℕ) → countsFit p (replicate p 1) ≡ true
 all-fit p =
-    let long : length (replicate p 1) ≡ p = length-replicate {A = ℕ} p 1 in
+    let long : length {A = ℕ} (replicate p 1) ≡ p = length-replicate p 1 in
     ranges-hold .counts= p (replicate p 1) .1 (record {
       one-a-point = long;
-      yes-or-no = λ i h. omega (arith, getD-replicate p i 1 0 (omega (arith, long, h)));
+      yes-or-no = λ i h. omega (arith, getD-replicate {A = ℕ} p i 1 0 (omega (arith, long, h)));
     })
