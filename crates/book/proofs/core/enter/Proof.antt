@@ -4,7 +4,8 @@ use mathlib.Core.Path.{_≡_, refl, sym, _∙_}
 use native.Mathlib.Omega.{arith}
 use denote.Ref.{now}
 use borrow.Author.Needs.{needs}
-use Rattle.book_rules.specs.Calls.{enterRefusal, soundRefusal, changed}
+use Rattle.book_rules.specs.Columns.{bookNow}
+use Rattle.book_rules.specs.Calls.{enterRefusal, soundRefusal, changed, rowIn}
 use Rattle.book_rules.proofs.{Search.place-below, Search.stands-index, Shapes.sound-rises, Shapes.sound-identities}
 use Rattle.book_rules.proofs.Accepted.{Entered, entered, fields-in, counts-length, keeps, meets}
 use Rattle.book.proofs.core.enter.Statement.{statement}
@@ -13,6 +14,12 @@ use Rattle.book.proofs.core.enter.Tie as tie
 -- the places that the facts below look back to
 abbrev start : tie.Else1 → tie.Start
 start c = search
+
+abbrev grouped : tie.After-row-in → tie.After-group-of
+grouped c = search
+
+abbrev placed : tie.After-group-of → tie.After-place-of
+placed c = search
 
 -- past the test nothing refuses the call
 ok : (c : tie.Else1) → let a = start c .args in
@@ -53,12 +60,15 @@ row-in-requires c κs =
 returns-2 : tie.Need-returns-2
 unfolding soundRefusal changed
 returns-2 c =
-    let start : tie.Start = search in
-    let at-place-of : tie.After-place-of = search in
-    let at-group-of : tie.After-group-of = search in
     let at-row-in : tie.After-row-in = search in
+    let at-group-of = grouped at-row-in in
+    let at-place-of = placed at-group-of in
+    let start : tie.Start = search in
+    let a = start .args in
+    let book = bookNow (a .ids) (a .groups) (a .marks) (a .counts) (a .levels) in
     meets (start .pre) (ok (at-group-of .before)) (at-row-in .row-in .ensures
-    ∙ rw (at-place-of .place-of .ensures, at-group-of .group-of .ensures) refl)
+    ∙ (λ i. rowIn (a .points) book (at-place-of .place-of .ensures i) (a .identity) (at-group-of .group-of .ensures i)
+    (now (a .given))))
 
 pub enter-spec : {M : Type 1} → statement M
 enter-spec =

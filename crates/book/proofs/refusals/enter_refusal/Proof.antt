@@ -10,14 +10,18 @@ use Rattle.book_rules.proofs.Accepted.{enter-refused, enter-allowed, identity-i
 use Rattle.book.proofs.refusals.enter_refusal.Statement.{statement}
 use Rattle.book.proofs.refusals.enter_refusal.Tie as tie
 
+-- the places that the facts below look back to
+abbrev entry : tie.Else1 → tie.Start
+entry c = search
+
+abbrev start : tie.Else2 → tie.Start
+start c = search
+
 -- past the first test there is one yes or no a point
-fitting : (c : tie.Else1)
-    → countsFit (c .before .before .before .args .points) (c .before .before .before .args .given .now) ≡ true
+fitting : (c : tie.Else1) → countsFit (entry c .args .points) (entry c .args .given .now) ≡ true
 fitting c = passed (c .before .counts-fit .ensures) (c .if1 .left)
 
 -- past the second one rules 1 and 2 refuse nothing
-abbrev start : tie.Else2 → tie.Start
-start c = search
 
 allowed : (c : tie.Else2) → let a = start c .args in movementRefusal (a .ty) (a .kind) (a .time) (a .mass) ≡ 0
 allowed c = sym (c .before .movement-refusal .ensures) ∙ c .if2 .left

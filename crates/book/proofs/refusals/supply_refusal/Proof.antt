@@ -1,5 +1,5 @@
 -- `book::refusals::supply_refusal` meets its contract. Assumes nothing.
-use mathlib.Core.Path.{_≡_, refl, _∙_}
+use mathlib.Core.{Path._≡_, Path.refl, Path.sym, Path._∙_, Bool.Bool}
 use Prim.Native.Nat.{_+_, _*_, _≤_}
 use native.Mathlib.Omega.{arith}
 use lib.ListN.{length}
@@ -29,8 +29,18 @@ stands-at-requires c κs =
       identity-in _ (passed (at-identity-fits .identity-fits .ensures) (c .before .before .if1 .left)) .0,
     )
 
+-- the places that the facts below look back to
+abbrev entry : tie.Else2 → tie.Start
+entry c = search
+
+abbrev start : tie.Else3 → tie.Start
+start c = search
+
+abbrev stood-at : tie.After-zero-elsewhere → tie.Else3
+stood-at c = search
+
 -- past the tests of identity and levels
-past : (c : tie.Else2) → let a = c .before .before .before .before .before .before .args in
+past : (c : tie.Else2) → let a = entry c .args in
     supplyRefusal (a .points) (a .ids .now) (a .counts .now) (a .identity) (a .given .now)
     ≡ refuse 5 (stands (a .identity) (a .ids .now))
     (refuse 19 (zeroElsewhere (cellsAt (a .points) (indexOf (a .identity) (a .ids .now)) (a .counts .now))
@@ -41,10 +51,6 @@ past c =
       passed (c .before .before .before .identity-fits .ensures) (c .before .before .if1 .left),
       passed (c .before .levels-fit .ensures) (c .if2 .left),
     )
-
--- the places that the facts below look back to
-abbrev start : tie.Else3 → tie.Start
-start c = search
 
 -- past the test of standing
 stood : (c : tie.Else3) → Stood (start c .args .ids .now) (start c .args .identity)
@@ -65,11 +71,10 @@ space c =
     (stood-below (start c .pre .0) (stood c)) (start c .pre .1)
 
 -- what is left of the refusals is whether the part is zero where it should be
-judged : (c : tie.After-zero-elsewhere) → let a = start (c .before) .args in
-    supplyRefusal (a .points) (a .ids .now) (a .counts .now) (a .identity) (a .given .now)
-    ≡ refuse 19 (c .zero-elsewhere .result) 0
-judged c =
-    let left3 : tie.Else3 = search in
+judged : (c : tie.After-zero-elsewhere) {t : Bool} → c .zero-elsewhere .result ≡ t → let a = start (stood-at c) .args in
+    supplyRefusal (a .points) (a .ids .now) (a .counts .now) (a .identity) (a .given .now) ≡ refuse 19 t 0
+judged c e =
+    let left3 = stood-at c in
     let a = start left3 .args in
     past (left3 .before .before)
     ∙ rw (
@@ -77,6 +82,7 @@ judged c =
       stood-index (start left3 .pre .0) (stood left3),
       ← cells-part (a .points) (a .at) (a .at * a .points) (a .counts .now) refl,
       ← c .zero-elsewhere .ensures,
+      e,
     ) refl
 
 pub supply-refusal-spec : {M : Type 1} → statement M
@@ -85,7 +91,8 @@ supply-refusal-spec =
     (λ c. unfold supplyRefusal in simp (failed (c .before .identity-fits .ensures) (c .if1 .taken)))
     (λ c κs. search needs) returns-2 stands-at-requires
     (λ c. rw (past (c .before .before), failed (c .before .stands-at .ensures) (c .if3 .taken)))
-    (λ c. omega (arith, space c)) (λ c. omega (arith, space c)) (λ c. search needs) (λ c. search needs)
-    (λ c. search needs) (λ c κs. search needs)
-    (λ c. rw (judged (c .before), not-true _ (c .if4 .taken)))
-    (λ c. rw (judged (c .before), not-false _ (c .if4 .left))))
+    (λ c. omega (arith, space c)) (λ c. omega (arith, space c)) (λ c. omega (arith, space c, start c .good))
+    (λ c. search needs) (λ c. search needs)
+    (λ c. let left3 : tie.Else3 = search in space left3) (λ c κs. search needs)
+    (λ c. sym (judged (c .before) (not-true _ (c .if4 .taken))))
+    (λ c. sym (judged (c .before) (not-false _ (c .if4 .left)))))

@@ -31,8 +31,8 @@ known-energy c =
     c .energy .ensures
     ∙ ap (λ w. energyOf (c .before .before .before .args .level + w)) (c .before .group-weight .ensures)
 
-add-t13 : tie.Need-add-t13
-add-t13 c =
+add-t12 : tie.Need-add-t12
+add-t12 c =
     let s : tie.Start = search in
     omega (
       arith,
@@ -54,4 +54,4 @@ pub with-row-spec : {M : Type 1} → statement M
 with-row-spec =
     tie.close (tie.spec (λ c. search needs) returns (λ c κs. search needs) (λ c. omega (arith, weighted c))
     (λ c κs. let t = c .before .before .pre .1 in (weighted c, t .table-a, t .powers-of-ten)) (λ c. search needs)
-    add-t13 returns-2)
+    add-t12 returns-2)
