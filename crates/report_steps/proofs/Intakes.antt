@@ -77,21 +77,21 @@ module _ (line : List ℕ) {p r : ℕ} {b b₁ : Book} {l : Layout} (e : l ≡ l
   -- *enter* accepts: the row's levels are blank, or *supply* follows
   pub row-entered : r ≡ 0 → l .fields .computed ≡ 0 → RowTaken p b line Entered b₁
   unfolding rowTaken rowAfter layoutTaken layoutAfter enteredTaken enteredAfter
-  row-entered zero blank =
+  row-entered in-book blank =
       record {
-        answer = rw (← e, eq-eqb (l .refusal) 0 z, ← k .answer, zero, eq-eqb (l .fields .computed) 0 blank) refl;
-        book = rw (← e, eq-eqb (l .refusal) 0 z, ← k .answer, zero, eq-eqb (l .fields .computed) 0 blank) (k .book);
+        answer = rw (← e, eq-eqb (l .refusal) 0 z, ← k .answer, in-book, eq-eqb (l .fields .computed) 0 blank) refl;
+        book = rw (← e, eq-eqb (l .refusal) 0 z, ← k .answer, in-book, eq-eqb (l .fields .computed) 0 blank) (k .book);
       }
 
   pub row-supplied : {t : Taken} {b₂ : Book} → r ≡ 0 → (l .fields .computed ≡ 0 → ⊥)
       → LevelsTaken p b₁ (l .fields .identity) (l .levels) t b₂
       → RowTaken p b line t b₂
   unfolding rowTaken rowAfter layoutTaken layoutAfter enteredTaken enteredAfter
-  row-supplied zero given s =
+  row-supplied in-book given s =
       let some = ne-eqb (l .fields .computed) 0 given in
       record {
-        answer = rw (← e, eq-eqb (l .refusal) 0 z, ← k .answer, zero, some, ← k .book) (s .answer);
-        book = rw (← e, eq-eqb (l .refusal) 0 z, ← k .answer, zero, some, ← k .book) (s .book);
+        answer = rw (← e, eq-eqb (l .refusal) 0 z, ← k .answer, in-book, some, ← k .book) (s .answer);
+        book = rw (← e, eq-eqb (l .refusal) 0 z, ← k .answer, in-book, some, ← k .book) (s .book);
       }
 
 -- a row keeps a sound book sound

@@ -16,4 +16,4 @@ returns c =
 pub enter-row-spec : {M : Type 1} → statement M
 enter-row-spec =
     tie.close (tie.spec (λ c. search needs) (λ c. sym (length-take-le _ _ (omega arith))) (λ c κs. search needs)
-    (λ c. search needs) returns)
+    (λ c. search needs) (λ c. search needs) (λ c. search needs) (λ c. search needs) (λ c. search needs) returns)

@@ -9,7 +9,7 @@ use Rattle.report_steps.proofs.Intakes.{row-off, row-passed, row-refuse
 use Rattle.report_steps.proofs.core.take_row.Statement.{statement}
 use Rattle.report_steps.proofs.core.take_row.Tie as tie
 
--- places on the way: the start, the reading of the layout and its test
+-- places on the way: the start, the reading of the layout and its test, and *enter* where it accepts
 abbrev start : tie.After-read-layout → tie.Start
 start c = search
 
@@ -18,6 +18,9 @@ read c = search
 
 abbrev tested : tie.After-enter-row → tie.Else1
 tested c = search
+
+abbrev entered : tie.Else3 → tie.After-enter-row
+entered c = search
 
 -- a sound book has at most 8 points
 few : (c : tie.Start) → c .args .points ≤ maxPoints
@@ -52,7 +55,7 @@ refused c =
 blank : tie.Need-returns-4
 blank c =
     let accepted : tie.Else3 = search in
-    let enter : tie.After-enter-row = search in
+    let enter = entered accepted in
     let layout = read enter in
     row-entered (start layout .args .line .now) (layout .read-layout .ensures) (tested enter .if1 .left)
     (enter .enter-row .ensures) (accepted .if3 .left) (c .if4 .taken)
@@ -68,7 +71,7 @@ supplied c =
     let supply : tie.After-take-levels = search in
     let given : tie.Else4 = search in
     let accepted : tie.Else3 = search in
-    let enter : tie.After-enter-row = search in
+    let enter = entered accepted in
     let layout = read enter in
     row-supplied (start layout .args .line .now) (layout .read-layout .ensures) (tested enter .if1 .left)
     (enter .enter-row .ensures) (accepted .if3 .left) (given .if4 .left) (supply .take-levels .ensures)

@@ -62,6 +62,12 @@ add-number c =
     let l : tie.At-loop Inv-loop μ-loop = search in
     omega (arith, inside l .0, inside l .1, l .loop .inv .0 .most, start l .pre .1)
 
+loop-less : tie.Need-loop-less Inv-loop μ-loop
+loop-less c =
+    let entered : tie.In-loop Inv-loop μ-loop = search in
+    let l : tie.At-loop Inv-loop μ-loop = search in
+    omega (arith, inside l .0, inside l .1, entered .loop-test .taken)
+
 loop-again : tie.Need-loop-again Inv-loop μ-loop
 loop-again c =
     let next : tie.Else1 Inv-loop μ-loop = search in
@@ -87,6 +93,6 @@ take-lines-spec =
     (λ c. search needs) (λ c. search needs) (λ c. search needs) (λ c. search needs) (λ c. search needs) refused
     (λ c. let l : tie.At-loop Inv-loop μ-loop = search in omega (arith, inside l .1)) add-number
     (λ c κs. let l : tie.At-loop Inv-loop μ-loop = search in omega (arith, inside l .1))
-    (λ c. let l : tie.At-loop Inv-loop μ-loop = search in omega (arith, inside l .0, inside l .1)) loop-again
+    loop-less loop-again
     (λ c. search needs) (λ c. search needs) (λ c. search needs) (λ c. search needs) (λ c. search needs)
     (λ c. (taking-done (c .before .loop .inv .0) (omega arith), c .before .loop .inv .1)))
