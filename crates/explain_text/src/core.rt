@@ -92,7 +92,18 @@ fn put_points(
     let mut at = put_header(out);
     let mut point = 0;
     while point < points {
-        at = put_answered(out, at, ids, groups, marks, counts, levels, points, point, days);
+        at = put_answered(
+            out,
+            at,
+            ids,
+            groups,
+            marks,
+            counts,
+            levels,
+            points,
+            point,
+            days,
+        );
         point += 1;
     }
     at

@@ -126,7 +126,18 @@ fn report_in(
     let points = limits.points as usize;
     let mut bytes = io::large_buffer();
     let read = feed::read_register(ids, groups, marks, counts, levels, points, &mut bytes);
-    answer_read(kind, ids, groups, marks, counts, levels, limits, &bytes, read, out)
+    answer_read(
+        kind,
+        ids,
+        groups,
+        marks,
+        counts,
+        levels,
+        limits,
+        &bytes,
+        read,
+        out,
+    )
 }
 
 // The answer to a register that was read: its refusal, or the text of its book.

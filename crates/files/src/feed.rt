@@ -110,8 +110,27 @@ fn read_on(
         × (sound points (bookAfter ids groups marks counts levels) ≡ true) ⌝ }
 {
     match read_input(taken, &mut bytes[left..]) {
-        Arrived::Bytes(n) => piece(ids, groups, marks, counts, levels, points, bytes, left + n, line),
-        Arrived::End => last(ids, groups, marks, counts, levels, points, &bytes[..left], line),
+        Arrived::Bytes(n) => piece(
+            ids,
+            groups,
+            marks,
+            counts,
+            levels,
+            points,
+            bytes,
+            left + n,
+            line,
+        ),
+        Arrived::End => last(
+            ids,
+            groups,
+            marks,
+            counts,
+            levels,
+            points,
+            &bytes[..left],
+            line,
+        ),
         Arrived::Failed => failed(line),
     }
 }

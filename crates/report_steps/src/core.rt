@@ -44,7 +44,16 @@ pub fn take_row(
     if f.computed == 0 {
         return Taken::Entered;
     }
-    take_levels(ids, groups, marks, counts, levels, points, f.identity, given)
+    take_levels(
+        ids,
+        groups,
+        marks,
+        counts,
+        levels,
+        points,
+        f.identity,
+        given,
+    )
 }
 
 // Enters the movement of a row, which counts at every point.

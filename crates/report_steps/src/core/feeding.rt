@@ -79,7 +79,16 @@ pub fn take_lines(
     let mut number = line;
     let mut end = line_end(bytes, 0);
     while 2 <= bytes.len() - end {
-        let refusal = take_line(ids, groups, marks, counts, levels, points, &bytes[at..end], number);
+        let refusal = take_line(
+            ids,
+            groups,
+            marks,
+            counts,
+            levels,
+            points,
+            &bytes[at..end],
+            number,
+        );
         if refusal != 0 {
             return Feed {
                 at,
@@ -166,7 +175,16 @@ pub fn take_piece(
         (readingAt (r .refusal) (r .line) (bookAfter ids groups marks counts levels))
         (take (r .left) (now (bytes .exit))) × (sound points (bookAfter ids groups marks counts levels) ≡ true) ⌝ }
 {
-    let feed = take_lines(ids, groups, marks, counts, levels, points, &bytes[..len], line);
+    let feed = take_lines(
+        ids,
+        groups,
+        marks,
+        counts,
+        levels,
+        points,
+        &bytes[..len],
+        line,
+    );
     let at = feed.at;
     let left = len - at;
     let refusal = feed.refusal;
