@@ -4,6 +4,8 @@ pub mod Listed
 pub mod Entering
 pub mod Rows
 pub mod Flights
+pub mod Elsewhere
+pub mod AllCount
 pub mod Printed
 pub mod Counting
 pub mod Says

@@ -73,15 +73,15 @@ header-exactly p b line =
       otherwise = points-other p (headerPoints line);
     }
 
-supplied-number : (s : ℕ) → takenNumber (suppliedTaken s) ≡ s
+pub supplied-number : (s : ℕ) → takenNumber (suppliedTaken s) ≡ s
 supplied-number s = either (eqb s 0) (λ yes. rw yes (sym (eqb-true s 0 yes))) (λ no. rw no refl)
 
 pub row-refused : (p n : ℕ) (b : Book) (row : List ℕ) → (n ≡ 1 → ⊥) → RowRefused p n b row
 unfolding lineRefusal rowTaken layoutTaken enteredTaken
 row-refused p n b row more =
     let l = layoutOf p row in
-    let r = refusal p b (entering l) in
-    let s = refusal p (after p b (entering l)) (supplying p l) in
+    let r = refusal p b (entering p l) in
+    let s = refusal p (after p b (entering p l)) (supplying p l) in
     let two = ne-eqb n 1 more in
     record {
       off = λ ne. rw (two, ne-eqb (l .refusal) 0 ne) refl;

@@ -1,5 +1,6 @@
 pub mod Report
 pub mod Flights
+pub mod AllCount
 pub mod Spelled
 pub mod Refused
 pub mod LimitsSpelled

@@ -44,13 +44,13 @@ pub record HeaderExactly (p : ℕ) (b : Book) (line : List ℕ) : Type 0 where
 -- any other line is a row: 16, then *enter*, whose 2 passes it over, then *supply* where its levels are not blank
 pub record RowRefused (p n : ℕ) (b : Book) (row : List ℕ) : Type 0 where
   pub off : (layoutOf p row .refusal ≡ 0 → ⊥) → lineRefusal p n b row ≡ 16
-  pub passed : layoutOf p row .refusal ≡ 0 → refusal p b (entering (layoutOf p row)) ≡ 2
+  pub passed : layoutOf p row .refusal ≡ 0 → refusal p b (entering p (layoutOf p row)) ≡ 2
       → lineRefusal p n b row ≡ 0
-  pub entered : layoutOf p row .refusal ≡ 0 → (refusal p b (entering (layoutOf p row)) ≡ 0 → ⊥)
-      → (refusal p b (entering (layoutOf p row)) ≡ 2 → ⊥)
-      → lineRefusal p n b row ≡ refusal p b (entering (layoutOf p row))
-  pub blank : layoutOf p row .refusal ≡ 0 → refusal p b (entering (layoutOf p row)) ≡ 0
+  pub entered : layoutOf p row .refusal ≡ 0 → (refusal p b (entering p (layoutOf p row)) ≡ 0 → ⊥)
+      → (refusal p b (entering p (layoutOf p row)) ≡ 2 → ⊥)
+      → lineRefusal p n b row ≡ refusal p b (entering p (layoutOf p row))
+  pub blank : layoutOf p row .refusal ≡ 0 → refusal p b (entering p (layoutOf p row)) ≡ 0
       → layoutOf p row .fields .computed ≡ 0 → lineRefusal p n b row ≡ 0
-  pub supplied : layoutOf p row .refusal ≡ 0 → refusal p b (entering (layoutOf p row)) ≡ 0
+  pub supplied : layoutOf p row .refusal ≡ 0 → refusal p b (entering p (layoutOf p row)) ≡ 0
       → (layoutOf p row .fields .computed ≡ 0 → ⊥)
-      → lineRefusal p n b row ≡ refusal p (after p b (entering (layoutOf p row))) (supplying p (layoutOf p row))
+      → lineRefusal p n b row ≡ refusal p (after p b (entering p (layoutOf p row))) (supplying p (layoutOf p row))
