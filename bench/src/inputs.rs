@@ -27,13 +27,13 @@ pub fn book(rows: usize, free: usize, points: u32) -> Book {
         book.identities[row] = 2 * row as u32 + 1;
         book.groups[row] = numbers.below(18);
         book.marks[row] = u32::from(numbers.below(4) > 0);
-        let cells = row * points as usize..(row + 1) * points as usize;
-        book.counts[cells.clone()].fill(1);
         if book.marks[row] == 1 {
-            book.levels[cells].iter_mut().for_each(|level| *level = 4_000 + numbers.below(6_000));
+            book.levels[row * points as usize..][..points as usize]
+                .iter_mut()
+                .for_each(|level| *level = 4_000 + numbers.below(6_000));
         }
     }
-    book
+    book.everywhere()
 }
 
 /// The book where at each point one movement in eight doesn't count.
