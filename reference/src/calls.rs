@@ -2,10 +2,11 @@
 //! last, and writes only where it is accepted.
 
 use crate::account::{self, Group};
-use crate::book::{read_journal, Book, Columns};
+use crate::book::{Book, Columns};
 use crate::contour;
 use crate::coupling;
 use crate::grid;
+use crate::journal;
 use crate::load;
 use crate::mapping::{crossing as crossing_of, map_point as map_point_of};
 use crate::movement::Movement;
@@ -50,8 +51,9 @@ fn on_book(mut columns: LentBook, call: impl FnOnce(&mut Book) -> Answer<()>) ->
     }))
 }
 
-pub fn enter(columns: LentBook, identity: u32, aircraft: u32, kind: u32, time: u32, mass: u32) -> u32 {
-    on_book(columns, |book| book.enter(identity, Movement { aircraft, kind, time, mass }))
+/// The movement and its yes and no, one number a point.
+pub fn enter(columns: LentBook, identity: u32, movement: Movement, given: &[u32]) -> u32 {
+    on_book(columns, |book| book.enter(identity, movement, given))
 }
 
 pub fn supply(columns: LentBook, identity: u32, given: &[u32]) -> u32 {
@@ -67,13 +69,13 @@ pub fn withdraw(columns: LentBook, identity: u32) -> u32 {
 }
 
 pub fn replay(columns: LentBook, journal: &[u32], answers: &mut [u32]) -> u32 {
-    let calls = match read_journal(journal) {
+    let calls = match journal::read(journal) {
         Ok(calls) => calls,
         Err(refusal) => return refusal as u32,
     };
     on_book(columns, |book| {
         room(answers.len() >= calls.len())?;
-        let made: Vec<u32> = book.replay(&calls).into_iter().map(number).collect();
+        let made: Vec<u32> = journal::replay(book, &calls).into_iter().map(number).collect();
         put(answers, &made);
         Ok(())
     })

@@ -12,6 +12,7 @@ pub mod couple_csv;
 pub mod coupling;
 pub mod explain;
 pub mod grid;
+pub mod journal;
 pub mod level;
 pub mod load;
 pub mod mapping;
@@ -45,11 +46,12 @@ pub enum Refusal {
     Register = 16,
     Grid = 17,
     Flights = 18,
+    Elsewhere = 19,
 }
 
 impl Refusal {
     /// All of them, in the order of their numbers.
-    pub const ALL: [Refusal; 18] = [
+    pub const ALL: [Refusal; 19] = [
         Refusal::Movement,
         Refusal::TooLight,
         Refusal::Identity,
@@ -68,6 +70,7 @@ impl Refusal {
         Refusal::Register,
         Refusal::Grid,
         Refusal::Flights,
+        Refusal::Elsewhere,
     ];
 }
 

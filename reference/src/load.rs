@@ -30,7 +30,7 @@ pub fn check_limit(limit: u32) -> Answer<()> {
 pub fn load(book: &Book, point: u32, days: u32) -> Answer<Load> {
     check_point(book, point)?;
     check_days(days)?;
-    check_computed(book)?;
+    check_computed(book, point as usize)?;
     Ok(work_out(book, point as usize, days))
 }
 
@@ -39,7 +39,7 @@ pub fn verdict(book: &Book, point: u32, days: u32, limit: u32) -> Answer<bool> {
     check_point(book, point)?;
     check_days(days)?;
     check_limit(limit)?;
-    check_computed(book)?;
+    check_computed(book, point as usize)?;
     Ok(work_out(book, point as usize, days).level.is_some_and(|level| level > limit))
 }
 
@@ -47,15 +47,16 @@ fn check_point(book: &Book, point: u32) -> Answer<()> {
     ensure((point as usize) < book.points, Refusal::Book)
 }
 
-/// 10: movements stand, none computed.
-fn check_computed(book: &Book) -> Answer<()> {
-    let any_computed = book.movements.values().any(|movement| movement.levels.is_some());
-    ensure(book.movements.is_empty() || any_computed, Refusal::NoneComputed)
+/// 10: movements count at the point, none of them computed.
+fn check_computed(book: &Book, point: usize) -> Answer<()> {
+    let nobody = book.counting(point).next().is_none();
+    let any_computed = book.counting(point).any(|movement| movement.levels.is_some());
+    ensure(nobody || any_computed, Refusal::NoneComputed)
 }
 
 fn work_out(book: &Book, point: usize, days: u32) -> Load {
     let (mut computed, mut missing, mut energies) = ([0; GROUPS], [0; GROUPS], [0; GROUPS]);
-    for movement in book.movements.values() {
+    for movement in book.counting(point) {
         let group = movement.group as usize;
         match &movement.levels {
             Some(levels) => {
@@ -95,15 +96,13 @@ mod tests {
     use super::*;
     use crate::book::Columns;
 
+    /// A book of one point where every movement counts.
+    fn a_book(identities: Vec<u32>, groups: Vec<u32>, marks: Vec<u32>, levels: Vec<u32>) -> Book {
+        Columns { identities, groups, marks, counts: vec![], levels, points: 1 }.everywhere().read().unwrap()
+    }
+
     fn document_book() -> Book {
-        let columns = Columns {
-            identities: vec![1, 2, 3, 4],
-            groups: vec![0, 0, 0, 17],
-            marks: vec![1, 1, 0, 0],
-            levels: vec![10_000, 10_000, 0, 0],
-            points: 1,
-        };
-        columns.read().unwrap()
+        a_book(vec![1, 2, 3, 4], vec![0, 0, 0, 17], vec![1, 1, 0, 0], vec![10_000, 10_000, 0, 0])
     }
 
     #[test]
@@ -115,11 +114,33 @@ mod tests {
         assert_eq!(verdict(&document_book(), 0, 1, 5666), Ok(false));
     }
 
+    /// The same file at four points: everybody, without the last, the missing ones alone, nobody.
+    #[test]
+    fn points_of_their_own() {
+        let counts = [[1, 1, 0, 0], [1, 1, 0, 0], [1, 1, 1, 0], [1, 0, 1, 0]];
+        let levels = [[10_000, 10_000, 0, 0], [10_000, 10_000, 0, 0], [0; 4], [0; 4]];
+        let columns = Columns {
+            identities: vec![1, 2, 3, 4],
+            groups: vec![0, 0, 0, 17],
+            marks: vec![1, 1, 0, 0],
+            counts: counts.concat(),
+            levels: levels.concat(),
+            points: 4,
+        };
+        let book = columns.read().unwrap();
+        assert_eq!(load(&book, 0, 1), load(&document_book(), 0, 1));
+        let second = load(&book, 1, 1).unwrap();
+        assert_eq!((second.total, second.level), (3 * 10u64.pow(10), Some(5541)));
+        assert_eq!((second.computed[0], second.missing[0], second.missing[17]), (2, 1, 0));
+        assert_eq!(load(&book, 2, 1), Err(Refusal::NoneComputed));
+        assert_eq!(verdict(&book, 2, 1, 0), Err(Refusal::NoneComputed));
+        assert_eq!(load(&book, 3, 1), Ok(Load { total: 0, level: None, computed: [0; 18], missing: [0; 18] }));
+        assert_eq!(verdict(&book, 3, 1, 0), Ok(false));
+    }
+
     #[test]
     fn refusals_in_the_documents_order() {
-        let missing = Columns { identities: vec![1], groups: vec![0], marks: vec![0], levels: vec![0], points: 1 }
-            .read()
-            .unwrap();
+        let missing = a_book(vec![1], vec![0], vec![0], vec![0]);
         assert_eq!(load(&missing, 1, 0), Err(Refusal::Book));
         assert_eq!(load(&missing, 0, 0), Err(Refusal::Days));
         assert_eq!(load(&missing, 0, 367), Err(Refusal::Days));
@@ -138,9 +159,7 @@ mod tests {
 
     #[test]
     fn a_level_of_zero_is_computed() {
-        let zero = Columns { identities: vec![1], groups: vec![0], marks: vec![1], levels: vec![0], points: 1 }
-            .read()
-            .unwrap();
+        let zero = a_book(vec![1], vec![0], vec![1], vec![0]);
         assert_eq!(load(&zero, 0, 1).unwrap().computed[0], 1);
         assert_eq!(load(&zero, 0, 1).unwrap().total, 1);
     }
@@ -148,13 +167,8 @@ mod tests {
     #[test]
     fn the_fullest_book_fits() {
         let rows = 50_000;
-        let columns = Columns {
-            identities: (1..=rows).collect(),
-            groups: vec![2; rows as usize],
-            marks: vec![1; rows as usize],
-            levels: vec![12_000; rows as usize],
-            points: 1,
-        };
-        assert_eq!(load(&columns.read().unwrap(), 0, 1).unwrap().total, 50_000 * 10u64.pow(13));
+        let column = |value: u32| vec![value; rows as usize];
+        let book = a_book((1..=rows).collect(), column(2), column(1), column(12_000));
+        assert_eq!(load(&book, 0, 1).unwrap().total, 50_000 * 10u64.pow(13));
     }
 }

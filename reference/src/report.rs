@@ -45,10 +45,11 @@ fn fill(limits: &Limits, register: &[u8]) -> Result<Book, (Refusal, usize)> {
     Ok(book)
 }
 
-/// One row: 16, then as *enter* (passed over for 2), then as *supply*.
+/// One row, which counts at every point: 16, then as *enter* (passed over for 2), then as *supply*.
 fn add(book: &mut Book, line: &[u8], points: u32) -> Result<(), Refusal> {
     let row = read_layout(line, points)?;
-    match (book.enter(row.identity, row.movement), row.levels) {
+    let everywhere = vec![1; points as usize];
+    match (book.enter(row.identity, row.movement, &everywhere), row.levels) {
         (Err(Refusal::TooLight), _) => Ok(()),
         (Ok(()), Some(levels)) => book.supply(row.identity, &levels),
         (answer, _) => answer,

@@ -13,8 +13,13 @@ fn of(refusal: Refusal) -> &'static str {
         Refusal::NoRow => "the book has no unused row left",
         Refusal::Levels => "the number of levels is not the number of points, or a level is over 120.00",
         Refusal::NoLevels => "the movement has no levels that could be taken back",
-        Refusal::Book => "the book is not sound, its points are not 1 to 8, or the point asked for is not there",
-        Refusal::NoneComputed => "movements stand, and none of them has levels, so no load can be worked out",
+        Refusal::Book => {
+            "the book is not sound, its points are not 1 to 8, there is no such point, \
+             or not one yes or no a point"
+        }
+        Refusal::NoneComputed => {
+            "movements count at the point, and none of them has levels, so no load can be worked out"
+        }
         Refusal::Days => "the days have to be from 1 to 366",
         Refusal::Network => {
             "network: size (2 to 256 a side), spacing (1 to 500 m), origin (0 to 900,000 m) \
@@ -29,6 +34,7 @@ fn of(refusal: Refusal) -> &'static str {
             "movements or tracks: over 50,000, columns of unequal length, class or kind over 1, \
              second over 86,399, or no such date"
         }
+        Refusal::Elsewhere => "a level is not zero at a point where the movement does not count",
     }
 }
 
@@ -43,10 +49,10 @@ mod tests {
 
     #[test]
     fn every_refusal_has_a_sentence_of_its_own() {
-        let sentences: Vec<_> = (1..=18).map(sentence).collect();
+        let sentences: Vec<_> = (1..=19).map(sentence).collect();
         for (place, one) in sentences.iter().enumerate() {
             assert!(!one.is_empty() && !sentences[..place].contains(one), "{}", place + 1);
         }
-        assert_eq!([sentence(0), sentence(19)], ["", ""]);
+        assert_eq!([sentence(0), sentence(20)], ["", ""]);
     }
 }

@@ -6,21 +6,9 @@
 
 use reference::book::Columns;
 use reference::calls::{self, ContourRoom};
+use reference::movement::Movement;
 use reference::network::{Frame, Network};
 use std::slice::{from_raw_parts, from_raw_parts_mut};
-
-macro_rules! lent_book {
-    ($ids:ident $ids_len:ident $groups:ident $groups_len:ident $marks:ident $marks_len:ident
-     $levels:ident $levels_len:ident $points:ident) => {
-        Columns {
-            identities: from_raw_parts_mut($ids, $ids_len),
-            groups: from_raw_parts_mut($groups, $groups_len),
-            marks: from_raw_parts_mut($marks, $marks_len),
-            levels: from_raw_parts_mut($levels, $levels_len),
-            points: $points,
-        }
-    };
-}
 
 /// A function that takes a book to change and more.
 macro_rules! book_call {
@@ -28,15 +16,26 @@ macro_rules! book_call {
         #[no_mangle]
         pub unsafe extern "C" fn $name(
             ids: *mut u32, ids_len: usize, groups: *mut u32, groups_len: usize, marks: *mut u32, marks_len: usize,
-            levels: *mut u32, levels_len: usize, points: u32, $($arg: $kind),*
+            counts: *mut u32, counts_len: usize, levels: *mut u32, levels_len: usize, points: u32, $($arg: $kind),*
         ) -> u32 {
-            $body(lent_book!(ids ids_len groups groups_len marks marks_len levels levels_len points))
+            $body(Columns {
+                identities: from_raw_parts_mut(ids, ids_len),
+                groups: from_raw_parts_mut(groups, groups_len),
+                marks: from_raw_parts_mut(marks, marks_len),
+                counts: from_raw_parts_mut(counts, counts_len),
+                levels: from_raw_parts_mut(levels, levels_len),
+                points,
+            })
         }
     };
 }
 
-book_call!(okubinrafo_enter(identity: u32, aircraft: u32, kind: u32, time: u32, mass: u32)
-    |book| calls::enter(book, identity, aircraft, kind, time, mass));
+book_call!(okubinrafo_enter(
+identity: u32, aircraft: u32, kind: u32, time: u32, mass: u32, given: *const u32, given_len: usize)
+|book| {
+    let movement = Movement { aircraft, kind, time, mass };
+    calls::enter(book, identity, movement, from_raw_parts(given, given_len))
+});
 book_call!(okubinrafo_supply(identity: u32, given: *const u32, given_len: usize)
     |book| calls::supply(book, identity, from_raw_parts(given, given_len)));
 book_call!(okubinrafo_take_back(identity: u32) |book| calls::take_back(book, identity));
@@ -50,11 +49,17 @@ macro_rules! read_book_call {
         #[no_mangle]
         pub unsafe extern "C" fn $name(
             ids: *const u32, ids_len: usize, groups: *const u32, groups_len: usize, marks: *const u32, marks_len: usize,
-            levels: *const u32, levels_len: usize, points: u32, $($arg: $kind),*
+            counts: *const u32, counts_len: usize, levels: *const u32, levels_len: usize, points: u32,
+            $($arg: $kind),*
         ) -> u32 {
-            let (identities, groups) = (from_raw_parts(ids, ids_len), from_raw_parts(groups, groups_len));
-            let (marks, levels) = (from_raw_parts(marks, marks_len), from_raw_parts(levels, levels_len));
-            $body(Columns { identities, groups, marks, levels, points })
+            $body(Columns {
+                identities: from_raw_parts(ids, ids_len),
+                groups: from_raw_parts(groups, groups_len),
+                marks: from_raw_parts(marks, marks_len),
+                counts: from_raw_parts(counts, counts_len),
+                levels: from_raw_parts(levels, levels_len),
+                points,
+            })
         }
     };
 }

@@ -1,15 +1,16 @@
-//! Random calls on random books, sound and unsound.
+//! Random calls on random books, sound and unsound. Here every movement counts at every point; `points` has the others.
 
 use crate::compared::{account, change, compared_rounds, load, verdict, Book, Change};
-use crate::drawn_books::{a_book, a_change, identity, levels, mass, spell, spoil, time};
+use crate::drawn_books::{a_book, identity, mass, spell, spoil, time, Counting};
 use crate::library::Library;
 use crate::random::Random;
 use crate::rounds::Telling;
 use reference::book::Columns;
 use reference::calls::{ACCOUNT_NUMBERS, LOAD_NUMBERS};
+use reference::movement::Movement;
 
 /// A load, its account and a verdict, the limit about the level where there is one.
-fn ask(library: &Library, random: &mut Random, book: &Book) {
+pub fn ask(library: &Library, random: &mut Random, book: &Book) {
     let point = random.about(book.points.clamp(1, 8) - 1);
     let days = random.about(366);
     let more = if random.once_in(4) { random.pick(&[-100, -1, 2]) } else { 0 };
@@ -37,7 +38,7 @@ fn sequences_of_calls() {
         let (rows, points) = (random.within(1, 14) as usize, random.within(1, 8));
         let mut book = Columns::new(rows, points);
         for _ in 0..random.within(1, 60) {
-            let made = a_change(random, points, rows as u32 + 3);
+            let made = Counting::Everywhere.a_change(random, points, rows as u32 + 3);
             change(library, &mut book, &made);
             ask(library, random, &book);
         }
@@ -61,7 +62,7 @@ fn unsound_books() {
         let standing = random.within(0, rows) as usize;
         let mut book = a_book(random, rows as usize, standing, points, 12_000);
         spoil(random, &mut book);
-        let made = a_change(random, points, rows + 3);
+        let made = Counting::Everywhere.a_change(random, points, rows + 3);
         change(library, &mut book, &made);
         ask(library, random, &book);
     });
@@ -95,6 +96,7 @@ fn every_level_by_itself() {
             book.identities[0] = 1;
             book.groups[0] = random.within(0, 17);
             book.marks[0] = 1;
+            book.counts[0] = 1;
             book.levels[0] = random.within(0, 12_000);
             let days = random.within(1, 366);
             let (_, numbers) = load(library, &book, 0, days, &[0; LOAD_NUMBERS]);
@@ -105,6 +107,20 @@ fn every_level_by_itself() {
     });
 }
 
+/// Calls on a large book, two of which move its rows.
+pub fn change_large(library: &Library, random: &mut Random, counting: Counting, mut book: Book, standing: usize) {
+    for _ in 0..8 {
+        let made = counting.a_change(random, book.points, 99_999);
+        change(library, &mut book, &made);
+    }
+    let taken = book.identities[random.within(0, standing as u32 - 1) as usize];
+    change(library, &mut book, &Change::Withdraw { identity: taken });
+    let movement = Movement { aircraft: 0, kind: 1, time: 0, mass: 7_000 };
+    let entered = counting.enter(random, taken, movement, book.points);
+    change(library, &mut book, &entered);
+    ask(library, random, &book);
+}
+
 /// Books of up to 50,000 rows, and of one more.
 #[test]
 fn large_books() {
@@ -113,15 +129,8 @@ fn large_books() {
         let rows = random.pick(&[2_000, 20_000, 49_999, 50_000, 50_000, 50_001]);
         let points = random.within(1, 8);
         let standing = random.pick(&[rows, rows - 1, rows / 2]);
-        let mut book = a_book(random, rows, standing, points, 12_000);
-        for _ in 0..8 {
-            let made = a_change(random, points, 99_999);
-            change(library, &mut book, &made);
-        }
-        let taken = book.identities[random.within(0, standing as u32 - 1) as usize];
-        change(library, &mut book, &Change::Withdraw { identity: taken });
-        change(library, &mut book, &Change::Enter { identity: taken, aircraft: 0, kind: 1, time: 0, mass: 7_000 });
-        ask(library, random, &book);
+        let book = a_book(random, rows, standing, points, 12_000);
+        change_large(library, random, Counting::Everywhere, book, standing);
     });
 }
 
@@ -138,6 +147,7 @@ fn fullest_books() {
             book.identities[row] = row as u32 + 1;
             book.groups[row] = if row < computed { own } else { other };
             book.marks[row] = u32::from(row < computed);
+            book.counts[row] = 1;
             book.levels[row] = if row < computed { random.pick(&[12_000, 12_000, 12_000, 11_999]) } else { 0 };
         }
         for days in [1, random.within(2, 366)] {
@@ -148,30 +158,36 @@ fn fullest_books() {
     });
 }
 
-/// A register replayed into an empty book as one journal, in rising and in any order of identities.
+/// A register as one journal, in rising or in any order of identities, replayed into an empty book.
+pub fn replay_register(library: &Library, random: &mut Random, counting: Counting) -> Book {
+    let (rows, points) = (random.pick(&[500usize, 3_000]), random.within(1, 8));
+    let rising = random.once_in(2);
+    let mut journal = Vec::new();
+    let mut calls = 0;
+    for row in 0..random.within(0, rows as u32 + 5) {
+        let identity = if rising { row + 1 } else { identity(random, 99_999) };
+        let movement = Movement {
+            aircraft: random.within(0, 2),
+            kind: random.within(0, 1),
+            time: time(random),
+            mass: mass(random),
+        };
+        let entered = counting.enter(random, identity, movement, points);
+        spell(&mut journal, &entered);
+        let given = counting.levels(random, identity, points);
+        spell(&mut journal, &Change::Supply { identity, given });
+        calls += 2;
+    }
+    let mut book = Columns::new(rows, points);
+    change(library, &mut book, &Change::Replay { journal, answers: vec![0; calls] });
+    ask(library, random, &book);
+    book
+}
+
 #[test]
 fn large_journals() {
     const TELLING: Telling = &[("replay", 1, &["0"])];
     compared_rounds("large_journals", 8, TELLING, |library, random| {
-        let (rows, points) = (random.pick(&[500usize, 3_000]), random.within(1, 8));
-        let rising = random.once_in(2);
-        let mut journal = Vec::new();
-        let mut calls = 0;
-        for row in 0..random.within(0, rows as u32 + 5) {
-            let identity = if rising { row + 1 } else { identity(random, 99_999) };
-            let enter = Change::Enter {
-                identity,
-                aircraft: random.within(0, 2),
-                kind: random.within(0, 1),
-                time: time(random),
-                mass: mass(random),
-            };
-            spell(&mut journal, &enter);
-            spell(&mut journal, &Change::Supply { identity, given: levels(random, points) });
-            calls += 2;
-        }
-        let mut book = Columns::new(rows, points);
-        change(library, &mut book, &Change::Replay { journal, answers: vec![0; calls] });
-        ask(library, random, &book);
+        replay_register(library, random, Counting::Everywhere);
     });
 }

@@ -37,14 +37,22 @@ macro_rules! exported {
 }
 
 exported! {
-    enter(Room, usize, Room, usize, Room, usize, Room, usize, u32, u32, u32, u32, u32, u32);
-    supply(Room, usize, Room, usize, Room, usize, Room, usize, u32, u32, Numbers, usize);
-    take_back(Room, usize, Room, usize, Room, usize, Room, usize, u32, u32);
-    withdraw(Room, usize, Room, usize, Room, usize, Room, usize, u32, u32);
-    replay(Room, usize, Room, usize, Room, usize, Room, usize, u32, Numbers, usize, Room, usize);
-    load(Numbers, usize, Numbers, usize, Numbers, usize, Numbers, usize, u32, u32, u32, *mut u64, usize);
-    account(Numbers, usize, Numbers, usize, Numbers, usize, Numbers, usize, u32, u32, u32, *mut u64, usize);
-    verdict(Numbers, usize, Numbers, usize, Numbers, usize, Numbers, usize, u32, u32, u32, u32, Room, usize);
+    enter(
+        Room, usize, Room, usize, Room, usize, Room, usize, Room, usize, u32, u32, u32, u32, u32, u32, Numbers, usize
+    );
+    supply(Room, usize, Room, usize, Room, usize, Room, usize, Room, usize, u32, u32, Numbers, usize);
+    take_back(Room, usize, Room, usize, Room, usize, Room, usize, Room, usize, u32, u32);
+    withdraw(Room, usize, Room, usize, Room, usize, Room, usize, Room, usize, u32, u32);
+    replay(Room, usize, Room, usize, Room, usize, Room, usize, Room, usize, u32, Numbers, usize, Room, usize);
+    load(
+        Numbers, usize, Numbers, usize, Numbers, usize, Numbers, usize, Numbers, usize, u32, u32, u32, *mut u64, usize
+    );
+    account(
+        Numbers, usize, Numbers, usize, Numbers, usize, Numbers, usize, Numbers, usize, u32, u32, u32, *mut u64, usize
+    );
+    verdict(
+        Numbers, usize, Numbers, usize, Numbers, usize, Numbers, usize, Numbers, usize, u32, u32, u32, u32, Room, usize
+    );
     contours(Numbers, usize, u32, u32, u32, u32, u32, u32, Room, usize, Room, usize, Room, usize, Room, usize);
     print_contours(Numbers, usize, u32, u32, u32, u32, u32, u32, Text, usize, Room, usize);
     crossing(Numbers, usize, u32, u32, u32, u32, u32, u32, u32, Room, usize, Doubles, usize);

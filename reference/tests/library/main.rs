@@ -3,6 +3,7 @@
 //! OKUBINRAFO_LIB names the shared library. SEED chooses the inputs; ROUNDS or SECONDS_EACH how many or how long; FIRST
 //! the first round. A failure prints its inputs and the command that repeats it.
 
+mod before;
 mod books;
 mod compared;
 #[path = "../shared/damage.rs"]
@@ -18,6 +19,7 @@ mod levels;
 mod library;
 mod networks;
 mod places;
+mod points;
 #[path = "../shared/random.rs"]
 mod random;
 mod ranges;

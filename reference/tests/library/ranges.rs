@@ -4,4 +4,5 @@
 mod books;
 mod flights;
 mod networks;
+mod points;
 mod texts;

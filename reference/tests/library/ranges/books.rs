@@ -5,9 +5,10 @@ use crate::library::Library;
 use crate::rounds::{directed, Telling};
 use reference::book::Columns;
 use reference::calls::{ACCOUNT_NUMBERS, LOAD_NUMBERS};
+use reference::movement::Movement;
 
-/// A book in which identity 1 is computed and 2 isn't; as many of both as there is room for.
-fn a_book(rows: usize, points: u32) -> Book {
+/// A book in which identity 1 is computed and 2 isn't; as many of both as there is room for. Both count everywhere.
+pub fn a_book(rows: usize, points: u32) -> Book {
     let mut book = Columns::new(rows, points);
     for row in 0..rows.min(2) {
         book.identities[row] = row as u32 + 1;
@@ -16,7 +17,7 @@ fn a_book(rows: usize, points: u32) -> Book {
         book.marks[0] = 1;
         book.levels[..points as usize].fill(6_000);
     }
-    book
+    book.everywhere()
 }
 
 #[derive(Clone, Copy)]
@@ -66,7 +67,8 @@ fn ranges_of_a_movement() {
     directed("ranges_of_a_movement", TELLING, || {
         let library = Library::from_environment();
         for (Entered { identity, aircraft, kind, time, mass }, expected) in MOVEMENTS {
-            let enter = Change::Enter { identity, aircraft, kind, time, mass };
+            let movement = Movement { aircraft, kind, time, mass };
+            let enter = Change::Enter { identity, movement, given: vec![1] };
             let mut book = Columns::new(2, 1);
             assert_eq!(change(&library, &mut book, &enter), expected, "{enter:?}");
             let period = match time {
@@ -81,7 +83,7 @@ fn ranges_of_a_movement() {
                     "{enter:?}"
                 );
             }
-            let journal = vec![1, identity, aircraft, kind, time, mass];
+            let journal = vec![1, identity, aircraft, kind, time, mass, 1, 1];
             assert_eq!(change(&library, &mut Columns::new(2, 1), &Change::Replay { journal, answers: vec![99] }), 0);
             // A row is written without 2.
             let written =
@@ -103,6 +105,7 @@ fn ranges_of_a_call() {
         let library = Library::from_environment();
         let mut book = a_book(3, 2);
         (book.identities[2], book.groups[2]) = (99_999, 17);
+        let book = book.everywhere();
         let made =
             |made: Change, expected: u32| assert_eq!(change(&library, &mut book.clone(), &made), expected, "{made:?}");
         for (identity, given, expected) in [
@@ -131,14 +134,16 @@ fn ranges_of_a_call() {
 }
 
 /// Every call on a book; `refused` where the book has to be refused, and otherwise each is accepted.
-fn every_call(library: &Library, book: &Book, refused: bool, what: &str) {
+pub fn every_call(library: &Library, book: &Book, refused: bool, what: &str) {
     let expected = if refused { 9 } else { 0 };
     let mut more = book.clone();
     let room = book.identities.iter().any(|&identity| identity == 0) || refused;
-    let enter = Change::Enter { identity: 99_998, aircraft: 0, kind: 0, time: 0, mass: 151 };
+    let movement = Movement { aircraft: 0, kind: 0, time: 0, mass: 151 };
+    let enter = Change::Enter { identity: 99_998, movement, given: vec![1; book.points as usize] };
     assert_eq!(change(library, &mut more, &enter), if room { expected } else { 6 }, "enter, {what}");
+    let given = book.counts.iter().take(book.points as usize).map(|&yes| if yes == 0 { 0 } else { 7 }).collect();
     for made in [
-        Change::Supply { identity: 1, given: vec![7; book.points as usize] },
+        Change::Supply { identity: 1, given },
         Change::TakeBack { identity: 1 },
         Change::Replay { journal: vec![3, 1], answers: vec![99] },
         Change::Withdraw { identity: 1 },
@@ -147,7 +152,7 @@ fn every_call(library: &Library, book: &Book, refused: bool, what: &str) {
     }
     assert_eq!(load(library, book, 0, 1, &[0; LOAD_NUMBERS]).0, expected, "load, {what}");
     assert_eq!(account(library, book, 0, 1, &[0; ACCOUNT_NUMBERS]).0, expected, "account, {what}");
-    assert_eq!(verdict(library, book, 0, 1, 5_000, &[0]), expected, "verdict, {what}");
+    assert_eq!(verdict(library, book, 0, 1, 5_000, &[0]).0, expected, "verdict, {what}");
 }
 
 /// 0 and 9 points, 0 and 50,001 rows, with columns that fit.
@@ -179,7 +184,7 @@ fn ranges_of_a_books_size() {
                 );
             }
         }
-        let full = |rows: usize| Columns { identities: (1..=rows as u32).collect(), ..a_book(rows, 1) };
+        let full = |rows: usize| Columns { identities: (1..=rows as u32).collect(), ..a_book(rows, 1) }.everywhere();
         every_call(&library, &full(50_000), false, "50,000 movements");
         every_call(&library, &full(50_001), true, "50,001 movements");
     });
@@ -246,16 +251,16 @@ fn ranges_of_a_load() {
                 let what = format!("point {point}, days {days}, limit {limit}");
                 // Where nothing earlier is wrong, 10 is found, and room last.
                 let none = |answer: u32| if answer == 0 { 10 } else { answer };
-                assert_eq!(load(&library, &missing, point, days, &[]).0, none(loaded), "{what}, none computed");
-                assert_eq!(account(&library, &missing, point, days, &[]).0, none(loaded), "{what}, none computed");
-                assert_eq!(verdict(&library, &missing, point, days, limit, &[]), none(judged), "{what}, none computed");
+                assert_eq!(load(&library, &missing, point, days, &[]).0, none(loaded), "{what}, missing");
+                assert_eq!(account(&library, &missing, point, days, &[]).0, none(loaded), "{what}, missing");
+                assert_eq!(verdict(&library, &missing, point, days, limit, &[]).0, none(judged), "{what}, missing");
                 assert_eq!(load(&library, &book, point, days, &[0; LOAD_NUMBERS]).0, loaded, "{what}");
                 assert_eq!(account(&library, &book, point, days, &[0; ACCOUNT_NUMBERS]).0, loaded, "{what}");
-                assert_eq!(verdict(&library, &book, point, days, limit, &[7]), judged, "{what}");
+                assert_eq!(verdict(&library, &book, point, days, limit, &[7]).0, judged, "{what}");
             }
             assert_eq!(load(&library, &book, 0, 1, &[0; LOAD_NUMBERS - 1]).0, 14);
             assert_eq!(account(&library, &book, 0, 1, &[0; ACCOUNT_NUMBERS - 1]).0, 14);
-            assert_eq!(verdict(&library, &book, 0, 1, 0, &[]), 14);
+            assert_eq!(verdict(&library, &book, 0, 1, 0, &[]).0, 14);
         }
     });
 }
