@@ -5,18 +5,19 @@ use Prim.Native.Nat.{ℕ, _≤_, _<_}
 use native.Mathlib.Omega.{arith}
 use lib.{ListN.length, ListN.getD, Dec.eqb, Dec.leb, Dec.ltb}
 use borrow.Author.Tests.{ltb-true, leb-true, eqb-true, eqb-false, eq-eqb, ne-eqb}
-use Rattle.refusal.specs.Refuse.{refuse}
+use Rattle.refusal.specs.{Refuse.refuse, Range.allWithin}
 use Rattle.refusal.proofs.Laws.{and-left, and-right, refuse-none}
-use Rattle.movement.specs.Limits.{maxIdentity, maxMass, typeCount, kindCount, secondsADay}
+use Rattle.movement.specs.Limits.{maxIdentity, maxMass, maxCount, maxLevel, typeCount, kindCount, secondsADay}
 use Rattle.movement.specs.Aircraft.{aircraftNumbered, massFits}
-use Rattle.movement.specs.Rules.{fieldsFit, movementRefusal, identityFits, levelsFit}
-use Rattle.book_rules.specs.Columns.{Book, indexOf, stands, sound}
+use Rattle.movement.specs.Rules.{fieldsFit, movementRefusal, identityFits, levelsFit, countsFit, zeroElsewhere}
+use Rattle.book_rules.specs.Columns.{Book, indexOf, stands, cellsAt, sound}
 use Rattle.book_rules.specs.Calls.{Call, Called, refusedOr, enterRefusal, supplyRefusal, takeBackRefusal}
 use Rattle.book_rules.specs.Calls.{withdrawRefusal, soundRefusal, refusal, changed, after}
 
 -- The tests that an accepted call passed
 
-pub record Entered (ids : List ℕ) (x t k s m : ℕ) : Type 0 where
+pub record Entered (p : ℕ) (ids : List ℕ) (x t k s m : ℕ) (cs : List ℕ) : Type 0 where
+  pub counts= : countsFit p cs ≡ true
   pub fields : fieldsFit t k s m ≡ true
   pub identity= : identityFits x ≡ true
   pub new : not (stands x ids) ≡ true
@@ -30,15 +31,17 @@ neither-refused r rest e = by (eqb r 0) refl e
     by true z e = (eqb-true r 0 z, e)
     by false z e = absurd (eqb-false r 0 z e)
 
-pub entered : (ids : List ℕ) (x t k s m : ℕ) → enterRefusal ids x t k s m ≡ 0 → Entered ids x t k s m
+pub entered : (p : ℕ) (ids : List ℕ) (x t k s m : ℕ) (cs : List ℕ) → enterRefusal p ids x t k s m cs ≡ 0
+    → Entered p ids x t k s m cs
 unfolding enterRefusal movementRefusal
-entered ids x t k s m e =
-    let n = neither-refused (movementRefusal t k s m) _ e in
+entered p ids x t k s m cs e =
+    let r₉ = refuse-none 9 (countsFit p cs) _ (omega arith) e in
+    let n = neither-refused (movementRefusal t k s m) _ (r₉ .1) in
     let r₁ = refuse-none 1 (fieldsFit t k s m) _ (omega arith) (n .0) in
     let r₃ = refuse-none 3 (identityFits x) _ (omega arith) (n .1) in
     let r₄ = refuse-none 4 (not (stands x ids)) _ (omega arith) (r₃ .1) in
     let r₆ = refuse-none 6 (stands 0 ids) _ (omega arith) (r₄ .1) in
-    record { fields = r₁ .0; identity= = r₃ .0; new = r₄ .0; unused = r₆ .0 }
+    record { counts= = r₉ .0; fields = r₁ .0; identity= = r₃ .0; new = r₄ .0; unused = r₆ .0 }
 
 -- type, kind and time of fields that fit are in range
 pub fields-in : (t k s m : ℕ) → fieldsFit t k s m ≡ true
@@ -61,9 +64,17 @@ identity-in x e = (
   leb-true x maxIdentity (and-right (leb 1 x) (leb x maxIdentity) e),
 )
 
+-- there is one value a point
+fit-length : (p top : ℕ) (vs : List ℕ) → (eqb (length vs) p && allWithin top vs) ≡ true → length vs ≡ p
+fit-length p top vs e = eqb-true (length vs) p (and-left (eqb (length vs) p) _ e)
+
 pub levels-length : (p : ℕ) (ls : List ℕ) → levelsFit p ls ≡ true → length ls ≡ p
 unfolding levelsFit
-levels-length p ls e = eqb-true (length ls) p (and-left (eqb (length ls) p) _ e)
+levels-length p ls e = fit-length p maxLevel ls e
+
+pub counts-length : (p : ℕ) (cs : List ℕ) → countsFit p cs ≡ true → length cs ≡ p
+unfolding countsFit
+counts-length p cs e = fit-length p maxCount cs e
 
 -- the identity of a supply, a take back or a withdrawal
 pub record Stood (ids : List ℕ) (x : ℕ) : Type 0 where
@@ -84,28 +95,31 @@ taken-back ids ms x e =
     let r₅ = refuse-none 5 (stands x ids) _ (omega arith) (r₃ .1) in
     record { identity= = r₃ .0; stands= = r₅ .0 }
 
-pub supplied : (p : ℕ) (ids : List ℕ) (x : ℕ) (ls : List ℕ) → supplyRefusal p ids x ls ≡ 0
-    → Stood ids x × (levelsFit p ls ≡ true)
+pub supplied : (p : ℕ) (ids cs : List ℕ) (x : ℕ) (ls : List ℕ) → supplyRefusal p ids cs x ls ≡ 0
+    → Stood ids x × (levelsFit p ls ≡ true) × (zeroElsewhere (cellsAt p (indexOf x ids) cs) ls ≡ true)
 unfolding supplyRefusal
-supplied p ids x ls e =
+supplied p ids cs x ls e =
     let r₃ = refuse-none 3 (identityFits x) _ (omega arith) e in
     let r₇ = refuse-none 7 (levelsFit p ls) _ (omega arith) (r₃ .1) in
     let r₅ = refuse-none 5 (stands x ids) _ (omega arith) (r₇ .1) in
-    (record { identity= = r₃ .0; stands= = r₅ .0 }, r₇ .0)
+    let r₁₉ = refuse-none 19 (zeroElsewhere (cellsAt p (indexOf x ids) cs) ls) _ (omega arith) (r₅ .1) in
+    (record { identity= = r₃ .0; stands= = r₅ .0 }, r₇ .0, r₁₉ .0)
 
 -- What a refusal goes by
 
--- rules 1 and 2 refuse an entry as they refuse its movement
-pub enter-refused : (ids : List ℕ) (x t k s m : ℕ) → (movementRefusal t k s m ≡ 0 → ⊥)
-    → movementRefusal t k s m ≡ enterRefusal ids x t k s m
+-- rules 1 and 2 refuse an entry with one yes or no a point as they refuse its movement
+pub enter-refused : (p : ℕ) (ids : List ℕ) (x t k s m : ℕ) (cs : List ℕ) → countsFit p cs ≡ true
+    → (movementRefusal t k s m ≡ 0 → ⊥)
+    → movementRefusal t k s m ≡ enterRefusal p ids x t k s m cs
 unfolding enterRefusal
-enter-refused ids x t k s m h = rw (ne-eqb (movementRefusal t k s m) 0 h) refl
+enter-refused p ids x t k s m cs c h = rw (c, ne-eqb (movementRefusal t k s m) 0 h) refl
 
-pub enter-allowed : (ids : List ℕ) (x t k s m : ℕ) → movementRefusal t k s m ≡ 0
-    → enterRefusal ids x t k s m ≡ refuse 3 (identityFits x)
+pub enter-allowed : (p : ℕ) (ids : List ℕ) (x t k s m : ℕ) (cs : List ℕ) → countsFit p cs ≡ true
+    → movementRefusal t k s m ≡ 0
+    → enterRefusal p ids x t k s m cs ≡ refuse 3 (identityFits x)
     (refuse 4 (not (stands x ids)) (refuse 6 (stands 0 ids) 0))
 unfolding enterRefusal
-enter-allowed ids x t k s m e = rw e refl
+enter-allowed p ids x t k s m cs c e = rw (c, e) refl
 
 -- a take back is refused as a withdrawal is, and then for the mark
 pub take-back-mark : (ids ms : List ℕ) (x : ℕ) → withdrawRefusal ids x ≡ 0

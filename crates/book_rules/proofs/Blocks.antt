@@ -10,8 +10,10 @@ use lib.Seq.{take-at, drop-at, drop-drop, take-append-add, drop-append-add, take
 use lib.Seq.{length-take-le}
 use borrow.Author.Tests.{le-leb, lt-leb, eq-eqb, ne-eqb}
 use Rattle.room.specs.Room.{put}
-use Rattle.book_rules.specs.Columns.{opened, closed}
-use Rattle.book_rules.specs.History.{Held, Movement, movement, added, holding, without, column}
+use Rattle.book_rules.specs.Columns.{cellsAt, opened, closed}
+use Rattle.book_rules.specs.History.{Held, Movement, movement, added, holding, without, countsFor, column}
+use Rattle.book_rules.specs.History.{countCells}
+use Rattle.book_rules.proofs.Cells.{cells-first, cells-next}
 
 -- row k is the place of a new identity x
 pub data Place (x : ℕ) : List Movement → ℕ → Type 0 where
@@ -57,7 +59,7 @@ unfolding without
 without-later x a ms e = rw (ne-eqb (a .identity) x e) refl
 
 pub holding-this : (x : ℕ) (h : Held) (a : Movement) (ms : List Movement) → a .identity ≡ x
-    → holding x h (a ∷ ms) ≡ movement (a .identity) (a .group) h ∷ ms
+    → holding x h (a ∷ ms) ≡ movement (a .identity) (a .group) (a .counts) h ∷ ms
 unfolding holding
 holding-this x h a ms e = rw (eq-eqb (a .identity) x e) refl
 
@@ -65,6 +67,15 @@ pub holding-later : (x : ℕ) (h : Held) (a : Movement) (ms : List Movement) →
     → holding x h (a ∷ ms) ≡ a ∷ holding x h ms
 unfolding holding
 holding-later x h a ms e = rw (ne-eqb (a .identity) x e) refl
+
+pub counts-this : (x : ℕ) (a : Movement) (ms : List Movement) → a .identity ≡ x → countsFor x (a ∷ ms) ≡ a .counts
+unfolding countsFor
+counts-this x a ms e = rw (eq-eqb (a .identity) x e) refl
+
+pub counts-later : (x : ℕ) (a : Movement) (ms : List Movement) → (a .identity ≡ x → ⊥)
+    → countsFor x (a ∷ ms) ≡ countsFor x ms
+unfolding countsFor
+counts-later x a ms e = rw (ne-eqb (a .identity) x e) refl
 
 -- A column
 
@@ -102,6 +113,20 @@ module _ (f : Movement → List ℕ) (w : ℕ) where
   column-more u [] = ap (λ n. replicate n 0) (suc-mul u w) ∙ sym (replicate-append-replicate (u * w) w 0)
   column-more u (a ∷ ms) =
       ap (λ (t : List ℕ). f a ++ t) (column-more u ms) ∙ sym (append-assoc (f a) (column f w u ms) (replicate w 0))
+
+-- where the movement of a row counts stands in that row
+pub counts-at : {x k : ℕ} {ms : List Movement} (p u : ℕ) → Sized countCells p ms → Found x ms k
+    → cellsAt p k (column countCells p u ms) ≡ countsFor x ms
+unfolding column
+counts-at {x} p u s (this {a} {ms} e) =
+    cells-first p (a .counts ++ column countCells p u ms)
+    ∙ take-at (a .counts) (column countCells p u ms) p (s .0)
+    ∙ sym (counts-this x a ms e)
+counts-at {x} p u s (later {a} {ms} {k} e r) =
+    sym (cells-next p k (a .counts ++ column countCells p u ms))
+    ∙ ap (cellsAt p k) (drop-at (a .counts) (column countCells p u ms) p (s .0))
+    ∙ counts-at p u (s .1) r
+    ∙ sym (counts-later x a ms e)
 
 -- the values from n on are changed by r
 abbrev changeAt : ℕ → (List ℕ → List ℕ) → List ℕ → List ℕ
@@ -203,7 +228,7 @@ module _ (f : Movement → List ℕ) (w : ℕ) where
       ap (λ i. closed i w (column f w u ms)) e ∙ closed-is (k * w) w (column f w u ms) ∙ cut-out u s h
 
   swap-held : {x k : ℕ} {ms : List Movement} (vs : List ℕ) (u : ℕ) (h : Held) → Sized f w ms → length vs ≡ w
-      → ((a : Movement) → f (movement (a .identity) (a .group) h) ≡ vs) → Found x ms k
+      → ((a : Movement) → f (movement (a .identity) (a .group) (a .counts) h) ≡ vs) → Found x ms k
       → changeAt (k * w) (λ t. vs ++ drop (length vs) t) (column f w u ms) ≡ column f w u (holding x h ms)
   unfolding column
   swap-held {x} vs u h s l g (this {a} {ms} e) =
@@ -220,14 +245,14 @@ module _ (f : Movement → List ℕ) (w : ℕ) where
   pub column-held : {x n k : ℕ} {ms : List Movement} (vs : List ℕ) (u : ℕ) (h : Held) → n ≡ k * w
       → Sized f w ms
       → length vs ≡ w
-      → ((a : Movement) → f (movement (a .identity) (a .group) h) ≡ vs) → Found x ms k
+      → ((a : Movement) → f (movement (a .identity) (a .group) (a .counts) h) ≡ vs) → Found x ms k
       → put (column f w u ms) n vs ≡ column f w u (holding x h ms)
   column-held {x} {n} {k} {ms} vs u h e s l g r =
       ap (λ i. put (column f w u ms) i vs) e ∙ put-is (k * w) vs (column f w u ms) ∙ swap-held vs u h s l g r
 
   -- in a column that holds no levels nothing changes
   pub column-kept : {x k : ℕ} {ms : List Movement} (u : ℕ) (h : Held)
-      → ((a : Movement) → f (movement (a .identity) (a .group) h) ≡ f a) → Found x ms k
+      → ((a : Movement) → f (movement (a .identity) (a .group) (a .counts) h) ≡ f a) → Found x ms k
       → column f w u ms ≡ column f w u (holding x h ms)
   unfolding column
   column-kept {x} u h g (this {a} {ms} e) =

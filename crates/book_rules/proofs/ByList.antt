@@ -6,19 +6,19 @@ use native.Mathlib.{Nat.le-of-eq, Nat.mul-div-cancel-left, Omega.arith}
 use lib.{ListN.length, ListN.length-replicate, ListN.getD, Dec.eqb, Dec.ltb, Dec.leb·suc-suc}
 use borrow.Author.Tests.{lt-ltb, le-ltb, eq-eqb, ne-eqb, eqb-true, eqb-false}
 use Rattle.refusal.specs.Refuse.{refuse}
-use Rattle.movement.specs.Rules.{movementRefusal, identityFits, levelsFit}
-use Rattle.book_rules.specs.Columns.{firstAt, indexOf, stands, sound}
+use Rattle.movement.specs.Rules.{movementRefusal, identityFits, levelsFit, countsFit, zeroElsewhere}
+use Rattle.book_rules.specs.Columns.{firstAt, indexOf, stands, cellsAt, sound}
 use Rattle.book_rules.specs.Calls.{Call, refusedOr, enterRefusal, supplyRefusal, takeBackRefusal}
 use Rattle.book_rules.specs.Calls.{withdrawRefusal, soundRefusal, refusal}
 use Rattle.book_rules.specs.Calls.Call.{enter, supply, takeBack, withdraw}
 use Rattle.book_rules.specs.History.{Held, Movement, Made}
 use Rattle.book_rules.specs.History.{standing, hasLevels, computed, sizesFit}
 use Rattle.book_rules.specs.History.{standingRefusal, listRefusal, markOf, column, markCell}
-use Rattle.book_rules.specs.History.{levelCells, rowsOf}
+use Rattle.book_rules.specs.History.{countCells, levelCells, rowsOf}
 use Rattle.book_rules.specs.History.Held.{none, holds}
 use Rattle.book_rules.proofs.{Shapes.sound-fits, Accepted.identity-in, Blocks.Found, Blocks.length-column}
-use Rattle.book_rules.proofs.Blocks.Found.{this, later}
-use Rattle.book_rules.proofs.Standing.{AllGood, Rising, sized-levels, book-sound}
+use Rattle.book_rules.proofs.Blocks.{counts-at, Found.this, Found.later}
+use Rattle.book_rules.proofs.Standing.{AllGood, Rising, sized-counts, sized-levels, book-sound}
 use Rattle.book_rules.proofs.Steps.{ids, none-zeros, first-cons, first-unused, length-ids, stood-at}
 
 -- One call is refused as the list of movements says
@@ -90,7 +90,8 @@ sound-points p q u ms g r = by (eqb q p) refl
 sound-by-list : (p u : ℕ) (ms : List Movement) (c : Call) → AllGood p ms
     → soundRefusal p (rowsOf p u ms) c ≡ standingRefusal p (u + length ms) ms c
 unfolding soundRefusal enterRefusal supplyRefusal takeBackRefusal withdrawRefusal standingRefusal rowsOf
-sound-by-list p u ms (enter x t k s m) g =
+sound-by-list p u ms (enter x t k s m cs) g =
+    refuse-same 9 (countsFit p cs) refl λ _.
     ap (refusedOr (movementRefusal t k s m))
     (refuse-same 3 (identityFits x) refl λ e.
     refuse-same 4 (not (stands x (ids u ms))) (ap not (stands-is x u ms (identity-in x e .0))) λ _.
@@ -98,7 +99,10 @@ sound-by-list p u ms (enter x t k s m) g =
 sound-by-list p u ms (supply x ls) g =
     refuse-same 3 (identityFits x) refl λ e.
     refuse-same 7 (levelsFit p ls) refl λ _.
-    refuse-same 5 (stands x (ids u ms)) (stands-is x u ms (identity-in x e .0)) λ _. refl
+    refuse-same 5 (stands x (ids u ms)) (stands-is x u ms (identity-in x e .0)) λ h.
+    refuse-same 19 (zeroElsewhere (cellsAt p (indexOf x (ids u ms)) (column countCells p u ms)) ls)
+    (ap (λ (cs : List ℕ). zeroElsewhere cs ls) (counts-at p u (sized-counts p ms g) (stood-at p u x ms e h)))
+    λ _. refl
 sound-by-list p u ms (takeBack x) g =
     refuse-same 3 (identityFits x) refl λ e.
     refuse-same 5 (stands x (ids u ms)) (stands-is x u ms (identity-in x e .0)) λ h.

@@ -1,5 +1,6 @@
 -- Demand 3 for the book: after any calls on an empty book, refused ones included, the columns are the rows of the list
--- of movements that the accepted calls define, each call is answered as that list says, and the book stays sound. Assumes nothing.
+-- of movements that the accepted calls define, each call is answered as that list says, and the book stays sound.
+-- Assumes nothing.
 use mathlib.Core.Path.{_≡_, refl, sym, ap, subst, _∙_}
 use mathlib.Core.{Bool.Bool, Bool.true, Bool.false, Bool.cond, Bool._||_, List.List, List.[], List._∷_}
 use Prim.Native.Nat.{ℕ, zero, suc, _+_, _*_, _-_, _≤_}

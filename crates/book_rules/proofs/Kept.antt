@@ -9,10 +9,10 @@ use Rattle.book_rules.specs.History.{rowsOf, sizesFit}
 use Rattle.book_rules.proofs.Accepted.{accepted-sound, after-refused, after-accepted}
 use Rattle.book_rules.proofs.{Standing.book-sound, Reading.Read, Reading.book-read, Steps.stepped}
 
-pub read-rows : {p : ℕ} {b : Book} (r : Read p (b .identities) (b .groups) (b .marks) (b .levels))
+pub read-rows : {p : ℕ} {b : Book} (r : Read p (b .identities) (b .groups) (b .marks) (b .counts) (b .levels))
     → b ≡ rowsOf p (r .unused) (r .list)
 unfolding rowsOf
-read-rows r = λ i. bookOf (r .ids i) (r .groups i) (r .marks i) (r .levels i)
+read-rows r = λ i. bookOf (r .ids i) (r .groups i) (r .marks i) (r .counts i) (r .levels i)
 
 changed-sound : (p : ℕ) (b : Book) (c : Call) → sound p b ≡ true → soundRefusal p b c ≡ 0
     → sound p (changed p b c) ≡ true

@@ -8,15 +8,17 @@ use borrow.Author.Tests.{eqb-true, lt-ltb, le-ltb, not-true}
 use Rattle.movement.specs.Period.{dayFrom, eveningFrom, nightFrom, periodOf, periodNumber}
 use Rattle.movement.specs.{Group.groupOf, Rules.identityFits}
 use Rattle.movement.proofs.Numbers.{group-of}
+use Rattle.movement.specs.Ranges.{CountsInRange}
 use Rattle.refusal.proofs.Laws.{refuse-none}
 use Rattle.book_rules.specs.Columns.{Book, indexOf, stands, sound}
 use Rattle.book_rules.specs.Calls.{Call, Called, takeBackRefusal, soundRefusal, refusal, changed}
 use Rattle.book_rules.specs.Calls.Call.{enter, supply, takeBack, withdraw}
-use Rattle.book_rules.specs.History.{Held, Movement, movement, holding, without, step, column, markCell, rowsOf}
+use Rattle.book_rules.specs.History.{Held, Movement, movement, holding, without, step, column, markCell}
+use Rattle.book_rules.specs.History.{countsFor, countCells, rowsOf}
 use Rattle.book_rules.specs.History.Held.{none, holds}
-use Rattle.book_rules.specs.Reasons.{Full}
-use Rattle.book_rules.specs.Lookup.{Row, found, groupFound, bare, rowHeld, listed, KeepsOthers, Enters}
-use Rattle.book_rules.specs.Lookup.{Supplies, TakesBack, Withdraws, Does}
+use Rattle.book_rules.specs.{Reasons.Fields, Reasons.Full, SoundBook.SoundBook}
+use Rattle.book_rules.specs.Lookup.{found, countsFound, bare, rowHeld, listed, KeepsOthers, Enters, Supplies}
+use Rattle.book_rules.specs.Lookup.{TakesBack, Withdraws, Does}
 use Rattle.book_rules.specs.Lookup.Row.{nowhere}
 use Rattle.book_rules.proofs.{Blocks.Found, Standing.AllGood, Standing.Rising, Standing.length-without}
 use Rattle.book_rules.proofs.Blocks.Place.{there}
@@ -27,24 +29,24 @@ use Rattle.book_rules.proofs.{Kept.read-rows, Kept.called-sound, SoundB
 use Rattle.book_rules.proofs.Search.{index-is, stands-index}
 use Rattle.book_rules.proofs.Order.{not-standing, standing-found, mark-found, refusal-order}
 use Rattle.book_rules.proofs.Listed.{rows-found, added-found, added-other, holding-found, holding-other}
-use Rattle.book_rules.proofs.Listed.{without-found, without-other}
+use Rattle.book_rules.proofs.Listed.{counts-listed, nowHolds, without-found, without-other}
 
 -- An accepted call
 
 -- the book before and after it, as the rows of a list of movements and of that list after the call
-record Acted (p : ℕ) (b : Book) (c : Call) (b′ : Book) : Type 0 where
-  unused : ℕ
-  list : List Movement
-  before : b ≡ rowsOf p unused list
-  good : AllGood p list
-  rising : Rising list
-  passed : soundRefusal p (rowsOf p unused list) c ≡ 0
-  step= : Stepped p unused list c
-  after= : b′ ≡ rowsOf p (step= .unused) (step list c)
-  was-sound : sound p b ≡ true
-  is-sound : sound p b′ ≡ true
+pub record Acted (p : ℕ) (b : Book) (c : Call) (b′ : Book) : Type 0 where
+  pub unused : ℕ
+  pub list : List Movement
+  pub before : b ≡ rowsOf p unused list
+  pub good : AllGood p list
+  pub rising : Rising list
+  pub passed : soundRefusal p (rowsOf p unused list) c ≡ 0
+  pub step= : Stepped p unused list c
+  pub after= : b′ ≡ rowsOf p (step= .unused) (step list c)
+  pub was-sound : sound p b ≡ true
+  pub is-sound : sound p b′ ≡ true
 
-acted : {p : ℕ} {b b′ : Book} {c : Call} → Called p b c 0 b′ → Acted p b c b′
+pub acted : {p : ℕ} {b b′ : Book} {c : Call} → Called p b c 0 b′ → Acted p b c b′
 acted {p} {b} {b′} {c} k =
     let z : refusal p b c ≡ 0 = sym (k .answer) in
     let a = accepted-sound p b c z in
@@ -66,10 +68,13 @@ acted {p} {b} {b′} {c} k =
     }
 
 module _ {p : ℕ} {b b′ : Book} {c : Call} (a : Acted p b c b′) where
-  found-before : (y : ℕ) → 1 ≤ y → found y p b ≡ listed y p (a .list)
+  pub found-before : (y : ℕ) → 1 ≤ y → found y p b ≡ listed y p (a .list)
   found-before y l = ap (found y p) (a .before) ∙ rows-found y p (a .unused) (a .list) l (a .good)
 
-  found-after : (y : ℕ) → 1 ≤ y → found y p b′ ≡ listed y p (step (a .list) c)
+  pub counts-before : (y : ℕ) → 1 ≤ y → countsFound (found y p b) ≡ countsFor y (a .list)
+  counts-before y l = ap countsFound (found-before y l) ∙ counts-listed y p (a .list)
+
+  pub found-after : (y : ℕ) → 1 ≤ y → found y p b′ ≡ listed y p (step (a .list) c)
   found-after y l = ap (found y p) (a .after=)
       ∙ rows-found y p (a .step= .unused) (step (a .list) c) l (a .step= .good)
 
@@ -104,19 +109,21 @@ late-is s h = rw (le-ltb s dayFrom (omega arith), le-ltb s eveningFrom (omega ar
 early-is : (s : ℕ) → s < 25200 → periodNumber (periodOf s) ≡ 2
 early-is s h = rw (lt-ltb s dayFrom h) refl
 
-enter-does : {p x t k s m : ℕ} {b b′ : Book} → Called p b (enter x t k s m) 0 b′ → Enters p x t k s b b′
+enter-does : {p x t k s m : ℕ} {cs : List ℕ} {b b′ : Book} → Called p b (enter x t k s m cs) 0 b′
+    → Enters p x t k s cs b b′
 unfolding soundRefusal rowsOf step rowHeld
-enter-does {p} {x} {t} {k} {s} {m} {b} {b′} q =
+enter-does {p} {x} {t} {k} {s} {m} {cs} {b} {b′} q =
     let a = acted q in
-    let e = entered (ids (a .unused) (a .list)) x t k s m (a .passed) in
+    let e = entered p (ids (a .unused) (a .list)) x t k s m cs (a .passed) in
     let low = identity-in x (e .identity=) .0 in
     let f = fields-in t k s m (e .fields) in
-    let v = movement x (groupOf t k s) none in
+    let v = movement x (groupOf t k s) cs none in
     let at = place-at p x (a .unused) (a .list) (a .good) in
     let new = subst (λ (w : Book). stands x (w .identities) ≡ false) (sym (a .before)) (not-true _ (e .new)) in
-    let stored : (n : ℕ) → periodNumber (periodOf s) ≡ n → found x p b′ ≡ bare p (6 * t + 3 * k + n) =
+    let stored : (n : ℕ) → periodNumber (periodOf s) ≡ n → found x p b′ ≡ bare p (6 * t + 3 * k + n) cs =
     λ n z. found-after a x low
-    ∙ added-found p v at ∙ ap (bare p) (group-of t k s (f .0) (f .1) ∙ ap (λ i. 6 * t + 3 * k + i) z) in
+    ∙ added-found p v at
+    ∙ ap (λ g. bare p g cs) (group-of t k s (f .0) (f .1) ∙ ap (λ i. 6 * t + 3 * k + i) z) in
     record {
       kept = keeps-others a x (λ y n. added-other y p v (λ z. n (sym z)) at);
       new = not-standing x p b new;
@@ -140,12 +147,12 @@ module _ {p : ℕ} {b b′ : Book} {c : Call} (a : Acted p b c b′) (x : ℕ) (
   stood-before = standing-found x p b (subst (λ (w : Book). stands x (w .identities) ≡ true) (sym (a .before)) e)
 
   held-after : (h : Held) → step (a .list) c ≡ holding x h (a .list)
-      → found x p b′ ≡ rowHeld p (groupFound (found x p b)) h
+      → found x p b′ ≡ nowHolds p h (found x p b)
   held-after h s =
       found-after a x low
       ∙ ap (listed x p) s
       ∙ holding-found p h at-row
-      ∙ ap (λ (w : Row). rowHeld p (groupFound w) h) (sym (found-before a x low))
+      ∙ ap (nowHolds p h) (sym (found-before a x low))
 
   held-others : (h : Held) → step (a .list) c ≡ holding x h (a .list) → KeepsOthers p x b b′
   held-others h s = keeps-others a x (λ y n. ap (listed y p) s ∙ holding-other y p h n at-row)
@@ -172,7 +179,7 @@ supply-does : {p x : ℕ} {ls : List ℕ} {b b′ : Book} → Called p b (supply
 unfolding soundRefusal rowsOf step rowHeld
 supply-does {p} {x} {ls} {b} {b′} q =
     let a = acted q in
-    let w = supplied p (ids (a .unused) (a .list)) x ls (a .passed) in
+    let w = supplied p (ids (a .unused) (a .list)) (column countCells p (a .unused) (a .list)) x ls (a .passed) in
     let i = w .0 .identity= in
     let e = w .0 .stands= in
     record {
@@ -202,10 +209,20 @@ take-back-does {p} {x} {b} {b′} q =
     record {
       kept = held-others a x i e none refl;
       held =
-          sym (mark-found x p (b .identities) (b .groups) (b .marks) (b .levels) there)
+          sym (mark-found x p (b .identities) (b .groups) (b .marks) (b .counts) (b .levels) there)
           ∙ taken-mark (b .identities) (b .marks) x y;
       found= = held-after a x i e none refl;
     }
+
+-- an entry that no rule refuses is accepted
+pub enters-freely : (p : ℕ) (b : Book) (x t k s m : ℕ) (cs : List ℕ) → SoundBook p b → CountsInRange p cs
+    → Fields t k s m → 150 < m → (1 ≤ x) × (x ≤ 99999) → found x p b ≡ nowhere → (Full b → ⊥)
+    → refusal p b (enter x t k s m cs) ≡ 0
+enters-freely p b x t k s m cs book given f heavy range new room =
+    let first = refusal-order p b (enter x t k s m cs) .otherwise (λ n. n book) .otherwise (λ n. n given) in
+    let fields = first .otherwise (λ n. n f) .otherwise (λ l. omega arith) in
+    let free = fields .otherwise (⊎-elim (λ z. omega arith) (λ z. omega arith)) .otherwise (λ n. n new) in
+    free .otherwise room
 
 withdraw-does : {p x : ℕ} {b b′ : Book} → Called p b (withdraw x) 0 b′ → Withdraws p x b b′
 unfolding soundRefusal rowsOf step
@@ -214,22 +231,18 @@ withdraw-does {p} {x} {b} {b′} q =
     let w = withdrawn (ids (a .unused) (a .list)) x (a .passed) in
     let i = w .identity= in
     let e = w .stands= in
-    let range = identity-in x i in
     let gone = gone-after a x i e refl in
     record {
       kept = gone-others a x i e refl;
       stood = stood-before a x i e;
       gone = gone;
-      free = λ t k s m f h.
-          let book = refusal-order p b′ (enter x t k s m) .otherwise
-          (λ n. n (sound-exactly p b′ .only (a .is-sound))) in
-          let fields = book .otherwise (λ n. n f) .otherwise (λ l. omega arith) in
-          let new = fields .otherwise (⊎-elim (λ z. omega arith) (λ z. omega arith)) .otherwise (λ n. n gone) in
-          new .otherwise (room-after a x i e refl);
+      free = λ t k s m cs given f h.
+          enters-freely p b′ x t k s m cs (sound-exactly p b′ .only (a .is-sound)) given f h (identity-in x i) gone
+          (room-after a x i e refl);
     }
 
 pub call-does : {p : ℕ} {b b′ : Book} (c : Call) → Called p b c 0 b′ → Does p c b b′
-call-does (enter x t k s m) q = enter-does q
+call-does (enter x t k s m cs) q = enter-does q
 call-does (supply x ls) q = supply-does q
 call-does (takeBack x) q = take-back-does q
 call-does (withdraw x) q = withdraw-does q

@@ -1,26 +1,30 @@
 -- Each call is answered in the order of the rules, each number exactly for its reason. Assumes nothing.
-use mathlib.Core.Path.{_≡_, refl, sym, ap, _∙_}
-use mathlib.Core.Bool.{Bool, true, false, cond, not, _&&_, true≢false}
-use mathlib.Core.{Logic.inl, Logic.inr, Logic.⊎-elim, List.List, List.[], List._∷_}
-use Prim.Native.Nat.{ℕ, zero, suc, _+_, _≤_, _<_}
-use native.Mathlib.{Nat.not-suc-le-zero, Omega.arith}
-use lib.{ListN.length, ListN.take, ListN.drop, ListN.getD, Seq.getD-drop, Dec.eqb, Dec.leb, Dec.ltb, Dec.leb·suc-suc}
+use mathlib.Core.Path.{_≡_, refl, sym, ap, subst, _∙_}
+use mathlib.Core.Bool.{Bool, true, false, not, _&&_, true≢false}
+use mathlib.Core.{Logic.inl, Logic.inr, Logic.⊎-elim, List.List}
+use Prim.Native.Nat.{ℕ, zero, suc, _≤_, _<_}
+use native.Mathlib.Omega.{arith}
+use lib.{ListN.length, ListN.getD, Dec.eqb, Dec.leb, Dec.ltb}
 use borrow.Author.Tests.{ltb-true, ltb-false, leb-true, leb-false, eqb-true, eqb-false, le-leb, lt-ltb, eq-eqb, ne-eqb}
 use Rattle.refusal.specs.Refuse.{refuse}
 use Rattle.refusal.proofs.{Laws.and-left, Laws.and-right, Ranges.within-at, Ranges.within-each}
 use Rattle.movement.specs.Limits.{typeCount, kindCount, secondsADay, maxMass, massNotCounted, maxIdentity, maxLevel}
 use Rattle.movement.specs.Aircraft.{aircraftNumbered, massFits}
-use Rattle.movement.specs.Rules.{fieldsFit, counts, movementRefusal, identityFits, levelsFit}
-use Rattle.book_rules.specs.Columns.{Book, firstAt, indexOf, stands, sound}
+use Rattle.movement.specs.Rules.{fieldsFit, counts, movementRefusal, identityFits, levelsFit, countsFit, zeroElsewhere}
+use Rattle.movement.specs.Ranges.{CountsInRange, ZeroElsewhere}
+use Rattle.movement.proofs.Ranges.{ranges-hold}
+use Rattle.book_rules.specs.Columns.{Book, indexOf, stands, sound, cellsAt}
 use Rattle.book_rules.specs.Calls.{Call, refusedOr, enterRefusal, supplyRefusal, takeBackRefusal}
 use Rattle.book_rules.specs.Calls.{withdrawRefusal, soundRefusal, refusal}
 use Rattle.book_rules.specs.Calls.Call.{enter, supply, takeBack, withdraw}
 use Rattle.book_rules.specs.Reasons.{Fields, Levels, NoIdentity, Full}
 use Rattle.book_rules.specs.{SoundBook.SoundBook, Lookup.Row, Lookup.foundFrom, Lookup.found, Lookup.markFound}
-use Rattle.book_rules.specs.Lookup.Row.{nowhere, row}
+use Rattle.book_rules.specs.Lookup.{countsFound}
+use Rattle.book_rules.specs.Lookup.Row.{nowhere}
 use Rattle.book_rules.specs.Order.{Given, InOrder}
 use Rattle.book_rules.proofs.Search.{index-is, index-before, stands-index}
-use Rattle.book_rules.proofs.SoundBook.{sound-exactly}
+use Rattle.book_rules.proofs.Finding.{isFound, stands-found, found-none, row-found}
+use Rattle.book_rules.proofs.{Cells.cells-length, Accepted.levels-length, SoundBook.sound-exactly}
 
 -- A test and the reason that it fails for
 
@@ -123,31 +127,8 @@ levels-decide p ls =
     (λ l. rw (eq-eqb (length ls) p (l .number))
     (within-each maxLevel ls (λ j h. l .range j (omega (arith, l .number)))))
 
--- an identity that stands is found
-isFound : Row → Bool
-isFound nowhere = false
-isFound (row g m ls) = true
-
-stands-found : (x p : ℕ) (xs gs ms ls : List ℕ) → stands x xs ≡ isFound (foundFrom x p xs gs ms ls)
-unfolding stands indexOf firstAt foundFrom isFound
-stands-found x p [] gs ms ls = refl
-stands-found x p (y ∷ ys) gs ms ls = by (eqb y x) (stands-found x p ys (drop 1 gs) (drop 1 ms) (drop p ls))
-  where
-    at : ℕ → Bool
-    at z = eqb z x
-
-    by : (t : Bool) → ltb (firstAt at ys) (length ys)
-        ≡ isFound (foundFrom x p ys (drop 1 gs) (drop 1 ms) (drop p ls))
-        → ltb (cond t 0 (suc (firstAt at ys))) (suc (length ys))
-        ≡ isFound (cond t (row (getD gs 0 0) (getD ms 0 0) (take p ls))
-        (foundFrom x p ys (drop 1 gs) (drop 1 ms) (drop p ls)))
-    by true ih = lt-ltb 0 (suc (length ys)) (omega arith)
-    by false ih = leb·suc-suc (suc (firstAt at ys)) (length ys) ∙ ih
-
-found-none : (r : Row) → isFound r ≡ false → r ≡ nowhere
-unfolding isFound
-found-none nowhere e = refl
-found-none (row g m ls) e = absurd (true≢false e)
+given-decide : (p : ℕ) (cs : List ℕ) → Decides (countsFit p cs) (CountsInRange p cs → ⊥)
+given-decide p cs = let r = ranges-hold .counts= p cs in decides-not (countsFit p cs) (r .0) (r .1)
 
 found-decides : (r : Row) → Decides (isFound r) (r ≡ nowhere)
 unfolding isFound
@@ -155,13 +136,14 @@ found-decides r = decides (isFound r) (λ e z. true≢false (sym e ∙ ap isFoun
 
 stands-decides : (x p : ℕ) (b : Book) → Decides (stands x (b .identities)) (found x p b ≡ nowhere)
 stands-decides x p b =
-    let e = stands-found x p (b .identities) (b .groups) (b .marks) (b .levels) in
+    let e = stands-found x p (b .identities) (b .groups) (b .marks) (b .counts) (b .levels) in
     let d = found-decides (found x p b) in
     record { fails = λ h. e ∙ d .fails h; passes = λ n. e ∙ d .passes n }
 
 pub not-standing : (x p : ℕ) (b : Book) → stands x (b .identities) ≡ false → found x p b ≡ nowhere
 not-standing x p b e =
-    found-none (found x p b) (sym (stands-found x p (b .identities) (b .groups) (b .marks) (b .levels)) ∙ e)
+    found-none (found x p b)
+    (sym (stands-found x p (b .identities) (b .groups) (b .marks) (b .counts) (b .levels)) ∙ e)
 
 pub standing-found : (x p : ℕ) (b : Book) → stands x (b .identities) ≡ true → found x p b ≡ nowhere → ⊥
 standing-found x p b e z = true≢false (sym e ∙ stands-decides x p b .fails z)
@@ -197,34 +179,33 @@ room-decides b = decides (stands 0 (b .identities)) never full
             ))
 
 -- the mark of a row that stands
-pub mark-found : (x p : ℕ) (xs gs ms ls : List ℕ) → indexOf x xs < length xs
-    → getD ms (indexOf x xs) 0 ≡ markFound (foundFrom x p xs gs ms ls)
-unfolding indexOf firstAt foundFrom
-mark-found x p [] gs ms ls h = absurd (not-suc-le-zero h)
-mark-found x p (y ∷ ys) gs ms ls h = by (eqb y x) h (mark-found x p ys (drop 1 gs) (drop 1 ms) (drop p ls))
-  where
-    at : ℕ → Bool
-    at z = eqb z x
-
-    by : (t : Bool) → cond t 0 (suc (firstAt at ys)) < suc (length ys)
-        → (firstAt at ys < length ys
-        → getD (drop 1 ms) (firstAt at ys) 0 ≡ markFound (foundFrom x p ys (drop 1 gs) (drop 1 ms) (drop p ls)))
-        → getD ms (cond t 0 (suc (firstAt at ys))) 0
-        ≡ markFound (cond t (row (getD gs 0 0) (getD ms 0 0) (take p ls))
-        (foundFrom x p ys (drop 1 gs) (drop 1 ms) (drop p ls)))
-    by true h ih = refl
-    by false h ih =
-        let e : suc (firstAt at ys) ≡ 1 + firstAt at ys = omega arith in
-        ap (λ n. getD ms n 0) e ∙ sym (getD-drop 1 ms (firstAt at ys) 0) ∙ ih (omega arith)
+pub mark-found : (x p : ℕ) (xs gs ms cs ls : List ℕ) → indexOf x xs < length xs
+    → getD ms (indexOf x xs) 0 ≡ markFound (foundFrom x p xs gs ms cs ls)
+mark-found x p xs gs ms cs ls h = sym (ap markFound (row-found x p xs gs ms cs ls h))
 
 held-decides : (x p : ℕ) (b : Book) → SoundBook p b → stands x (b .identities) ≡ true
     → Decides (eqb (getD (b .marks) (indexOf x (b .identities)) 0) 1) (markFound (found x p b) ≡ 0)
 held-decides x p b s e =
     let h = stands-index x (b .identities) e in
     let m = getD (b .marks) (indexOf x (b .identities)) 0 in
-    let same = mark-found x p (b .identities) (b .groups) (b .marks) (b .levels) h in
+    let same = mark-found x p (b .identities) (b .groups) (b .marks) (b .counts) (b .levels) h in
     let top = s .row (indexOf x (b .identities)) h .mark in
     decides (eqb m 1) (λ t z. omega (arith, eqb-true m 1 t)) (λ t. omega (arith, eqb-false m 1 t))
+
+-- the levels given for a row that stands are zero where it doesn't count
+elsewhere-decides : (x p : ℕ) (b : Book) (ls : List ℕ) → SoundBook p b → stands x (b .identities) ≡ true
+    → levelsFit p ls ≡ true
+    → Decides (zeroElsewhere (cellsAt p (indexOf x (b .identities)) (b .counts)) ls)
+    (ZeroElsewhere p (countsFound (found x p b)) ls → ⊥)
+elsewhere-decides x p b ls s e l =
+    let h = stands-index x (b .identities) e in
+    let cs = cellsAt p (indexOf x (b .identities)) (b .counts) in
+    let wide = cells-length p (indexOf x (b .identities)) (length (b .identities)) (b .counts) h (s .counts) in
+    let same : cs ≡ countsFound (found x p b) =
+    sym (ap countsFound (row-found x p (b .identities) (b .groups) (b .marks) (b .counts) (b .levels) h)) in
+    let r = ranges-hold .elsewhere p cs ls wide (levels-length p ls l) in
+    subst (λ (v : List ℕ). Decides (zeroElsewhere cs ls) (ZeroElsewhere p v ls → ⊥)) same
+    (decides-not (zeroElsewhere cs ls) (r .0) (r .1))
 
 -- The theorem
 
@@ -233,27 +214,34 @@ rules-first false b rest = refl
 rules-first true false rest = refl
 rules-first true true rest = refl
 
-enter-rules : (ids : List ℕ) (x t k s m : ℕ)
-    → enterRefusal ids x t k s m
-    ≡ refuse 1 (fieldsFit t k s m)
-    (refuse 2 (counts m) (refuse 3 (identityFits x) (refuse 4 (not (stands x ids)) (refuse 6 (stands 0 ids) 0))))
+enter-rules : (p : ℕ) (ids : List ℕ) (x t k s m : ℕ) (cs : List ℕ)
+    → enterRefusal p ids x t k s m cs
+    ≡ refuse 9 (countsFit p cs)
+    (refuse 1 (fieldsFit t k s m)
+    (refuse 2 (counts m) (refuse 3 (identityFits x) (refuse 4 (not (stands x ids)) (refuse 6 (stands 0 ids) 0)))))
 unfolding enterRefusal movementRefusal
-enter-rules ids x t k s m = rules-first (fieldsFit t k s m) (counts m) _
+enter-rules p ids x t k s m cs =
+    ap (λ r. refuse 9 (countsFit p cs) r)
+    (rules-first (fieldsFit t k s m) (counts m)
+    (refuse 3 (identityFits x) (refuse 4 (not (stands x ids)) (refuse 6 (stands 0 ids) 0))))
 
 pub refusal-order : (p : ℕ) (b : Book) (c : Call) → InOrder p b c (refusal p b c)
 unfolding refusal soundRefusal supplyRefusal takeBackRefusal withdrawRefusal
-refusal-order p b (enter x t k s m) =
-    given-by (sound p b) refl (sound-decides p b) λ _ e₉.
-    given-by (fieldsFit t k s m) (e₉ ∙ enter-rules (b .identities) x t k s m) (fields-decide t k s m) λ _ e₁.
+refusal-order p b (enter x t k s m cs) =
+    given-by (sound p b) refl (sound-decides p b) λ _ e.
+    given-by (countsFit p cs) (e ∙ enter-rules p (b .identities) x t k s m cs) (given-decide p cs) λ _ e₉.
+    given-by (fieldsFit t k s m) e₉ (fields-decide t k s m) λ _ e₁.
     given-by (counts m) e₁ (counts-decide m) λ _ e₂.
     given-by (identityFits x) e₂ (identity-decides x) λ _ e₃.
     given-by (not (stands x (b .identities))) e₃ (new-decides x p b) λ _ e₄.
     given-by (stands 0 (b .identities)) e₄ (room-decides b) λ _ e₆. e₆
 refusal-order p b (supply x ls) =
-    given-by (sound p b) refl (sound-decides p b) λ _ e₉.
+    given-by (sound p b) refl (sound-decides p b) λ s e₉.
     given-by (identityFits x) e₉ (identity-decides x) λ _ e₃.
-    given-by (levelsFit p ls) e₃ (levels-decide p ls) λ _ e₇.
-    given-by (stands x (b .identities)) e₇ (stands-decides x p b) λ _ e₅. e₅
+    given-by (levelsFit p ls) e₃ (levels-decide p ls) λ l e₇.
+    given-by (stands x (b .identities)) e₇ (stands-decides x p b) λ t e₅.
+    given-by (zeroElsewhere (cellsAt p (indexOf x (b .identities)) (b .counts)) ls) e₅
+    (elsewhere-decides x p b ls (sound-exactly p b .only s) t l) λ _ e₁₉. e₁₉
 refusal-order p b (takeBack x) =
     given-by (sound p b) refl (sound-decides p b) λ s e₉.
     given-by (identityFits x) e₉ (identity-decides x) λ _ e₃.

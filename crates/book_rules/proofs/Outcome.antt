@@ -3,20 +3,21 @@ use mathlib.Core.{Path._≡_, Path.refl, Path.sym, Path.ap, Path.subst, Path._�
 use mathlib.Core.List.{List, [], _∷_}
 use Prim.Native.Nat.{ℕ, _≤_, _<_}
 use native.Mathlib.Omega.{arith}
-use lib.{ListN.length, ListN.length-replicate, Dec.eqb, Dec.ltb}
+use lib.{ListN.length, ListN.replicate, ListN.length-replicate, Dec.eqb, Dec.ltb}
 use borrow.Author.Tests.{le-leb, ltb-true, ltb-false, eqb-true, eqb-false}
-use Rattle.movement.specs.Limits.{maxPoints, maxRows}
+use Rattle.refusal.proofs.Ranges.{within-at}
+use Rattle.movement.specs.{Limits.maxPoints, Limits.maxRows, Limits.maxCount, Ranges.CountsInRange}
 use Rattle.book_rules.specs.{Columns.Book, Calls.Call, Calls.Called}
 use Rattle.book_rules.specs.History.{Held, Movement, movement, Made, movements, booked, emptyBook, rowsOf}
 use Rattle.book_rules.specs.{History.sizesFit, Lookup.found, Lookup.rowHeld, Lookup.listed, Order.InOrder}
 use Rattle.book_rules.specs.History.Held.{none, holds}
 use Rattle.book_rules.specs.Lookup.Row.{nowhere}
-use Rattle.book_rules.specs.Outcome.{CallHolds, FoundListed, EmptyHolds, FoundAlike}
-use Rattle.book_rules.proofs.{Accepted.after-refused, Standing.AllGood, Standing.Below, Standing.Rising}
+use Rattle.book_rules.specs.Outcome.{CallHolds, FoundListed, EmptyHolds, MayCountNowhere, FoundAlike}
+use Rattle.book_rules.proofs.Standing.{AllGood, Below, Rising, zeros-within}
 use Rattle.book_rules.proofs.{Reading.book-read, Kept.read-rows, History.told-all, History.history-sound}
-use Rattle.book_rules.proofs.{SoundBook.sound-exactly, Order.refusal-order}
+use Rattle.book_rules.proofs.{Accepted.after-refused, SoundBook.sound-exactly, Order.refusal-order}
 use Rattle.book_rules.proofs.Listed.{none-found, rows-found, listed-none, listed-this, listed-later}
-use Rattle.book_rules.proofs.{Listed.below-none, Lookup.call-does}
+use Rattle.book_rules.proofs.{Listed.below-none, Lookup.enters-freely, Lookup.call-does}
 
 pub call-holds : {p r : ℕ} {b b′ : Book} {c : Call} → Called p b c r b′ → CallHolds p b c r b′
 call-holds {p} {r} {b} {b′} {c} k =
@@ -36,7 +37,7 @@ unfolding emptyBook sizesFit booked
 empty-holds p n =
     record {
       rows = length-replicate {A = ℕ} n 0;
-      none = λ x l. none-found x p n _ _ _ l;
+      none = λ x l. none-found x p n _ _ _ _ l;
       sound= = λ hp hn.
           sound-exactly p (emptyBook p n) .only
           (history-sound p n [] ∙ rw (
@@ -47,35 +48,47 @@ empty-holds p n =
           ) refl);
     }
 
+pub may-count-nowhere : (p : ℕ) (b : Book) → MayCountNowhere p b
+may-count-nowhere p b x t k s m book f heavy range new room =
+    let nowhere-at : CountsInRange p (replicate p 0) = record {
+      one-a-point = length-replicate {A = ℕ} p 0;
+      yes-or-no = λ j h. within-at maxCount (replicate p 0) j (zeros-within maxCount p);
+    } in
+    enters-freely p b x t k s m (replicate p 0) book nowhere-at f heavy range new room
+
 -- Look-up says everything
 
-somewhere : (p g : ℕ) (h : Held) → rowHeld p g h ≡ nowhere → ⊥
+somewhere : (p : ℕ) (a : Movement) → rowHeld p (a .group) (a .counts) (a .held) ≡ nowhere → ⊥
 unfolding rowHeld
-somewhere p g none e = let z : _≡_ {A = ℕ} 0 1 = cc in omega arith
-somewhere p g (holds ls) e = let z : _≡_ {A = ℕ} 0 1 = cc in omega arith
+somewhere p a e = by (a .held) e
+  where
+    by : (h : Held) → rowHeld p (a .group) (a .counts) h ≡ nowhere → ⊥
+    by none e = let z : _≡_ {A = ℕ} 0 1 = cc in omega arith
+    by (holds ls) e = let z : _≡_ {A = ℕ} 0 1 = cc in omega arith
 
-row-same : (p g i : ℕ) (h k : Held) → rowHeld p g h ≡ rowHeld p i k → (g ≡ i) × (h ≡ k)
+row-same : (p g i : ℕ) (cs ds : List ℕ) (h k : Held) → rowHeld p g cs h ≡ rowHeld p i ds k
+    → (g ≡ i) × (cs ≡ ds) × (h ≡ k)
 unfolding rowHeld
-row-same p g i none none e = (cc, refl)
-row-same p g i none (holds ls) e = absurd (let z : _≡_ {A = ℕ} 0 1 = cc in omega arith)
-row-same p g i (holds ls) none e = absurd (let z : _≡_ {A = ℕ} 0 1 = cc in omega arith)
-row-same p g i (holds ls) (holds ks) e = (cc, cc)
+row-same p g i cs ds none none e = (cc, cc, refl)
+row-same p g i cs ds none (holds ls) e = absurd (let z : _≡_ {A = ℕ} 0 1 = cc in omega arith)
+row-same p g i cs ds (holds ls) none e = absurd (let z : _≡_ {A = ℕ} 0 1 = cc in omega arith)
+row-same p g i cs ds (holds ls) (holds ks) e = (cc, cc, cc)
 
 -- an identity that comes first in one list comes no later in another that is found alike
 not-lower : (p : ℕ) (a c : Movement) (ms ns : List Movement) → Rising (c ∷ ns)
     → listed (a .identity) p (a ∷ ms) ≡ listed (a .identity) p (c ∷ ns) → a .identity < c .identity → ⊥
 not-lower p a c ms ns r e l =
-    somewhere p (a .group) (a .held) (sym (listed-this (a .identity) p a ms refl) ∙ e
+    somewhere p a (sym (listed-this (a .identity) p a ms refl) ∙ e
     ∙ below-none (a .identity) p (c ∷ ns) l r)
 
 lists-same : (p : ℕ) (ms ns : List Movement) → AllGood p ms → AllGood p ns → Rising ms → Rising ns
     → ((x : ℕ) → 1 ≤ x → listed x p ms ≡ listed x p ns) → ms ≡ ns
 lists-same p [] [] g k r s h = refl
 lists-same p [] (c ∷ ns) g k r s h =
-    absurd (somewhere p (c .group) (c .held)
+    absurd (somewhere p c
     (sym (h (c .identity) (k .0 .low) ∙ listed-this (c .identity) p c ns refl) ∙ listed-none (c .identity) p))
 lists-same p (a ∷ ms) [] g k r s h =
-    absurd (somewhere p (a .group) (a .held) (sym (listed-this (a .identity) p a ms refl)
+    absurd (somewhere p a (sym (listed-this (a .identity) p a ms refl)
     ∙ h (a .identity) (g .0 .low) ∙ listed-none (a .identity) p))
 lists-same p (a ∷ ms) (c ∷ ns) g k r s h =
     let here = h (a .identity) (g .0 .low) in
@@ -83,10 +96,10 @@ lists-same p (a ∷ ms) (c ∷ ns) g k r s h =
     let high = not-lower p c a ns ms r (sym (h (c .identity) (k .0 .low))) in
     let e : a .identity ≡ c .identity =
     order (ltb (a .identity) (c .identity)) (ltb (c .identity) (a .identity)) refl refl low high in
-    let w = row-same p (a .group) (c .group) (a .held) (c .held)
+    let w = row-same p (a .group) (c .group) (a .counts) (c .counts) (a .held) (c .held)
     (sym (listed-this (a .identity) p a ms refl) ∙ here ∙ listed-this (a .identity) p c ns (sym e)) in
     let rest = lists-same p ms ns (g .1) (k .1) (r .1) (s .1) (λ x l. later (eqb (a .identity) x) x refl l e) in
-    λ i. movement (e i) (w .0 i) (w .1 i) ∷ rest i
+    λ i. movement (e i) (w .0 i) (w .1 i) (w .2 i) ∷ rest i
   where
     order : (t u : Bool) → ltb (a .identity) (c .identity) ≡ t → ltb (c .identity) (a .identity) ≡ u
         → (a .identity < c .identity → ⊥) → (c .identity < a .identity → ⊥) → a .identity ≡ c .identity

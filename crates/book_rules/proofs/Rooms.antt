@@ -9,13 +9,15 @@ use lib.{ListN.length, ListN.drop, ListN.replicate, Seq.drop-append-add}
 use borrow.Author.Tests.{lt-leb, ne-eqb}
 use Rattle.movement.specs.Limits.{maxIdentity}
 use Rattle.book_rules.specs.Columns.{Book, indexOf, placeOf, sound}
-use Rattle.book_rules.specs.History.{Movement, markOf, column, identityCell, groupCell, markCell, levelCells}
+use Rattle.book_rules.specs.History.{Movement, markOf, column, identityCell, groupCell, markCell, countCells}
+use Rattle.book_rules.specs.History.{levelCells}
 use Rattle.book_rules.specs.InnerRows.{ZeroFrom, RowsTo}
 use Rattle.book_rules.proofs.Scans.{room, product-fits}
 use Rattle.book_rules.proofs.Search.{reached, place-after, place-last, place-index, index-is, stands-index}
 use Rattle.book_rules.proofs.Shapes.{sound-fits, sound-rises, sound-identities}
 use Rattle.book_rules.proofs.{Accepted.Stood, Accepted.identity-in, Blocks.Sized, Blocks.length-column}
-use Rattle.book_rules.proofs.{Standing.sized-one, Standing.sized-levels, Reading.book-read, Steps.first-unused}
+use Rattle.book_rules.proofs.{Standing.sized-one, Standing.sized-counts, Standing.sized-levels}
+use Rattle.book_rules.proofs.{Reading.book-read, Steps.first-unused}
 
 -- The zeros of a sound book's unused rows
 
@@ -45,6 +47,7 @@ record Ends (p : ℕ) (b : Book) (rows : ℕ) : Type 0 where
   ids : ZeroFrom rows (b .identities)
   groups : ZeroFrom rows (b .groups)
   marks : ZeroFrom rows (b .marks)
+  counts : ZeroFrom (rows * p) (b .counts)
   levels : ZeroFrom (rows * p) (b .levels)
 
 ends : (p : ℕ) (b : Book) (rows : ℕ) → sound p b ≡ true → rows ≡ indexOf 0 (b .identities) → Ends p b rows
@@ -53,6 +56,7 @@ ends p b rows s e =
     let n : rows ≡ length (r .list) = e ∙ ap (indexOf 0) (r .ids)
     ∙ first-unused p (r .unused) (r .list) (r .good) in
     let one : rows ≡ length (r .list) * 1 = n ∙ sym (mul-one (length (r .list))) in
+    let cells : rows * p ≡ length (r .list) * p = ap (λ i. i * p) n in
     record {
       ids =
           zero-column identityCell 1 (r .unused) rows (r .list) (b .identities)
@@ -63,9 +67,12 @@ ends p b rows s e =
       marks =
           zero-column markCell 1 (r .unused) rows (r .list) (b .marks)
           (sized-one (λ a. markOf (a .held)) (r .list)) (r .marks) one;
+      counts =
+          zero-column countCells p (r .unused) (rows * p) (r .list) (b .counts)
+          (sized-counts p (r .list) (r .good)) (r .counts) cells;
       levels =
           zero-column (levelCells p) p (r .unused) (rows * p) (r .list) (b .levels)
-          (sized-levels p (r .list) (r .good)) (r .levels) (ap (λ i. i * p) n);
+          (sized-levels p (r .list) (r .good)) (r .levels) cells;
     }
 
 zero-at : {m n : ℕ} {xs : List ℕ} → m ≡ n → ZeroFrom n xs → ZeroFrom m xs
@@ -77,6 +84,7 @@ pub record RoomIn (p : ℕ) (b : Book) (at rows : ℕ) : Type 0 where
   pub ids : ZeroFrom (at + (rows - at)) (b .identities) × (at + (rows - at) + 1 ≤ length (b .identities))
   pub groups : ZeroFrom (at + (rows - at)) (b .groups) × (at + (rows - at) + 1 ≤ length (b .groups))
   pub marks : ZeroFrom (at + (rows - at)) (b .marks) × (at + (rows - at) + 1 ≤ length (b .marks))
+  pub counts : ZeroFrom (at * p + (rows - at) * p) (b .counts) × (at * p + (rows - at) * p + p ≤ length (b .counts))
   pub levels : ZeroFrom (at * p + (rows - at) * p) (b .levels) × (at * p + (rows - at) * p + p ≤ length (b .levels))
   pub at-fits : Fits w64 (at * p)
   pub count-fits : Fits w64 ((rows - at) * p)
@@ -89,12 +97,14 @@ room-in p b at rows r h =
     let a = r .at≤ in
     let e : at + (rows - at) ≡ rows = omega arith in
     let q : at * p + (rows - at) * p ≡ rows * p = sym (add-mul at (rows - at) p) ∙ ap (λ n. n * p) e in
+    let c = room p rows (rows * p) (length (b .identities)) (length (b .counts)) refl h (f .counts=) in
     let l = room p rows (rows * p) (length (b .identities)) (length (b .levels)) refl h (f .levels=) in
     let m = product-fits rows p (omega (arith, f .rows≤)) (f .points) in
     record {
       ids = (zero-at e (z .ids), omega arith);
       groups = (zero-at e (z .groups), omega (arith, f .groups=));
       marks = (zero-at e (z .marks), omega (arith, f .marks=));
+      counts = (zero-at q (z .counts), omega arith);
       levels = (zero-at q (z .levels), omega arith);
       at-fits = omega arith;
       count-fits = omega arith;
@@ -106,6 +116,7 @@ pub record RoomOut (p : ℕ) (b : Book) (at rows : ℕ) : Type 0 where
   pub ids : ZeroFrom (at + (rows - at - 1 + 1)) (b .identities)
   pub groups : ZeroFrom (at + (rows - at - 1 + 1)) (b .groups)
   pub marks : ZeroFrom (at + (rows - at - 1 + 1)) (b .marks)
+  pub counts : ZeroFrom (at * p + ((rows - at - 1) * p + p)) (b .counts)
   pub levels : ZeroFrom (at * p + ((rows - at - 1) * p + p)) (b .levels)
   pub at-fits : Fits w64 (at * p)
   pub count-fits : Fits w64 ((rows - at - 1) * p)
@@ -124,6 +135,7 @@ room-out p b at rows r h =
       ids = zero-at e (z .ids);
       groups = zero-at e (z .groups);
       marks = zero-at e (z .marks);
+      counts = zero-at q (z .counts);
       levels = zero-at q (z .levels);
       at-fits = omega arith;
       count-fits = omega arith;
@@ -134,6 +146,7 @@ room-out p b at rows r h =
 pub record RowOf (p : ℕ) (b : Book) (x at : ℕ) : Type 0 where
   pub index : indexOf x (b .identities) ≡ at
   pub marks< : at + 1 ≤ length (b .marks)
+  pub counts< : at * p + p ≤ length (b .counts)
   pub levels< : at * p + p ≤ length (b .levels)
   pub fits : Fits w64 (at * p)
   pub used : at < indexOf 0 (b .identities)
@@ -151,6 +164,14 @@ row-of {p} {x} {at} {b} s w e =
     rw (ne-eqb x 0 (omega arith), lt-leb (maxIdentity + 1) x (omega arith)) refl in
     let before = place-after (maxIdentity + 1) xs (indexOf x xs) (sound-rises p b s) i (rw (index-is x xs i) over) in
     let last = place-last maxIdentity xs (sound-identities p b s) in
+    let c = room p at (at * p) (length xs) (length (b .counts)) refl (omega arith) (f .counts=) in
     let l = room p at (at * p) (length xs) (length (b .levels)) refl (omega arith) (f .levels=) in
     let m = product-fits at p (omega (arith, f .rows≤)) (f .points) in
-    record { index = same; marks< = omega (arith, f .marks=); levels< = l; fits = m; used = omega arith }
+    record {
+      index = same;
+      marks< = omega (arith, f .marks=);
+      counts< = c;
+      levels< = l;
+      fits = m;
+      used = omega arith;
+    }

@@ -1,20 +1,22 @@
 -- The test of soundness passes exactly the books that are sound in the rules' words. Assumes nothing.
-use mathlib.Core.Path.{_≡_, refl, subst, _∙_}
+use mathlib.Core.Path.{_≡_, refl, sym, _∙_}
 use mathlib.Core.{Bool.Bool, Bool.true, Bool.false, Bool.cond, Bool._&&_, Bool._||_, Logic.inl, Logic.inr}
 use mathlib.Core.List.{List, [], _∷_}
 use Prim.Native.Nat.{ℕ, zero, suc, _+_, _*_, _≤_, _<_}
-use native.Mathlib.{Nat.zero-mul, Nat.suc-mul, Nat.le-of-suc-le-suc, Nat.not-suc-le-zero, Omega.arith}
-use lib.ListN.{length, take, drop, getD, length-drop}
-use lib.{Seq.getD-take, Seq.getD-drop, Seq.drop-drop, Seq.length-take-le, Dec.eqb, Dec.leb, Dec.ltb}
+use native.Mathlib.{Nat.le-of-suc-le-suc, Nat.not-suc-le-zero, Omega.arith}
+use lib.{ListN.length, ListN.take, ListN.drop, ListN.getD, Dec.eqb, Dec.leb, Dec.ltb}
 use borrow.Author.Tests.{ltb-true, eqb-true, le-leb, lt-ltb, eq-eqb, ne-eqb}
 use Rattle.refusal.specs.Range.{allWithin}
 use Rattle.refusal.proofs.{Laws.and-left, Laws.and-right, Ranges.within-at, Ranges.within-each}
-use Rattle.movement.specs.Limits.{maxRows, maxPoints, maxIdentity, maxLevel, groupCount}
-use Rattle.book_rules.specs.Columns.{Book, shapeFits, shaped, follows, followed, rising, headSound, topLevel}
-use Rattle.book_rules.specs.{Columns.rowSound, Columns.rowsSound, Columns.sound, Calls.Call, Calls.refusal}
+use Rattle.movement.specs.Limits.{maxRows, maxPoints, maxIdentity, maxCount, maxLevel, groupCount}
+use Rattle.movement.proofs.Elsewhere.{elsewhere-at, elsewhere-each}
+use Rattle.book_rules.specs.Columns.{Book, shapeFits, shaped, follows, followed, rising, headSound, topCount}
+use Rattle.book_rules.specs.Columns.{topLevel, rowSound, rowsSound, sound, cellsAt}
+use Rattle.book_rules.specs.Calls.{Call, refusal}
 use Rattle.book_rules.specs.SoundBook.{SoundRow, Later, SoundBook, SoundExactly, SizesRefused}
-use Rattle.book_rules.proofs.{Scans.room, Shapes.sound-fits, Shapes.sound-rises, Shapes.sound-rows}
-use Rattle.book_rules.proofs.RowFacts.{row-at, row-facts}
+use Rattle.book_rules.proofs.Shapes.{sound-fits, sound-rises, parts-row}
+use Rattle.book_rules.proofs.Cells.{cells-first, cells-next, cell-at, cells-length}
+use Rattle.book_rules.proofs.RowFacts.{parts-at, row-facts}
 
 -- Rising identities, by pairs of rows
 
@@ -81,89 +83,93 @@ head-of x g m a b c u = by (eqb x 0) refl
     by true z = let n = u (eqb-true x 0 z) in rw (eq-eqb g 0 (n .0), eq-eqb m 0 (n .1)) refl
     by false z = rw (le-leb x maxIdentity a, lt-ltb g groupCount b, le-leb m 1 c) refl
 
--- a level of the row is one of the column
-level-at : (p i : ℕ) (ls : List ℕ) (j : ℕ) → j < p
-    → getD (take p (drop (i * p) ls)) j 0 ≡ getD ls (i * p + j) 0
-level-at p i ls j h = getD-take p (drop (i * p) ls) j 0 h ∙ getD-drop (i * p) ls j 0
-
-bare-level : (m : ℕ) (ls : List ℕ) (j : ℕ) {l : ℕ} → allWithin (topLevel m) ls ≡ true → m ≡ 0
-    → getD ls j 0 ≡ l → l ≡ 0
-unfolding topLevel
-bare-level m ls j {l} w z e =
-    let k : allWithin 0 ls ≡ true = rw (eq-eqb m 0 z) at w in omega (arith, within-at 0 ls j k)
+-- a value of the row at a point, where its column may hold only zeros in this row
+bare-cell : (p i n : ℕ) (xs : List ℕ) (top : ℕ) → allWithin (cond (eqb n 0) 0 top) (cellsAt p i xs) ≡ true
+    → n ≡ 0 → (j : ℕ) → j < p → getD xs (i * p + j) 0 ≡ 0
+bare-cell p i n xs top w z j h =
+    let k : allWithin 0 (cellsAt p i xs) ≡ true = rw (eq-eqb n 0 z) at w in
+    omega (arith, within-at 0 (cellsAt p i xs) j k, cell-at p i xs j h)
 
 row-words : (p : ℕ) (b : Book) (i : ℕ) → sound p b ≡ true → i < length (b .identities) → SoundRow p b i
-unfolding rowSound
+unfolding topCount topLevel
 row-words p b i e h =
-    let f = sound-fits p b e in
     let x = getD (b .identities) i 0 in
     let g = getD (b .groups) i 0 in
     let m = getD (b .marks) i 0 in
-    let part = take p (drop (i * p) (b .levels)) in
-    let s = row-at p (b .identities) (b .groups) (b .marks) (b .levels) i (sound-rows p b e) (f .groups=)
-    (f .marks=) h in
+    let s = parts-at p b i e h in
     let r = row-facts p b i e h in
+    let wide = cells-length p i (length (b .identities)) (b .counts) h (sound-fits p b e .counts=) in
     record {
       identity = r .identity≤;
       group = r .group<;
       mark = r .mark≤;
+      count = r .count≤;
       level = r .level≤;
-      bare = λ z j k. bare-level m part j (and-right (headSound x g m) _ s) z (level-at p i (b .levels) j k);
-      unused = zero-head x g m (and-left (headSound x g m) _ s);
+      bare = bare-cell p i m (b .levels) maxLevel (s .levels);
+      silent = λ j k z.
+          sym (cell-at p i (b .levels) j k)
+          ∙ elsewhere-at (cellsAt p i (b .counts)) (cellsAt p i (b .levels)) j (s .elsewhere) (omega arith)
+          (cell-at p i (b .counts) j k ∙ z);
+      unused = zero-head x g m (s .head);
+      nowhere = bare-cell p i x (b .counts) maxCount (s .counts);
     }
 
-level-top : (m l v : ℕ) → l ≡ v → v ≤ 12000 → (m ≡ 0 → v ≡ 0) → l ≤ topLevel m
-unfolding topLevel
-level-top m l v e h z = by (eqb m 0) refl
+-- a row's values pass, where each is in range, and zero where only zeros may stand
+cells-pass : (p i n : ℕ) (xs : List ℕ) (top : ℕ) → length (cellsAt p i xs) ≡ p
+    → ((j : ℕ) → j < p → getD xs (i * p + j) 0 ≤ top)
+    → (n ≡ 0 → (j : ℕ) → j < p → getD xs (i * p + j) 0 ≡ 0)
+    → allWithin (cond (eqb n 0) 0 top) (cellsAt p i xs) ≡ true
+cells-pass p i n xs top w h z = by (eqb n 0) refl
   where
-    by : (t : Bool) → eqb m 0 ≡ t → l ≤ cond t 0 maxLevel
-    by true k = omega (arith, z (eqb-true m 0 k))
-    by false k = omega arith
+    by : (t : Bool) → eqb n 0 ≡ t → allWithin (cond t 0 top) (cellsAt p i xs) ≡ true
+    by true k =
+        within-each 0 (cellsAt p i xs)
+        (λ j l. omega (arith, cell-at p i xs j (omega arith), z (eqb-true n 0 k) j (omega arith)))
+    by false k =
+        within-each top (cellsAt p i xs)
+        (λ j l. omega (arith, cell-at p i xs j (omega arith), h j (omega arith)))
 
 row-passes : (p : ℕ) (b : Book) (i : ℕ) → SoundBook p b → i < length (b .identities)
-    → rowSound (getD (b .identities) i 0) (getD (b .groups) i 0) (getD (b .marks) i 0)
-    (take p (drop (i * p) (b .levels))) ≡ true
-unfolding rowSound
+    → rowSound (getD (b .identities) i 0) (getD (b .groups) i 0) (getD (b .marks) i 0) (cellsAt p i (b .counts))
+    (cellsAt p i (b .levels)) ≡ true
+unfolding topCount topLevel
 row-passes p b i s h =
     let r = s .row i h in
     let x = getD (b .identities) i 0 in
-    let g = getD (b .groups) i 0 in
     let m = getD (b .marks) i 0 in
-    let part = take p (drop (i * p) (b .levels)) in
-    let wide : length part ≡ p =
-    length-take-le p (drop (i * p) (b .levels))
-    (omega (
-      arith,
-      length-drop (i * p) (b .levels),
-      room p i (i * p) (length (b .identities))
-          (length (b .levels)) refl h (s .levels),
-    )) in
-    let top : (j : ℕ) → j < length part → getD part j 0 ≤ topLevel m =
-    λ j k. level-top m _ _ (level-at p i (b .levels) j (omega arith)) (r .level j (omega arith))
-    (λ z. r .bare z j (omega arith)) in
-    rw (head-of x g m (r .identity) (r .group) (r .mark) (r .unused)) (within-each (topLevel m) part top)
+    let cs = cellsAt p i (b .counts) in
+    let ls = cellsAt p i (b .levels) in
+    let c = cells-length p i (length (b .identities)) (b .counts) h (s .counts) in
+    let l = cells-length p i (length (b .identities)) (b .levels) h (s .levels) in
+    let quiet : (j : ℕ) → j < length cs → getD cs j 0 ≡ 0 → getD ls j 0 ≡ 0 =
+    λ j k z. cell-at p i (b .levels) j (omega arith)
+    ∙ r .silent j (omega arith) (sym (cell-at p i (b .counts) j (omega arith)) ∙ z) in
+    parts-row x (getD (b .groups) i 0) m cs ls (record {
+      head = head-of x (getD (b .groups) i 0) m (r .identity) (r .group) (r .mark) (r .unused);
+      counts = cells-pass p i x (b .counts) maxCount c (r .count) (r .nowhere);
+      levels = cells-pass p i m (b .levels) maxLevel l (r .level) (r .bare);
+      elsewhere = elsewhere-each cs ls quiet;
+    })
 
 -- All rows
 
-rows-pass : (p : ℕ) (xs gs ms ls : List ℕ) → length gs ≡ length xs → length ms ≡ length xs
+rows-pass : (p : ℕ) (xs gs ms cs ls : List ℕ) → length gs ≡ length xs → length ms ≡ length xs
     → ((i : ℕ) → i < length xs
-    → rowSound (getD xs i 0) (getD gs i 0) (getD ms i 0) (take p (drop (i * p) ls)) ≡ true)
-    → rowsSound p xs gs ms ls ≡ true
+    → rowSound (getD xs i 0) (getD gs i 0) (getD ms i 0) (cellsAt p i cs) (cellsAt p i ls) ≡ true)
+    → rowsSound p xs gs ms cs ls ≡ true
 unfolding rowsSound
-rows-pass p [] gs ms ls hg hm h = refl
-rows-pass p (x ∷ xs) [] ms ls hg hm h = refl
-rows-pass p (x ∷ xs) (g ∷ gs) [] ls hg hm h = refl
-rows-pass p (x ∷ xs) (g ∷ gs) (m ∷ ms) ls hg hm h =
-    let first : rowSound x g m (take p ls) ≡ true =
-    subst (λ n. rowSound x g m (take p (drop n ls)) ≡ true) (zero-mul p) (h 0 (omega arith)) in
-    rw first (rows-pass p xs gs ms (drop p ls) (omega arith) (omega arith) rest)
+rows-pass p [] gs ms cs ls hg hm h = refl
+rows-pass p (x ∷ xs) [] ms cs ls hg hm h = refl
+rows-pass p (x ∷ xs) (g ∷ gs) [] cs ls hg hm h = refl
+rows-pass p (x ∷ xs) (g ∷ gs) (m ∷ ms) cs ls hg hm h =
+    let first : rowSound x g m (take p cs) (take p ls) ≡ true =
+    rw (cells-first p cs, cells-first p ls) at (h 0 (omega arith)) in
+    rw first (rows-pass p xs gs ms (drop p cs) (drop p ls) (omega arith) (omega arith) rest)
   where
     rest : (i : ℕ) → i < length xs
-        → rowSound (getD xs i 0) (getD gs i 0) (getD ms i 0) (take p (drop (i * p) (drop p ls))) ≡ true
-    rest i k =
-        let q : suc i * p ≡ p + i * p = omega (arith, suc-mul i p) in
-        let row = h (suc i) (omega arith) in
-        rw (drop-drop (i * p) p ls, ← q) row
+        → rowSound (getD xs i 0) (getD gs i 0) (getD ms i 0) (cellsAt p i (drop p cs)) (cellsAt p i (drop p ls))
+        ≡ true
+    rest i k = rw (cells-next p i cs, cells-next p i ls) (h (suc i) (omega arith))
 
 shape-passes : (p : ℕ) (b : Book) → SoundBook p b → shaped p b ≡ true
 unfolding shaped shapeFits
@@ -176,6 +182,7 @@ shape-passes p b s =
       le-leb n maxRows (s .rows .1),
       eq-eqb (length (b .groups)) n (s .groups),
       eq-eqb (length (b .marks)) n (s .marks),
+      eq-eqb (length (b .counts)) (n * p) (s .counts),
       eq-eqb (length (b .levels)) (n * p) (s .levels),
     )
 
@@ -187,7 +194,7 @@ sound-exactly p b =
     record {
       passes = λ s.
           rw (shape-passes p b s, pairs-rise (b .identities) (s .rising))
-          (rows-pass p (b .identities) (b .groups) (b .marks) (b .levels) (s .groups) (s .marks)
+          (rows-pass p (b .identities) (b .groups) (b .marks) (b .counts) (b .levels) (s .groups) (s .marks)
           (λ i h. row-passes p b i s h));
       only = λ e.
           let f = sound-fits p b e in
@@ -196,6 +203,7 @@ sound-exactly p b =
             rows = (f .rows≥, f .rows≤);
             groups = f .groups=;
             marks = f .marks=;
+            counts = f .counts=;
             levels = f .levels=;
             rising = λ i j l h. rise-pairs (b .identities) i j (sound-rises p b e) l h;
             row = λ i h. row-words p b i e h;

@@ -8,26 +8,36 @@ use lib.ListN.{length, replicate, length-replicate, replicate-append-replicate}
 use lib.{Seq.take-at, Seq.drop-at, Dec.leb}
 use borrow.Author.Tests.{le-leb, lt-ltb, eq-eqb, ne-eqb}
 use Rattle.refusal.specs.Range.{allWithin}
-use Rattle.movement.specs.Limits.{maxIdentity, groupCount}
+use Rattle.movement.specs.{Limits.maxIdentity, Limits.maxCount, Limits.groupCount, Rules.zeroElsewhere}
+use Rattle.movement.proofs.Elsewhere.{elsewhere-zeros}
 use Rattle.book_rules.specs.Columns.{sound, shaped, shapeFits, rising, followed, follows, headSound, topLevel}
-use Rattle.book_rules.specs.Columns.{rowSound, rowsSound}
-use Rattle.book_rules.specs.History.{Held, Movement, added, holding, without, markOf, levelsOf}
-use Rattle.book_rules.specs.History.{column, identityCell, groupCell, markCell, levelCells, rowsOf, sizesFit}
+use Rattle.book_rules.specs.Columns.{topCount, cellsSound, rowSound, rowsSound}
+use Rattle.book_rules.specs.History.{Held, Movement, added, holding, without, countsFor, markOf, levelsOf}
+use Rattle.book_rules.specs.History.{column, identityCell, groupCell, markCell, countCells, levelCells, rowsOf}
+use Rattle.book_rules.specs.History.{sizesFit}
 use Rattle.book_rules.specs.History.Held.{none, holds}
 use Rattle.book_rules.proofs.Blocks.{Place, Found, Sized, length-column, added-last, added-here, added-there}
-use Rattle.book_rules.proofs.Blocks.{without-this, without-later, holding-this, holding-later}
+use Rattle.book_rules.proofs.Blocks.{without-this, without-later, holding-this, holding-later, counts-this}
+use Rattle.book_rules.proofs.Blocks.{counts-later}
 use Rattle.book_rules.proofs.Blocks.{Place.last, Place.here, Place.there, Found.this, Found.later}
 
--- levels for every point, in range; none counts as zeros
-pub record Filled (p : ℕ) (h : Held) : Type 0 where
-  pub wide : length (levelsOf p h) ≡ p
-  pub within : allWithin (topLevel (markOf h)) (levelsOf p h) ≡ true
+-- a value for every point, none over `top`
+pub record PerPoint (p top : ℕ) (vs : List ℕ) : Type 0 where
+  pub wide : length vs ≡ p
+  pub within : allWithin top vs ≡ true
 
+-- levels in range; none counts as zeros
+abbrev pub Filled : ℕ → Held → Type 0
+Filled p h = PerPoint p (topLevel (markOf h)) (levelsOf p h)
+
+-- in range, with levels of zero where it doesn't count
 pub record Good (p : ℕ) (a : Movement) : Type 0 where
   pub low : 1 ≤ a .identity
   pub high : a .identity ≤ maxIdentity
   pub group< : a .group < groupCount
+  pub counted : PerPoint p maxCount (a .counts)
   pub filled : Filled p (a .held)
+  pub silent : zeroElsewhere (a .counts) (levelsOf p (a .held)) ≡ true
 
 abbrev pub AllGood : ℕ → List Movement → Type 0
 AllGood p [] = Unit {0}
@@ -108,13 +118,29 @@ rising-without {x} s (later {a} {ms} e r) =
 
 -- A movement holds other levels
 
-pub good-holding : {p x k : ℕ} {ms : List Movement} (h : Held) → Filled p h → AllGood p ms → Found x ms k
+-- levels h are zero where the identity x doesn't count
+abbrev pub Silent : (p x : ℕ) → Held → List Movement → Type 0
+Silent p x h ms = zeroElsewhere (countsFor x ms) (levelsOf p h) ≡ true
+
+pub good-holding : {p x k : ℕ} {ms : List Movement} (h : Held) → Filled p h → Silent p x h ms → AllGood p ms
+    → Found x ms k
     → AllGood p (holding x h ms)
-good-holding {p} {x} h f s (this {a} {ms} e) =
-    subst (AllGood p) (sym (holding-this x h a ms e))
-    (record { low = s .0 .low; high = s .0 .high; group< = s .0 .group<; filled = f }, s .1)
-good-holding {p} {x} h f s (later {a} {ms} e r) =
-    subst (AllGood p) (sym (holding-later x h a ms e)) (s .0, good-holding h f (s .1) r)
+good-holding {p} {x} h f z s (this {a} {ms} e) =
+    let old = s .0 in
+    subst (AllGood p) (sym (holding-this x h a ms e)) (
+      record {
+        low = old .low;
+        high = old .high;
+        group< = old .group<;
+        counted = old .counted;
+        filled = f;
+        silent = rw (counts-this x a ms e) at z;
+      },
+      s .1,
+    )
+good-holding {p} {x} h f z s (later {a} {ms} e r) =
+    subst (AllGood p) (sym (holding-later x h a ms e))
+    (s .0, good-holding h f (rw (counts-later x a ms e) at z) (s .1) r)
 
 pub length-holding : {x k : ℕ} {ms : List Movement} (h : Held) → Found x ms k
     → length (holding x h ms) ≡ length ms
@@ -138,9 +164,16 @@ pub sized-one : (g : Movement → ℕ) (ms : List Movement) → Sized (λ a. g a
 sized-one g [] = tt
 sized-one g (a ∷ ms) = (refl, sized-one g ms)
 
+sized-cells : (p : ℕ) (f : Movement → List ℕ) → ((a : Movement) → Good p a → length (f a) ≡ p)
+    → (ms : List Movement) → AllGood p ms → Sized f p ms
+sized-cells p f w [] s = tt
+sized-cells p f w (a ∷ ms) s = (w a (s .0), sized-cells p f w ms (s .1))
+
+pub sized-counts : (p : ℕ) (ms : List Movement) → AllGood p ms → Sized countCells p ms
+sized-counts p ms s = sized-cells p countCells (λ a g. g .counted .wide) ms s
+
 pub sized-levels : (p : ℕ) (ms : List Movement) → AllGood p ms → Sized (levelCells p) p ms
-sized-levels p [] s = tt
-sized-levels p (a ∷ ms) s = (s .0 .filled .wide, sized-levels p ms (s .1))
+sized-levels p ms s = sized-cells p (levelCells p) (λ a g. g .filled .wide) ms s
 
 -- Their book is sound
 
@@ -181,8 +214,8 @@ mark-le (holds ls) = refl
 
 -- a movement's row is sound
 row-good : (p : ℕ) (a : Movement) → Good p a
-    → rowSound (a .identity) (a .group) (markOf (a .held)) (levelsOf p (a .held)) ≡ true
-unfolding rowSound headSound
+    → rowSound (a .identity) (a .group) (markOf (a .held)) (a .counts) (levelsOf p (a .held)) ≡ true
+unfolding rowSound headSound cellsSound topCount
 row-good p a g =
     let n : a .identity ≡ 0 → ⊥ = omega (arith, g .low) in
     simp (
@@ -190,12 +223,15 @@ row-good p a g =
       le-leb (a .identity) maxIdentity (g .high),
       lt-ltb (a .group) groupCount (g .group<),
       mark-le (a .held),
+      g .counted .within,
       g .filled .within,
+      g .silent,
     )
 
 -- unused rows are sound
-zero-rows : (p u : ℕ) → rowsSound p (replicate u 0) (replicate u 0) (replicate u 0) (replicate (u * p) 0) ≡ true
-unfolding rowsSound rowSound headSound topLevel
+zero-rows : (p u : ℕ)
+    → rowsSound p (replicate u 0) (replicate u 0) (replicate u 0) (replicate (u * p) 0) (replicate (u * p) 0) ≡ true
+unfolding rowsSound rowSound headSound cellsSound topLevel topCount
 zero-rows p zero = refl
 zero-rows p (suc u) =
     let e : suc u * p ≡ p + u * p = omega (arith, suc-mul u p) in
@@ -207,17 +243,21 @@ zero-rows p (suc u) =
       take-at (replicate p 0) (replicate (u * p) 0) p l,
       drop-at (replicate p 0) (replicate (u * p) 0) p l,
       zeros-within 0 p,
+      elsewhere-zeros (replicate p 0) p,
     )
     (zero-rows p u)
 
 pub rows-good : (p u : ℕ) (ms : List Movement) → AllGood p ms
     → rowsSound p (column identityCell 1 u ms) (column groupCell 1 u ms) (column markCell 1 u ms)
-    (column (levelCells p) p u ms) ≡ true
+    (column countCells p u ms) (column (levelCells p) p u ms) ≡ true
 unfolding column rowsSound
 rows-good p u [] s = rw (mul-one u) (zero-rows p u)
 rows-good p u (a ∷ ms) s =
+    let v = s .0 .counted .wide in
     let w = s .0 .filled .wide in
     rw (
+      take-at (a .counts) (column countCells p u ms) p v,
+      drop-at (a .counts) (column countCells p u ms) p v,
       take-at (levelsOf p (a .held)) (column (levelCells p) p u ms) p w,
       drop-at (levelsOf p (a .held)) (column (levelCells p) p u ms) p w,
       row-good p a (s .0),
@@ -236,6 +276,7 @@ book-sound p u ms g r =
       one (λ a. a .identity),
       one (λ a. a .group),
       one (λ a. markOf (a .held)),
+      length-column countCells p u ms (sized-counts p ms g),
       length-column (levelCells p) p u ms (sized-levels p ms g),
     )
     (simp (eq-eqb n n refl, eq-eqb (n * p) (n * p) refl, column-rises p u ms g r, rows-good p u ms g, and-true))

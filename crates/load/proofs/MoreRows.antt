@@ -14,22 +14,17 @@ use Rattle.load_rules.proofs.TallyLaws.{sum-append}
 use Rattle.load.specs.InnerSteps.{table, groupAt, withGroup, withRow}
 use Rattle.load.proofs.CellLaws.{at-table, put-table}
 
--- A group with one row more, by identity and mark
+-- A group with one row more, by its mark
 
-module _ (c : Group) (x g m l : ℕ) where
-  pub row-unused : x ≡ 0 → c ≡ withRow c x g m l
+module _ (c : Group) (g m l : ℕ) where
+  pub row-missing : m ≡ 0 → groupWith (c .computed) (c .missing + 1) (c .energy) ≡ withRow c g m l
   unfolding withRow
-  row-unused e = rw (eq-eqb x 0 e) refl
+  row-missing e = rw (eq-eqb m 0 e) refl
 
-  pub row-missing : (x ≡ 0 → ⊥) → m ≡ 0
-      → groupWith (c .computed) (c .missing + 1) (c .energy) ≡ withRow c x g m l
+  pub row-computed : (e : ℕ) → (m ≡ 0 → ⊥) → e ≡ energyIn g l
+      → groupWith (c .computed + 1) (c .missing) (c .energy + e) ≡ withRow c g m l
   unfolding withRow
-  row-missing n e = rw (ne-eqb x 0 n, eq-eqb m 0 e) refl
-
-  pub row-computed : (e : ℕ) → (x ≡ 0 → ⊥) → (m ≡ 0 → ⊥) → e ≡ energyIn g l
-      → groupWith (c .computed + 1) (c .missing) (c .energy + e) ≡ withRow c x g m l
-  unfolding withRow
-  row-computed e n k q = rw (ne-eqb x 0 n, ne-eqb m 0 k, q) refl
+  row-computed e k q = rw (ne-eqb m 0 k, q) refl
 
 -- One share more
 
@@ -68,33 +63,29 @@ module _ (ss : List Share) (g h : ℕ) where
       go true q = rw (eqb-true g h q) (simp add-zero)
       go false q = simp add-zero
 
-  -- an unused row stores what stands there
-  more-none : cond (eqb g h) (tally ss g) (tally ss h) ≡ tally (ss ++ []) h
-  more-none = rw append-nil (go (eqb g h) refl)
-    where
-      go : (t : Bool) → eqb g h ≡ t → cond t (tally ss g) (tally ss h) ≡ tally ss h
-      go true q = rw (eqb-true g h q) refl
-      go false q = refl
-
-  more-row : (x m l : ℕ) → cond (eqb g h) (withRow (tally ss g) x g m l) (tally ss h)
-      ≡ tally (ss ++ rowShare x g m l) h
+  more-row : (m c l : ℕ) → (c ≡ 0 → ⊥)
+      → cond (eqb g h) (withRow (tally ss g) g m l) (tally ss h) ≡ tally (ss ++ rowShare g m c l) h
   unfolding withRow rowShare
-  more-row x m l = go (eqb x 0) (eqb m 0)
+  more-row m c l n = rw (ne-eqb c 0 n) (go (eqb m 0))
     where
-      go : (t u : Bool)
-          → cond (eqb g h) (cond t (tally ss g)
+      go : (u : Bool)
+          → cond (eqb g h)
           (cond u (groupWith (tally ss g .computed) (tally ss g .missing + 1) (tally ss g .energy))
-          (groupWith (tally ss g .computed + 1) (tally ss g .missing) (tally ss g .energy + energyIn g l))))
+          (groupWith (tally ss g .computed + 1) (tally ss g .missing) (tally ss g .energy + energyIn g l)))
           (tally ss h)
-          ≡ tally (ss ++ cond t [] (cond u (lacks g) (has g (energyIn g l)) ∷ [])) h
-      go true u = more-none
-      go false true = more-missing
-      go false false = more-computed (energyIn g l)
+          ≡ tally (ss ++ (cond u (lacks g) (has g (energyIn g l)) ∷ [])) h
+      go true = more-missing
+      go false = more-computed (energyIn g l)
 
--- one row more
-pub row-table : (ss : List Share) (x g m l : ℕ) → g < groupCount
-    → withGroup (table (tally ss)) g (withRow (groupAt (table (tally ss)) g) x g m l)
-    ≡ table (tally (ss ++ rowShare x g m l))
-row-table ss x g m l h =
-    rw (at-table (tally ss) g h, put-table (tally ss) (withRow (tally ss g) x g m l) g h)
-    (ap table (fun-ext (λ k. more-row ss g k x m l)))
+-- one row more that counts
+pub row-table : (ss : List Share) (g m c l : ℕ) → g < groupCount → (c ≡ 0 → ⊥)
+    → withGroup (table (tally ss)) g (withRow (groupAt (table (tally ss)) g) g m l)
+    ≡ table (tally (ss ++ rowShare g m c l))
+row-table ss g m c l h n =
+    rw (at-table (tally ss) g h, put-table (tally ss) (withRow (tally ss g) g m l) g h)
+    (ap table (fun-ext (λ k. more-row ss g k m c l n)))
+
+-- and one that doesn't
+pub row-left-out : (ss : List Share) (g m c l : ℕ) → c ≡ 0 → ss ++ rowShare g m c l ≡ ss
+unfolding rowShare
+row-left-out ss g m c l e = rw (eq-eqb c 0 e) (append-nil ss)

@@ -1,5 +1,5 @@
 -- What a sound book says of its rows, one by one, and of the tally of its first rows. Assumes nothing.
-use mathlib.Core.{Path._≡_, Path.ap, Bool.Bool, Bool.true, Bool.false, Bool.cond}
+use mathlib.Core.{Path._≡_, Path.sym, Path.ap, Bool.Bool, Bool.true, Bool.false, Bool.cond}
 use mathlib.Core.List.{List, [], _∷_, _++_}
 use Prim.Native.Nat.{ℕ, zero, suc, _+_, _*_, _≤_, _<_}
 use native.Mathlib.{Nat.suc-mul, Nat.mul-le-mul-right, Nat.add-mul, Numerals.add-one, Omega.arith}
@@ -17,7 +17,7 @@ use Rattle.load_rules.specs.Shares.Share.{has, lacks}
 use Rattle.load_rules.specs.Tally.{addsComputed, addsMissing, addsEnergy, sumOf, tally}
 use Rattle.load_rules.proofs.{SumLaws.sum-ext, TallyLaws.AllGrouped, TallyLaws.grouped-append, TallyLaws.counted-le}
 use Rattle.load.specs.InnerSteps.{table, groupAt, withGroup, RoomForOne, Bounded, withRow}
-use Rattle.load.proofs.{CellLaws.at-table, MoreRows.row-table}
+use Rattle.load.proofs.{CellLaws.at-table, MoreRows.row-table, MoreRows.row-left-out}
 
 -- Bounds of V, U and S
 
@@ -88,6 +88,7 @@ energy-in-small g l h = energy-le (l + weightOf (groupPeriod g)) (weighted-le g 
 pub record Row (p pt : ℕ) (b : Book) (i : ℕ) : Type 0 where
   pub in-groups : i < length (b .groups)
   pub in-marks : i < length (b .marks)
+  pub in-counts : i * p + pt < length (b .counts)
   pub in-levels : i * p + pt < length (b .levels)
   pub group< : getD (b .groups) i 0 < groupCount
   pub level≤ : getD (b .levels) (i * p + pt) 0 ≤ maxLevel
@@ -100,27 +101,25 @@ module _ (p pt : ℕ) (b : Book) (ok : sound p b ≡ true) (there : pt < p) wher
   row-level : (i : ℕ) → i < length (b .identities) → getD (b .levels) (i * p + pt) 0 ≤ maxLevel
   row-level i h = sound-exactly p b .only ok .row i h .level pt there
 
-  -- its place among the levels
-  row-place : (i : ℕ) → i < length (b .identities) → i * p + pt < length (b .levels)
-  row-place i h =
-      let f = sound-fits p b ok in
-      omega (arith, suc-mul i p, mul-le-mul-right p h, f .levels=)
+  -- its place in a column of one a point
+  row-place : (i : ℕ) → i < length (b .identities) → i * p + pt < length (b .identities) * p
+  row-place i h = omega (arith, suc-mul i p, mul-le-mul-right p h)
 
   -- The first n rows
 
   pub shares-length : (n : ℕ) → length (sharesTo p pt b n) ≤ n
   unfolding sharesTo rowShare
   shares-length zero = lit≤ tt
-  shares-length (suc n) = rw length-append (go _ (eqb (getD (b .identities) n 0) 0) (shares-length n))
+  shares-length (suc n) = rw length-append (go _ (eqb (getD (b .counts) (n * p + pt) 0) 0) (shares-length n))
     where
       go : (s : Share) (t : Bool) → length (sharesTo p pt b n) ≤ n
           → length (sharesTo p pt b n) + length (cond t [] (s ∷ [])) ≤ suc n
       go s true l = omega arith
       go s false l = omega arith
 
-  row-small : (x g m l : ℕ) → l ≤ maxLevel → AllSmall (rowShare x g m l)
+  row-small : (g m c l : ℕ) → l ≤ maxLevel → AllSmall (rowShare g m c l)
   unfolding rowShare
-  row-small x g m l h = go (eqb x 0) (eqb m 0)
+  row-small g m c l h = go (eqb c 0) (eqb m 0)
     where
       go : (t u : Bool) → AllSmall (cond t [] (cond u (lacks g) (has g (energyIn g l)) ∷ []))
       go true u = tt
@@ -132,7 +131,7 @@ module _ (p pt : ℕ) (b : Book) (ok : sound p b ≡ true) (there : pt < p) wher
   shares-small zero h = tt
   shares-small (suc n) h =
       small-append (sharesTo p pt b n) _ (shares-small n (omega arith))
-      (row-small (getD (b .identities) n 0) (getD (b .groups) n 0) (getD (b .marks) n 0) _ (row-level n h))
+      (row-small (getD (b .groups) n 0) (getD (b .marks) n 0) _ _ (row-level n h))
 
   rows-le : length (b .identities) ≤ maxMovements
   rows-le = let f = sound-fits p b ok in omega (arith, f .rows≤)
@@ -159,28 +158,38 @@ module _ (p pt : ℕ) (b : Book) (ok : sound p b ≡ true) (there : pt < p) wher
       record {
         in-groups = omega (arith, f .groups=);
         in-marks = omega (arith, f .marks=);
-        in-levels = row-place i h;
+        in-counts = omega (arith, f .counts=, row-place i h);
+        in-levels = omega (arith, f .levels=, row-place i h);
         group< = row-group i h;
         level≤ = row-level i h;
         room = row-room i h;
       }
 
-  -- one row more is tallied
+  -- one row more is tallied where it counts
   pub row-next : (i : ℕ) → i < length (b .identities) → (cells : List (List (List Group))) (next : Group)
-      → cells ≡ table (tally (sharesTo p pt b i))
-      → next ≡ withRow (groupAt cells (getD (b .groups) i 0)) (getD (b .identities) i 0) (getD (b .groups) i 0)
-      (getD (b .marks) i 0) (getD (b .levels) (i * p + pt) 0)
+      → cells ≡ table (tally (sharesTo p pt b i)) → (getD (b .counts) (i * p + pt) 0 ≡ 0 → ⊥)
+      → next ≡ withRow (groupAt cells (getD (b .groups) i 0)) (getD (b .groups) i 0) (getD (b .marks) i 0)
+      (getD (b .levels) (i * p + pt) 0)
       → withGroup cells (getD (b .groups) i 0) next ≡ table (tally (sharesTo p pt b (i + 1)))
   unfolding sharesTo
-  row-next i h cells next e w =
+  row-next i h cells next e n w =
       rw (add-one, w, e)
-      (row-table (sharesTo p pt b i) (getD (b .identities) i 0) (getD (b .groups) i 0) (getD (b .marks) i 0)
-      (getD (b .levels) (i * p + pt) 0) (row-group i h))
+      (row-table (sharesTo p pt b i) (getD (b .groups) i 0) (getD (b .marks) i 0) (getD (b .counts) (i * p + pt) 0)
+      (getD (b .levels) (i * p + pt) 0) (row-group i h) n)
+
+  -- and left out where it doesn't
+  pub row-skipped : (i : ℕ) → getD (b .counts) (i * p + pt) 0 ≡ 0
+      → sharesTo p pt b i ≡ sharesTo p pt b (i + 1)
+  unfolding sharesTo
+  row-skipped i z =
+      rw add-one
+      (sym (row-left-out (sharesTo p pt b i) (getD (b .groups) i 0) (getD (b .marks) i 0)
+      (getD (b .counts) (i * p + pt) 0) (getD (b .levels) (i * p + pt) 0) z))
 
   -- every row stands in a group
-  row-grouped : (x g m l : ℕ) → g < groupCount → AllGrouped (rowShare x g m l)
+  row-grouped : (g m c l : ℕ) → g < groupCount → AllGrouped (rowShare g m c l)
   unfolding rowShare
-  row-grouped x g m l h = go (eqb x 0) (eqb m 0)
+  row-grouped g m c l h = go (eqb c 0) (eqb m 0)
     where
       go : (t u : Bool) → AllGrouped (cond t [] (cond u (lacks g) (has g (energyIn g l)) ∷ []))
       go true u = tt
@@ -192,7 +201,7 @@ module _ (p pt : ℕ) (b : Book) (ok : sound p b ≡ true) (there : pt < p) wher
   rows-grouped zero h = tt
   rows-grouped (suc n) h =
       grouped-append (sharesTo p pt b n) _ (rows-grouped n (omega arith))
-      (row-grouped (getD (b .identities) n 0) (getD (b .groups) n 0) (getD (b .marks) n 0) _ (row-group n h))
+      (row-grouped (getD (b .groups) n 0) (getD (b .marks) n 0) _ _ (row-group n h))
 
   -- all rows
   pub rows-bounded : Bounded (table (tally (sharesTo p pt b (length (b .identities)))))

@@ -32,12 +32,11 @@ pub record RoomForOne (c : Group) : Type 0 where
   pub missing : c .missing < maxMovements
   pub energy : c .energy ≤ maxTotal
 
--- a group with one row more: identity x, group g, mark m and level l
-unfoldable pub withRow : (seen : Group) (identity group mark level : ℕ) → Group
-withRow c x g m l =
-    cond (eqb x 0) c
-    (cond (eqb m 0) (groupWith (c .computed) (c .missing + 1) (c .energy))
-    (groupWith (c .computed + 1) (c .missing) (c .energy + energyIn g l)))
+-- a group with one row more that counts: group g, mark m and level l
+unfoldable pub withRow : (seen : Group) (group mark level : ℕ) → Group
+withRow c g m l =
+    cond (eqb m 0) (groupWith (c .computed) (c .missing + 1) (c .energy))
+    (groupWith (c .computed + 1) (c .missing) (c .energy + energyIn g l))
 
 -- an energy and a factor whose product fits
 pub record Scalable (e upper lower : ℕ) : Type 0 where

@@ -35,24 +35,25 @@ pub fn account_at(
     ids: &[u32],
     groups: &[u32],
     marks: &[u32],
+    counts: &[u32],
     levels: &[u32],
     points: usize,
     point: usize,
     days: u32,
     answer: &mut [u64],
 ) -> u32
-    ensures { λ r. ⌜ Writes (bookLoad points point (bookBefore ids groups marks levels) days .refused)
-        (accountOf points point (bookBefore ids groups marks levels) days)
+    ensures { λ r. ⌜ Writes (bookLoad points point (bookBefore ids groups marks counts levels) days .refused)
+        (accountOf points point (bookBefore ids groups marks counts levels) days)
         (now (answer .entry)) r (now (answer .exit)) ⌝ }
 {
-    if !point_fits(ids, groups, marks, levels, points, point) {
+    if !point_fits(ids, groups, marks, counts, levels, points, point) {
         return 9;
     }
     if !days_fit(days) {
         return 11;
     }
     put_account(
-        groups_of(ids, groups, marks, levels, points, point),
+        groups_of(ids, groups, marks, counts, levels, points, point),
         days,
         answer,
     )

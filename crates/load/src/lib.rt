@@ -31,20 +31,21 @@ pub fn load_at(
     ids: &[u32],
     groups: &[u32],
     marks: &[u32],
+    counts: &[u32],
     levels: &[u32],
     points: usize,
     point: usize,
     days: u32,
 ) -> Load
-    ensures { λ r. ⌜ r ≡ bookLoad points point (bookBefore ids groups marks levels) days ⌝ }
+    ensures { λ r. ⌜ r ≡ bookLoad points point (bookBefore ids groups marks counts levels) days ⌝ }
 {
-    if !point_fits(ids, groups, marks, levels, points, point) {
+    if !point_fits(ids, groups, marks, counts, levels, points, point) {
         return refusal(9);
     }
     if !days_fit(days) {
         return refusal(11);
     }
-    load_of(ids, groups, marks, levels, points, point, days)
+    load_of(ids, groups, marks, counts, levels, points, point, days)
 }
 
 // The verdict on the load at a point of a book.
@@ -52,15 +53,16 @@ pub fn verdict_at(
     ids: &[u32],
     groups: &[u32],
     marks: &[u32],
+    counts: &[u32],
     levels: &[u32],
     points: usize,
     point: usize,
     days: u32,
     limit: u32,
 ) -> Judged
-    ensures { λ r. ⌜ Judging points point (bookBefore ids groups marks levels) days limit r ⌝ }
+    ensures { λ r. ⌜ Judging points point (bookBefore ids groups marks counts levels) days limit r ⌝ }
 {
-    if !point_fits(ids, groups, marks, levels, points, point) {
+    if !point_fits(ids, groups, marks, counts, levels, points, point) {
         return Judged::Refused(9);
     }
     if !days_fit(days) {
@@ -70,7 +72,7 @@ pub fn verdict_at(
         return Judged::Refused(15);
     }
     judged_by(
-        load_of(ids, groups, marks, levels, points, point, days),
+        load_of(ids, groups, marks, counts, levels, points, point, days),
         limit,
     )
 }
@@ -80,13 +82,14 @@ pub(crate) fn point_fits(
     ids: &[u32],
     groups: &[u32],
     marks: &[u32],
+    counts: &[u32],
     levels: &[u32],
     points: usize,
     point: usize,
 ) -> bool
-    ensures { λ r. ⌜ r ≡ (sound points (bookBefore ids groups marks levels) && ltb point points) ⌝ }
+    ensures { λ r. ⌜ r ≡ (sound points (bookBefore ids groups marks counts levels) && ltb point points) ⌝ }
 {
-    if !soundness::is_sound(ids, groups, marks, levels, points) {
+    if !soundness::is_sound(ids, groups, marks, counts, levels, points) {
         return false;
     }
     point < points
@@ -106,17 +109,21 @@ fn load_of(
     ids: &[u32],
     groups: &[u32],
     marks: &[u32],
+    counts: &[u32],
     levels: &[u32],
     points: usize,
     point: usize,
     days: u32,
 ) -> Load
-    requires { ⌜ sound points (bookNow ids groups marks levels) ≡ true ⌝ }
+    requires { ⌜ sound points (bookNow ids groups marks counts levels) ≡ true ⌝ }
     requires { ⌜ point < points ⌝ }
     requires { ⌜ daysFit days ≡ true ⌝ }
-    ensures { λ r. ⌜ r ≡ loadOf true (bookShares points point (bookBefore ids groups marks levels)) days ⌝ }
+    ensures { λ r. ⌜ r ≡ loadOf true (bookShares points point (bookBefore ids groups marks counts levels)) days ⌝ }
 {
-    answer_from(groups_of(ids, groups, marks, levels, points, point), days)
+    answer_from(
+        groups_of(ids, groups, marks, counts, levels, points, point),
+        days,
+    )
 }
 
 // A refusal's number alone.

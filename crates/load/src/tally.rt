@@ -31,23 +31,19 @@ pub(crate) fn group_at(groups: Groups, g: usize) -> Group
     groups[g / 6][g % 6 / 3][g % 3]
 }
 
-// A group with one row of it more, by table A and the powers of ten; an unused row adds nothing.
+// A group with one row of it more that counts at the point, by table A and the powers of ten.
 fn with_row(
     a: &[u64; 1000],
     powers: &[u64; 14],
     seen: Group,
-    identity: u32,
     group: u32,
     mark: u32,
     level: u32,
 ) -> Group
     requires { ⌜ (RoomForOne seen) × (group < groupCount) × (level ≤ maxLevel) ⌝ }
     requires { ⌜ Tables (now a) (now powers) ⌝ }
-    ensures { λ r. ⌜ r ≡ withRow seen identity group mark level ⌝ }
+    ensures { λ r. ⌜ r ≡ withRow seen group mark level ⌝ }
 {
-    if identity == 0 {
-        return seen;
-    }
     if mark == 0 {
         return Group {
             computed: seen.computed,
@@ -63,8 +59,8 @@ fn with_row(
     }
 }
 
-// The groups with all rows of a sound book at a point. They come in once and go out once: a row reads and stores its
-// own group alone.
+// The groups with all rows of a sound book that count at a point. They come in once and go out once: such a row reads
+// and stores its own group alone.
 fn tallied(
     start: Groups,
     a: &[u64; 1000],
@@ -72,24 +68,27 @@ fn tallied(
     ids: &[u32],
     groups: &[u32],
     marks: &[u32],
+    counts: &[u32],
     levels: &[u32],
     points: usize,
     point: usize,
 ) -> Groups
     requires { ⌜ (start ≡ table (tally [])) × (Tables (now a) (now powers)) ⌝ }
-    requires { ⌜ sound points (bookNow ids groups marks levels) ≡ true ⌝ }
+    requires { ⌜ sound points (bookNow ids groups marks counts levels) ≡ true ⌝ }
     requires { ⌜ point < points ⌝ }
-    ensures { λ r. ⌜ r ≡ table (tally (bookShares points point (bookBefore ids groups marks levels))) ⌝ }
+    ensures { λ r. ⌜ r ≡ table (tally (bookShares points point (bookBefore ids groups marks counts levels))) ⌝ }
 {
     let mut cells = start;
     let mut i = 0;
     while i < ids.len() {
-        let group = groups[i];
         let at = i * points + point;
-        let g = group as usize;
-        let seen = cells[g / 6][g % 6 / 3][g % 3];
-        let next = with_row(a, powers, seen, ids[i], group, marks[i], levels[at]);
-        cells[g / 6][g % 6 / 3][g % 3] = next;
+        if counts[at] != 0 {
+            let group = groups[i];
+            let g = group as usize;
+            let seen = cells[g / 6][g % 6 / 3][g % 3];
+            let next = with_row(a, powers, seen, group, marks[i], levels[at]);
+            cells[g / 6][g % 6 / 3][g % 3] = next;
+        }
         i += 1;
     }
     cells
@@ -100,13 +99,14 @@ pub(crate) fn groups_of(
     ids: &[u32],
     groups: &[u32],
     marks: &[u32],
+    counts: &[u32],
     levels: &[u32],
     points: usize,
     point: usize,
 ) -> Groups
-    requires { ⌜ sound points (bookNow ids groups marks levels) ≡ true ⌝ }
+    requires { ⌜ sound points (bookNow ids groups marks counts levels) ≡ true ⌝ }
     requires { ⌜ point < points ⌝ }
-    ensures { λ r. ⌜ r ≡ table (tally (bookShares points point (bookBefore ids groups marks levels))) ⌝ }
+    ensures { λ r. ⌜ r ≡ table (tally (bookShares points point (bookBefore ids groups marks counts levels))) ⌝ }
 {
     let a = level::tables::table_a();
     let powers = level::tables::powers();
@@ -117,6 +117,7 @@ pub(crate) fn groups_of(
         ids,
         groups,
         marks,
+        counts,
         levels,
         points,
         point,

@@ -7,12 +7,12 @@ use native.Mathlib.{Nat.eq-or-lt-of-le, Omega.arith}
 use lib.{ListN.length, ListN.getD, ListN.length-append, ListN.List·getD-append, Seq.getD-append-add, Dec.ltb}
 use Rattle.movement.specs.Limits.{groupCount}
 use Rattle.book_rules.specs.Columns.{Book, sound}
-use Rattle.book_rules.specs.History.{Movement, Made, emptyBook, booked, movements}
+use Rattle.book_rules.specs.History.{Movement, Made, emptyBook, booked}
 use Rattle.load_rules.specs.declared.{Group.Group, Counts.Counts, Load.Load}
 use Rattle.load_rules.specs.{Shares.sharesOf, Shares.bookShares, Tally.tally}
 use Rattle.load_rules.specs.Factors.{knownSum, groupFactor, generalFactor}
 use Rattle.load_rules.specs.Load.{countsOf, scaledEnergy, scaledSum, totalOf, answer, bookLoad}
-use Rattle.load_rules.specs.Afresh.{loadAfter}
+use Rattle.load_rules.specs.Afresh.{loadAfter, standingAt}
 use Rattle.load_rules.specs.Account.{groupNumbers, groupsTo, wholeNumbers, accountFrom, groupsOf, accountOf}
 use Rattle.load_rules.specs.Account.{wholeFrom, accountSize, AccountTells, AccountsEach}
 use Rattle.load_rules.proofs.{SumLaws.sum-ext, FactorLaws.never-divided}
@@ -131,7 +131,7 @@ unfolding accountOf generalFactor
 accounts-each p n pt cs days z =
     let there = counted-once p pt n cs days .refusals .answered .0 z .0 .there in
     let b : Book = booked (emptyBook p n) cs in
-    let ms : List Movement = movements p n cs in
+    let ms : List Movement = standingAt p n pt cs in
     let same : bookShares p pt b ≡ sharesOf pt ms = history-shares p pt n cs there in
     let each : (g : ℕ) → groupsOf p pt b g ≡ tally (sharesOf pt ms) g = λ g. ap (λ ss. tally ss g) same in
     record {

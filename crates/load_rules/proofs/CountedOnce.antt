@@ -1,12 +1,12 @@
 -- Demand 3: after any calls on an empty book, refused ones included, the load at each point is the one worked afresh
 -- from the list of movements,
--- and where one is computed it is answered and counts every movement once. Assumes nothing.
+-- and where one that counts there is computed it is answered and counts every such movement once. Assumes nothing.
 use mathlib.Core.Path.{_≡_, refl, sym, ap, subst, _∙_}
 use mathlib.Core.{Bool.Bool, Bool.true, Bool.false, Bool.cond, Bool._&&_, List.List, List.[]}
 use Prim.Native.Nat.{ℕ, zero, suc, _+_, _*_, _^_, _≤_, _<_}
 use native.Mathlib.{Nat.zero-div, Omega.arith}
 use lib.{ListN.length, ListN.getD, ListN.replicate, Dec.eqb, Dec.ltb, Dec.lit<}
-use borrow.Author.Tests.{eqb-false, ltb-true, lt-ltb}
+use borrow.Author.Tests.{eqb-false, lt-ltb}
 use Rattle.level.specs.{Energy.meanOf, Level.levelOf}
 use Rattle.level.proofs.Promises.{below-zero}
 use Rattle.movement.specs.Limits.{groupCount}
@@ -20,17 +20,19 @@ use Rattle.load_rules.specs.Factors.{sumTo, scaledBy, known, knownSum, u
 use Rattle.load_rules.specs.Factors.{generalFactor}
 use Rattle.load_rules.specs.Load.{countsOf, scaledEnergy, scaledSum, totalOf, daysFit, noneComputed}
 use Rattle.load_rules.specs.Load.{loadRefusal, answer, refusedLoad, loadOf, bookLoad}
-use Rattle.load_rules.specs.Verdict.{verdictRefusal, refusalNumber, judged, judgedOf, bookVerdict}
+use Rattle.load_rules.specs.Verdict.{refusalNumber, bookVerdict}
 use Rattle.load_rules.specs.Refusals.{InRange, DaysInRange, LimitInRange, NoneComputed, LoadNumbers}
 use Rattle.load_rules.specs.Refusals.{VerdictNumbers}
 use Rattle.load_rules.specs.Afresh.{listLoad, listVerdict, someComputed, energyOfGroup}
-use Rattle.load_rules.specs.Afresh.{countsAt, TotalHolds, CountsEach, Alone, EachCountedOnce}
+use Rattle.load_rules.specs.Afresh.{countsAt, TotalHolds, CountsEach, Alone, NobodyThere, standingAt}
+use Rattle.load_rules.specs.Afresh.{EachCountedOnce}
 use Rattle.load_rules.proofs.SumLaws.{sum-ext}
 use Rattle.load_rules.proofs.FactorLaws.{never-divided, known-same, general-same, weights-all}
 use Rattle.load_rules.proofs.TallyLaws.{counts, AllGrouped, counted-all, all-standing, some-known}
 use Rattle.load_rules.proofs.ListLaws.{shares-count, shares-computed, list-computed, list-missing, list-energy}
-use Rattle.load_rules.proofs.HistoryLaws.{history-shares, history-grouped}
-use Rattle.load_rules.proofs.Determined.{over-exactly-when}
+use Rattle.load_rules.proofs.{Counting.counting-le, HistoryLaws.history-shares}
+use Rattle.load_rules.proofs.HistoryLaws.{history-good, history-grouped}
+use Rattle.load_rules.proofs.Determined.{over-exactly-when, load-of-same, verdict-of-same}
 use Rattle.load_rules.proofs.RefusalLaws.{range-exactly, days-exactly, limit-exactly, ten-exactly}
 use Rattle.load_rules.proofs.{RefusalLaws.load-numbers, RefusalLaws.verdict-numbers, Formulas.formulas}
 use Rattle.load_rules.proofs.TotalBound.{energy-small, total-small, mean-small}
@@ -169,63 +171,67 @@ module _ (p pt n : ℕ) (cs : List Made) where
   abbrev book : Book
   book = booked (emptyBook p n) cs
 
-  -- what is worked from the rows is worked from the list, where it is the same of every book that does not fit
-  afresh : {A : Type 0} (k : Bool → List Share → A) → ((xs ys : List Share) → k false xs ≡ k false ys)
-      → k (sound p book && ltb pt p) (bookShares p pt book) ≡ k (sizesFit p n && ltb pt p)
-      (sharesOf pt (movements p n cs))
-  afresh k same = rw (history-sound p n cs) (go (sizesFit p n) (ltb pt p) refl)
-    where
-      go : (z t : Bool) → ltb pt p ≡ t
-          → k (z && t) (bookShares p pt book) ≡ k (z && t) (sharesOf pt (movements p n cs))
-      go false t e = same _ _
-      go true false e = same _ _
-      go true true e = ap (k true) (history-shares p pt n cs (ltb-true pt p e))
-
+  -- what is worked from the rows is worked from the list
   load-afresh : (days : ℕ) → bookLoad p pt book days ≡ listLoad p n pt (movements p n cs) days
-  unfolding bookLoad listLoad loadOf loadRefusal
-  load-afresh days = afresh (λ t ss. loadOf t ss days) (λ xs ys. refl)
+  unfolding bookLoad listLoad
+  load-afresh days =
+      rw (history-sound p n cs) (load-of-same p pt (sizesFit p n) (history-shares p pt n cs) days)
 
   verdict-afresh : (days limit : ℕ)
       → bookVerdict p pt book days limit ≡ listVerdict p n pt (movements p n cs) days limit
-  unfolding bookVerdict listVerdict judgedOf judged verdictRefusal
-  verdict-afresh days limit = afresh (λ t ss. judgedOf t ss days limit) (λ xs ys. refl)
+  unfolding bookVerdict listVerdict
+  verdict-afresh days limit =
+      rw (history-sound p n cs) (verdict-of-same p pt (sizesFit p n) (history-shares p pt n cs) days limit)
 
   refusals : (days : ℕ)
-      → LoadNumbers (InRange p n pt) (DaysInRange days) (NoneComputed (movements p n cs))
+      → LoadNumbers (InRange p n pt) (DaysInRange days) (NoneComputed (standingAt p n pt cs))
       (bookLoad p pt book days .refused)
   unfolding listLoad
   refusals days =
       rw (load-afresh days)
-      (load-numbers (sizesFit p n && ltb pt p) (sharesOf pt (movements p n cs)) days (range-exactly p n pt)
-      (days-exactly days) (ten-exactly pt (movements p n cs)))
+      (load-numbers (sizesFit p n && ltb pt p) (sharesOf pt (standingAt p n pt cs)) days (range-exactly p n pt)
+      (days-exactly days) (ten-exactly pt (standingAt p n pt cs)))
 
   counts-each : (days : ℕ) → bookLoad p pt book days .refused ≡ 0
-      → CountsEach (bookLoad p pt book days) pt (movements p n cs) days
+      → CountsEach (bookLoad p pt book days) pt (standingAt p n pt cs) days
   unfolding listLoad
   counts-each days z =
-      let ss = sharesOf pt (movements p n cs) in
+      let ss = sharesOf pt (standingAt p n pt cs) in
       let fits = sizesFit p n && ltb pt p in
       let e = load-afresh days ∙ load-answered fits ss days (rw (load-afresh days) at z) in
-      let room : length (movements p n cs) ≤ 50000 =
-      omega (arith, told-all p n cs .same, refusals days .answered .0 z .0 .rows .1) in
-      subst (λ (a : Load). CountsEach a pt (movements p n cs) days) (sym e)
-      (answer-counts pt (movements p n cs) days (history-grouped p pt n cs) p (told-all p n cs .good) room)
+      let room : length (standingAt p n pt cs) ≤ 50000 =
+      omega (
+        arith,
+        counting-le pt (movements p n cs),
+        told-all p n cs .same,
+        refusals days .answered .0 z .0 .rows .1,
+      ) in
+      subst (λ (a : Load). CountsEach a pt (standingAt p n pt cs) days) (sym e)
+      (answer-counts pt (standingAt p n pt cs) days (history-grouped p pt n cs) p (history-good p pt n cs) room)
+
+  -- where nobody counts
+  nobody : (days : ℕ) → InRange p n pt → DaysInRange days → length (standingAt p n pt cs) ≡ 0
+      → NobodyThere (bookLoad p pt book days)
+  nobody days range fit z =
+      let fine = refusals days .answered .1 (range, (fit, λ c. omega (arith, c .stand))) in
+      let none = counts-each days fine .no-movement z in
+      record { answered = fine; total = none .0; below = none .1 }
 
   never-refused : (days : ℕ) → sizesFit p n ≡ true → pt < p → daysFit days ≡ true
-      → someComputed (movements p n cs) ≡ true
+      → someComputed (standingAt p n pt cs) ≡ true
       → bookLoad p pt book days .refused ≡ 0
   unfolding listLoad loadOf loadRefusal noneComputed answer
   never-refused days sizes there fit some =
-      rw (load-afresh days, sizes, lt-ltb pt p there, fit, shares-computed pt (movements p n cs), some) refl
+      rw (load-afresh days, sizes, lt-ltb pt p there, fit, shares-computed pt (standingAt p n pt cs), some) refl
 
   verdict-refusals : (days limit : ℕ)
-      → VerdictNumbers (InRange p n pt) (DaysInRange days) (LimitInRange limit) (NoneComputed (movements p n cs))
+      → VerdictNumbers (InRange p n pt) (DaysInRange days) (LimitInRange limit) (NoneComputed (standingAt p n pt cs))
       (refusalNumber (bookVerdict p pt book days limit))
   unfolding listVerdict
   verdict-refusals days limit =
       rw (verdict-afresh days limit)
-      (verdict-numbers (sizesFit p n && ltb pt p) (sharesOf pt (movements p n cs)) days (range-exactly p n pt)
-      (days-exactly days) (ten-exactly pt (movements p n cs)) limit (limit-exactly limit))
+      (verdict-numbers (sizesFit p n && ltb pt p) (sharesOf pt (standingAt p n pt cs)) days (range-exactly p n pt)
+      (days-exactly days) (ten-exactly pt (standingAt p n pt cs)) limit (limit-exactly limit))
 
   alone : (days : ℕ) → ¬ (bookLoad p pt book days .refused ≡ 0) → Alone (bookLoad p pt book days)
   unfolding bookLoad
@@ -238,6 +244,7 @@ module _ (p pt n : ℕ) (cs : List Made) where
         verdict = verdict-afresh days;
         answered = never-refused days;
         counts = counts-each days;
+        nobody = nobody days;
         refusals = refusals days;
         alone = alone days;
         verdict-refusals = verdict-refusals days;

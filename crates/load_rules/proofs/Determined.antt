@@ -1,11 +1,11 @@
--- The number of a verdict's answer; and two outcomes that meet the contract of a load, or of a verdict, are equal.
--- Assumes nothing.
+-- The number of a verdict's answer; and two outcomes that meet the contract of a load, or of a verdict, are equal, as
+-- is what is worked from the same shares. Assumes nothing.
 use mathlib.Core.Path.{_≡_, refl, sym, ap, _∙_}
 use mathlib.Core.{Bool.Bool, Bool.true, Bool.false, Bool.cond, Bool.not, Bool._&&_, List.List, Logic._↔_}
 use Prim.Native.Nat.{ℕ, _<_}
 use native.Mathlib.Omega.{arith}
 use lib.Dec.{eqb, ltb}
-use borrow.Author.Tests.{eqb-true, eqb-false}
+use borrow.Author.Tests.{eqb-true, eqb-false, ltb-true}
 use Rattle.level.specs.declared.{Level.Level, Verdict.Verdict}
 use Rattle.level.specs.Level.{levelGiven, levelValue, verdictOf, verdictNumber}
 use Rattle.level.proofs.Neighbours.{by-neighbours}
@@ -106,3 +106,24 @@ same-load p pt b days r s e f = e ∙ sym f
 pub same-verdict : (p pt : ℕ) (b : Book) (days limit : ℕ) (r s : Judged) → Judging p pt b days limit r
     → Judging p pt b days limit s → r ≡ s
 same-verdict p pt b days limit r s e f = e .answer ∙ sym (f .answer)
+
+-- shares that are the same at a point that is there: z is all else that has to fit
+module _ (p pt : ℕ) (z : Bool) {xs ys : List Share} (e : pt < p → xs ≡ ys) where
+  -- what is worked from them is the same, where it is so of any shares that don't fit
+  worked-same : {A : Type 0} (k : Bool → List Share → A) → k false xs ≡ k false ys
+      → k (z && ltb pt p) xs ≡ k (z && ltb pt p) ys
+  worked-same k same = go z (ltb pt p) refl
+    where
+      go : (s t : Bool) → ltb pt p ≡ t → k (s && t) xs ≡ k (s && t) ys
+      go false t l = same
+      go true false l = same
+      go true true l = ap (k true) (e (ltb-true pt p l))
+
+  pub load-of-same : (days : ℕ) → loadOf (z && ltb pt p) xs days ≡ loadOf (z && ltb pt p) ys days
+  unfolding loadOf loadRefusal
+  load-of-same days = worked-same (λ t ss. loadOf t ss days) refl
+
+  pub verdict-of-same : (days limit : ℕ)
+      → judgedOf (z && ltb pt p) xs days limit ≡ judgedOf (z && ltb pt p) ys days limit
+  unfolding judgedOf judged verdictRefusal
+  verdict-of-same days limit = worked-same (λ t ss. judgedOf t ss days limit) refl

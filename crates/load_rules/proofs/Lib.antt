@@ -2,6 +2,7 @@ pub mod SumLaws
 pub mod FactorLaws
 pub mod TallyLaws
 pub mod ListLaws
+pub mod Counting
 pub mod HistoryLaws
 pub mod Determined
 pub mod RefusalLaws
@@ -11,3 +12,4 @@ pub mod Formulas
 pub mod TotalBound
 pub mod CountedOnce
 pub mod Accounts
+pub mod Elsewhere

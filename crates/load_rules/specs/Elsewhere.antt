@@ -1,5 +1,5 @@
 -- A movement that doesn't count at a point changes nothing there: RULES, "Energy and load". Assumes nothing.
-use Prim.Native.Nat.{ℕ}
+use Prim.Native.Nat.{ℕ, _<_}
 use mathlib.Core.Path.{_≡_}
 use lib.ListN.{getD}
 use Rattle.book_rules.specs.Columns.{Book}
@@ -14,7 +14,7 @@ use Rattle.load_rules.specs.Account.{accountOf}
 pub record SameAt (p pt : ℕ) (b b′ : Book) : Type 0 where
   pub load : (days : ℕ) → bookLoad p pt b′ days ≡ bookLoad p pt b days
   pub verdict : (days limit : ℕ) → bookVerdict p pt b′ days limit ≡ bookVerdict p pt b days limit
-  pub account : (days : ℕ) → accountOf p pt b′ days ≡ accountOf p pt b days
+  pub account : pt < p → (days : ℕ) → accountOf p pt b′ days ≡ accountOf p pt b days
 
 -- the call is of a movement that doesn't count at point pt: by what is given, or by what stands
 abbrev pub NotThere : (p pt : ℕ) → Book → Call → Type 0

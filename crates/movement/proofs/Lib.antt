@@ -1,3 +1,4 @@
+pub mod Elsewhere
 pub mod Exactly
 pub mod Numbers
 pub mod Ranges

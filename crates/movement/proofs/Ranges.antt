@@ -12,7 +12,10 @@ use Rattle.movement.specs.Aircraft.{aircraftNumbered, massFits}
 use Rattle.movement.specs.Period.{periodOf, periodNumber, periodNumbered, weightOf}
 use Rattle.movement.specs.Group.{groupPeriod}
 use Rattle.movement.specs.Rules.{fieldsFit, counts, movementRefusal, identityFits, levelsFit}
-use Rattle.movement.specs.Ranges.{FieldsInRange, LevelsInRange, RangesHold, PeriodsHold}
+use Rattle.movement.specs.Rules.{countsFit, zeroElsewhere}
+use Rattle.movement.specs.Ranges.{FieldsInRange, LevelsInRange, CountsInRange, ZeroElsewhere, RangesHold}
+use Rattle.movement.specs.Ranges.{PeriodsHold}
+use Rattle.movement.proofs.Elsewhere.{elsewhere-at, elsewhere-each}
 use Rattle.movement.proofs.Exactly.{less, most, same, both, not-less, refused-first, refused-later}
 use Rattle.movement.proofs.{Exactly.passed-last, Exactly.not-given, Numbers.group-of, Numbers.group-period}
 
@@ -57,7 +60,7 @@ counts-exactly : (mass : ℕ) → counts mass ≡ true ↔ 150 < mass
 unfolding counts
 counts-exactly mass = less 150 mass
 
--- Rules 3 and 7
+-- Rules 3, 7 and 19
 
 identity-exactly : (x : ℕ) → identityFits x ≡ true ↔ (1 ≤ x) × (x ≤ 99999)
 unfolding identityFits
@@ -77,11 +80,28 @@ all-exactly top (x ∷ ls) = (
     each zero l f h = l
     each (suc i) l f h = f i (omega arith)
 
+-- one value a point, each in range
+one-a-point : (points top : ℕ) (vs : List ℕ) → (eqb (length vs) points && allWithin top vs) ≡ true
+    ↔ (length vs ≡ points) × ((i : ℕ) → i < length vs → getD vs i 0 ≤ top)
+one-a-point points top vs =
+    both (eqb (length vs) points) (allWithin top vs) (same (length vs) points) (all-exactly top vs)
+
 levels-exactly : (points : ℕ) (ls : List ℕ) → levelsFit points ls ≡ true ↔ LevelsInRange points ls
 unfolding levelsFit
 levels-exactly points ls =
-    let b = both (eqb (length ls) points) (allWithin 12000 ls) (same (length ls) points) (all-exactly 12000 ls) in
+    let b = one-a-point points 12000 ls in
     (λ e. record { one-a-point = b .0 e .0; level-most = b .0 e .1 }, λ r. b .1 (r .one-a-point, r .level-most))
+
+yes-or-no-exactly : (points : ℕ) (cs : List ℕ) → countsFit points cs ≡ true ↔ CountsInRange points cs
+unfolding countsFit
+yes-or-no-exactly points cs =
+    let b = one-a-point points 1 cs in
+    (λ e. record { one-a-point = b .0 e .0; yes-or-no = b .0 e .1 }, λ r. b .1 (r .one-a-point, r .yes-or-no))
+
+elsewhere-exactly : (points : ℕ) (cs ls : List ℕ) → length cs ≡ points → length ls ≡ points
+    → zeroElsewhere cs ls ≡ true ↔ ZeroElsewhere points cs ls
+elsewhere-exactly points cs ls h k =
+    (λ e j l z. elsewhere-at cs ls j e (omega arith) z, λ f. elsewhere-each cs ls (λ j l z. f j (omega arith) z))
 
 -- 1 before 2
 
@@ -111,6 +131,8 @@ ranges-hold =
       counted = counts-exactly;
       identity = identity-exactly;
       levels = levels-exactly;
+      counts= = yes-or-no-exactly;
+      elsewhere = elsewhere-exactly;
       one = one;
       two = two;
       accepted = accepted;

@@ -8,6 +8,9 @@ pub const MAX_POINTS: usize = 8;
 
 pub const MAX_IDENTITY: u32 = 99_999;
 
+// Whether a movement counts at a point: 1 yes, 0 no.
+pub const MAX_COUNT: u32 = 1;
+
 // Exposure levels and limits, in hundredths of a dB.
 pub const MAX_LEVEL: u32 = 12_000;
 

@@ -22,5 +22,6 @@ returns-2 c =
 pub replay-spec : {M : Type 1} → statement M
 replay-spec =
     tie.close (tie.spec (λ c κs. search needs) (λ c. search needs) (λ c. search needs) (λ c. search needs)
-    (λ c. search needs) (λ c. replay-refused (c .before .replay-refusal .ensures) (c .if1 .taken)) run-requires
+    (λ c. search needs) (λ c. search needs)
+    (λ c. replay-refused (c .before .replay-refusal .ensures) (c .if1 .taken)) run-requires (λ c. search needs)
     (λ c. search needs) (λ c. search needs) (λ c. search needs) (λ c. search needs) (λ c. search needs) returns-2)

@@ -12,7 +12,7 @@ use Rattle.load.proofs.load_of.Statement.{statement}
 use Rattle.load.proofs.load_of.Tie as tie
 
 abbrev book : tie.Start → Book
-book s = bookNow (s .args .ids) (s .args .groups) (s .args .marks) (s .args .levels)
+book s = bookNow (s .args .ids) (s .args .groups) (s .args .marks) (s .args .counts) (s .args .levels)
 
 answer-from-requires : tie.Need-answer-from-requires
 unfolding bookShares

@@ -52,8 +52,9 @@ pub make-call-spec : {M : Type 1} → statement M
 make-call-spec =
     tie.close (tie.spec (λ c. let start : tie.Start = search in omega (arith, complete-two _ (start .pre .1)))
     (λ c. let start : tie.Start = search in omega (arith, complete-two _ (start .pre .1))) enter-from-requires
-    (λ c. search needs) (λ c. search needs) (λ c. search needs) (λ c. search needs) returns supply-from-requires
-    (λ c. search needs) (λ c. search needs) (λ c. search needs) (λ c. search needs) returns-2
+    (λ c. search needs) (λ c. search needs) (λ c. search needs) (λ c. search needs) (λ c. search needs) returns
+    supply-from-requires (λ c. search needs) (λ c. search needs) (λ c. search needs) (λ c. search needs)
+    (λ c. search needs) returns-2 (λ c κs. let start : tie.Start = search in start .pre .0) (λ c. search needs)
+    (λ c. search needs) (λ c. search needs) (λ c. search needs) (λ c. search needs) returns-3
     (λ c κs. let start : tie.Start = search in start .pre .0) (λ c. search needs) (λ c. search needs)
-    (λ c. search needs) (λ c. search needs) returns-3 (λ c κs. let start : tie.Start = search in start .pre .0)
-    (λ c. search needs) (λ c. search needs) (λ c. search needs) (λ c. search needs) returns-4)
+    (λ c. search needs) (λ c. search needs) (λ c. search needs) returns-4)

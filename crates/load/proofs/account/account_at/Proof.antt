@@ -15,7 +15,7 @@ use Rattle.load.proofs.account.account_at.Statement.{statement}
 use Rattle.load.proofs.account.account_at.Tie as tie
 
 abbrev book : tie.Start → Book
-book s = bookNow (s .args .ids) (s .args .groups) (s .args .marks) (s .args .levels)
+book s = bookNow (s .args .ids) (s .args .groups) (s .args .marks) (s .args .counts) (s .args .levels)
 
 abbrev start : tie.Else1 → tie.Start
 start c = search
