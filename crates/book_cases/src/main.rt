@@ -20,7 +20,14 @@ fn shown(name: &[u8], got: &[u32], line: &[u8], k: usize) {
     say(b"\n");
 }
 
-fn show_book(ids: &[u32], groups: &[u32], marks: &[u32], counts: &[u32], levels: &[u32], line: &[u8]) {
+fn show_book(
+    ids: &[u32],
+    groups: &[u32],
+    marks: &[u32],
+    counts: &[u32],
+    levels: &[u32],
+    line: &[u8],
+) {
     shown(b"  identities", ids, line, 8);
     shown(b"  groups", groups, line, 9);
     shown(b"  marks", marks, line, 10);

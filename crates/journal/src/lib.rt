@@ -88,7 +88,16 @@ pub fn replay(
     ensures { λ r. ⌜ Replayed points (bookBefore ids groups marks counts levels) (now (journal .entry))
         (now (answers .entry)) r (bookAfter ids groups marks counts levels) (now (answers .exit)) ⌝ }
 {
-    let refused = replay_refusal(ids, groups, marks, counts, levels, points, journal, answers.len());
+    let refused = replay_refusal(
+        ids,
+        groups,
+        marks,
+        counts,
+        levels,
+        points,
+        journal,
+        answers.len(),
+    );
     if refused != 0 {
         return refused;
     }

@@ -53,7 +53,16 @@ fn supply_from(
         (supplyAt (now (rest .entry))) r (bookAfter ids groups marks counts levels) ⌝ }
 {
     let end = 3 + rest[2] as usize;
-    book::core::supply(ids, groups, marks, counts, levels, points, rest[1], &rest[3..end])
+    book::core::supply(
+        ids,
+        groups,
+        marks,
+        counts,
+        levels,
+        points,
+        rest[1],
+        &rest[3..end],
+    )
 }
 
 pub(crate) fn make_call(

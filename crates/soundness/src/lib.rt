@@ -15,7 +15,14 @@ ghost use Rattle.book_rules.specs.Columns.{shapeFits, rising, follows, headSoun
 ghost use Rattle.book_rules.specs.Columns.{rowSound, rowsSound, bookBefore, sound};
 
 // Whether points and rows are in range and the columns fit, by their lengths.
-fn shape_fits(points: usize, rows: usize, groups: usize, marks: usize, counts: usize, levels: usize) -> bool
+fn shape_fits(
+    points: usize,
+    rows: usize,
+    groups: usize,
+    marks: usize,
+    counts: usize,
+    levels: usize,
+) -> bool
     ensures { λ r. ⌜ r ≡ shapeFits points rows groups marks counts levels ⌝ }
 {
     if points < 1 {
@@ -147,7 +154,14 @@ fn row_sound(x: u32, g: u32, m: u32, counts: &[u32], levels: &[u32]) -> bool
 }
 
 // Whether every row is sound by itself.
-fn rows_sound(ids: &[u32], groups: &[u32], marks: &[u32], counts: &[u32], levels: &[u32], points: usize) -> bool
+fn rows_sound(
+    ids: &[u32],
+    groups: &[u32],
+    marks: &[u32],
+    counts: &[u32],
+    levels: &[u32],
+    points: usize,
+) -> bool
     requires { ⌜ length (now groups) ≡ length (now ids) ⌝ }
     requires { ⌜ length (now marks) ≡ length (now ids) ⌝ }
     requires { ⌜ length (now counts) ≡ length (now ids) * points ⌝ }
@@ -160,7 +174,13 @@ fn rows_sound(ids: &[u32], groups: &[u32], marks: &[u32], counts: &[u32], levels
     let mut at = 0;
     while i < ids.len() {
         let end = at + points;
-        if !row_sound(ids[i], groups[i], marks[i], &counts[at..end], &levels[at..end]) {
+        if !row_sound(
+            ids[i],
+            groups[i],
+            marks[i],
+            &counts[at..end],
+            &levels[at..end],
+        ) {
             return false;
         }
         at = end;
@@ -170,10 +190,24 @@ fn rows_sound(ids: &[u32], groups: &[u32], marks: &[u32], counts: &[u32], levels
 }
 
 // Whether the book is sound.
-pub fn is_sound(ids: &[u32], groups: &[u32], marks: &[u32], counts: &[u32], levels: &[u32], points: usize) -> bool
+pub fn is_sound(
+    ids: &[u32],
+    groups: &[u32],
+    marks: &[u32],
+    counts: &[u32],
+    levels: &[u32],
+    points: usize,
+) -> bool
     ensures { λ r. ⌜ r ≡ sound points (bookBefore ids groups marks counts levels) ⌝ }
 {
-    if !shape_fits(points, ids.len(), groups.len(), marks.len(), counts.len(), levels.len()) {
+    if !shape_fits(
+        points,
+        ids.len(),
+        groups.len(),
+        marks.len(),
+        counts.len(),
+        levels.len(),
+    ) {
         return false;
     }
     if !identities_rise(ids) {

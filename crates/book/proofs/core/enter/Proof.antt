@@ -51,8 +51,7 @@ row-in-requires c κs =
     let rows = at-standing-rows .standing-rows .ensures in
     let at = at-place-of .place-of .ensures in
     let below = place-below (start .args .identity) (now (start .args .ids)) in
-    let unused = stands-index 0 (now (start .args .ids)) (facts left1 .unused) in
-    (
+    let unused = stands-index 0 (now (start .args .ids)) (facts left1 .unused) in (
       record { sound= = start .pre; rows= = rows; at≤ = omega arith },
       (omega arith, counts-length _ _ (facts left1 .counts=)),
     )

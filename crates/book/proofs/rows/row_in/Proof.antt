@@ -20,8 +20,8 @@ returns c =
     let at₃ : tie.After-open-at3 = at₄ .before .before .before .before in
     let at₂ : tie.After-open-at2 = at₃ .before .before .before .before in
     let at₁ : tie.After-open-at = at₂ .before .before .before .before in
-    λ i. bookOf (at₁ .open-at .ensures i) (at₂ .open-at2 .ensures i) (at₃ .open-at3 .ensures i) (at₄ .open-with .ensures i)
-    (at₅ .open-at4 .ensures i)
+    λ i. bookOf (at₁ .open-at .ensures i) (at₂ .open-at2 .ensures i) (at₃ .open-at3 .ensures i)
+    (at₄ .open-with .ensures i) (at₅ .open-at4 .ensures i)
 
 pub row-in-spec : {M : Type 1} → statement M
 row-in-spec =

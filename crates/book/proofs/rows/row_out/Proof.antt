@@ -20,8 +20,8 @@ returns c =
     let at₃ : tie.After-close-at3 = at₄ .before .before .before .before in
     let at₂ : tie.After-close-at2 = at₃ .before .before .before .before in
     let at₁ : tie.After-close-at = at₂ .before .before .before .before in
-    λ i. bookOf (at₁ .close-at .ensures i) (at₂ .close-at2 .ensures i) (at₃ .close-at3 .ensures i) (at₄ .close-at4 .ensures i)
-    (at₅ .close-at5 .ensures i)
+    λ i. bookOf (at₁ .close-at .ensures i) (at₂ .close-at2 .ensures i) (at₃ .close-at3 .ensures i)
+    (at₄ .close-at4 .ensures i) (at₅ .close-at5 .ensures i)
 
 pub row-out-spec : {M : Type 1} → statement M
 row-out-spec =
