@@ -177,8 +177,8 @@ fn answers_of_before() {
     const TELLING: Telling = &[
         ("enter", 200, &["0", "1", "2", "3", "4", "6"]),
         ("supply", 200, &["0", "3", "5", "7"]),
-        ("take_back", 200, &["0", "3", "5", "8"]),
-        ("withdraw", 200, &["0", "3", "5"]),
+        ("take_back", 100, &["0", "3", "5", "8"]),
+        ("withdraw", 100, &["0", "3", "5"]),
         ("replay", 1_000, &["0"]),
         ("before", 500, &["0", "9", "10", "11"]),
         ("verdict", 500, &["0", "9", "10", "11", "15"]),
@@ -214,7 +214,9 @@ fn soundness_of_before() {
         let (rows, points) = (random.within(0, 6), random.within(1, 8));
         let standing = random.within(0, rows) as usize;
         let mut book = a_book(random, rows as usize, standing, points, 12_000);
-        spoil(random, &mut book);
+        if random.once_in(2) {
+            spoil(random, &mut book);
+        }
         if book.points <= 9 {
             book = book.everywhere();
         }
@@ -231,9 +233,9 @@ fn each_point_by_the_rule_of_before() {
         ("verdict", 500, &["0", "10", "15"]),
     ];
     compared_rounds("each_point_by_the_rule_of_before", 2_000, TELLING, |library, random| {
-        let rows = random.pick(&[1, 2, 30, 200]);
-        let (standing, points) = (random.within(0, rows) as usize, random.within(1, 8));
-        let highest = random.pick(&[1, 300, 6_000, 12_000]);
+        let rows = random.pick(&[2, 10, 30, 200]);
+        let (standing, points) = (random.within(1, rows) as usize, random.within(1, 8));
+        let highest = random.pick(&[1, 6_000, 12_000, 12_000]);
         let book = a_book_somewhere(random, rows as usize, standing, points, highest);
         for point in 0..points {
             agrees(library, random, (&book, point), (&Before::at(&book, point as usize), 0));

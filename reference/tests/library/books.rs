@@ -107,7 +107,7 @@ fn every_level_by_itself() {
     });
 }
 
-/// Calls on a large book, two of which move its rows.
+/// Calls on a large book, at least two of which move its rows.
 pub fn change_large(library: &Library, random: &mut Random, counting: Counting, mut book: Book, standing: usize) {
     for _ in 0..8 {
         let made = counting.a_change(random, book.points, 99_999);
@@ -118,6 +118,8 @@ pub fn change_large(library: &Library, random: &mut Random, counting: Counting, 
     let movement = Movement { aircraft: 0, kind: 1, time: 0, mass: 7_000 };
     let entered = counting.enter(random, taken, movement, book.points);
     change(library, &mut book, &entered);
+    let given = counting.levels(random, taken, book.points);
+    change(library, &mut book, &Change::Supply { identity: taken, given });
     ask(library, random, &book);
 }
 

@@ -108,6 +108,24 @@ impl Counting {
     }
 }
 
+/// Mostly makes a call one on a movement that stands in the book, with levels that it may have.
+pub fn aim(random: &mut Random, book: &Book, call: &mut Change) {
+    let standing = book.identities.iter().filter(|&&own| own > 0).count() as u32;
+    if standing == 0 || random.once_in(4) {
+        return;
+    }
+    let row = random.within(0, standing - 1) as usize;
+    let own = book.counts.iter().skip(row * book.points as usize);
+    match call {
+        Change::Supply { identity, given } => {
+            *identity = book.identities[row];
+            given.iter_mut().zip(own).for_each(|(level, &count)| *level *= u32::from(count == 1));
+        }
+        Change::TakeBack { identity } | Change::Withdraw { identity } => *identity = book.identities[row],
+        _ => {}
+    }
+}
+
 pub fn identity(random: &mut Random, among: u32) -> u32 {
     if random.once_in(12) {
         random.pick(&[0, 1, 99_999, 100_000, u32::MAX])
@@ -187,7 +205,7 @@ pub fn a_book(random: &mut Random, rows: usize, standing: usize, points: u32, hi
 /// and now and then a movement that counts nowhere.
 pub fn a_book_somewhere(random: &mut Random, rows: usize, standing: usize, points: u32, highest: u32) -> Book {
     let mut book = a_book(random, rows, standing, points, highest);
-    let manners: Vec<u32> = (0..points).map(|_| random.within(0, 6)).collect();
+    let manners: Vec<u32> = (0..points).map(|_| random.within(0, 11)).collect();
     for row in 0..standing {
         let nowhere = random.once_in(10);
         for (point, manner) in manners.iter().enumerate() {
@@ -195,7 +213,7 @@ pub fn a_book_somewhere(random: &mut Random, rows: usize, standing: usize, point
                 0 => false,
                 1 => book.marks[row] == 0,
                 2 => random.once_in(20),
-                3 => true,
+                3..=5 => true,
                 _ => random.once_in(2),
             };
             if nowhere || !counts {

@@ -3,6 +3,8 @@
 
 mod books;
 mod flights;
+mod journals;
+mod loads;
 mod networks;
 mod points;
 mod texts;
