@@ -26,8 +26,8 @@ enum {
     OKUBINRAFO_NO_UNUSED_ROW = 6,         /* the book is full */
     OKUBINRAFO_WRONG_LEVELS = 7,          /* another number of levels than points, or one over 12,000 */
     OKUBINRAFO_NO_LEVELS_HELD = 8,        /* nothing to take back */
-    OKUBINRAFO_NOT_SOUND = 9,             /* the book, its number of points, or the point asked for */
-    OKUBINRAFO_NONE_COMPUTED = 10,        /* movements stand and none is computed */
+    OKUBINRAFO_NOT_SOUND = 9,             /* the book, its number of points, the point asked for, or yes and no */
+    OKUBINRAFO_NONE_COMPUTED = 10,        /* movements count at the point and none of them is computed */
     OKUBINRAFO_WRONG_DAYS = 11,           /* outside 1 to 366 */
     OKUBINRAFO_WRONG_NETWORK = 12,        /* size, spacing, origin or count of values */
     OKUBINRAFO_WRONG_NETWORK_LEVEL = 13,  /* over 15,000, or no data */
@@ -35,43 +35,52 @@ enum {
     OKUBINRAFO_WRONG_LEVEL_ASKED = 15,    /* a limit or contour level outside its range */
     OKUBINRAFO_REGISTER_OFF_LAYOUT = 16,  /* the text of a register, or a journal's numbers */
     OKUBINRAFO_NETWORK_OFF_LAYOUT = 17,   /* the text of a network */
-    OKUBINRAFO_WRONG_FLIGHTS = 18         /* movements or tracks: too many, columns of unequal length, a value */
+    OKUBINRAFO_WRONG_FLIGHTS = 18,        /* movements or tracks: too many, columns of unequal length, a value */
+    OKUBINRAFO_LEVEL_ELSEWHERE = 19       /* a level other than zero at a point where the movement doesn't count */
 };
 
 #ifdef __cplusplus
 extern "C" {
 #endif
 
-/* A book: four columns lent by the caller, all zero at first. Rows: identities_len, 1 to 50,000; groups and marks have
- * as many numbers, levels has points (1 to 8) numbers a row. */
+/* A book: five columns lent by the caller, all zero at first. Rows: identities_len, 1 to 50,000; groups and marks have
+ * as many numbers, counts and levels have points (1 to 8) numbers a row. counts: 1 where the movement counts; 0 where
+ * it doesn't, and there its level is 0 too. */
 #define OKUBINRAFO_BOOK                                                                              \
     uint32_t *identities, size_t identities_len, uint32_t *groups, size_t groups_len,                \
-    uint32_t *marks, size_t marks_len, uint32_t *levels, size_t levels_len, uint32_t points
+    uint32_t *marks, size_t marks_len, uint32_t *counts, size_t counts_len,                          \
+    uint32_t *levels, size_t levels_len, uint32_t points
 #define OKUBINRAFO_BOOK_READ                                                                         \
     const uint32_t *identities, size_t identities_len, const uint32_t *groups, size_t groups_len,    \
-    const uint32_t *marks, size_t marks_len, const uint32_t *levels, size_t levels_len, uint32_t points
+    const uint32_t *marks, size_t marks_len, const uint32_t *counts, size_t counts_len,              \
+    const uint32_t *levels, size_t levels_len, uint32_t points
 
-/* type: 0 large, 1 small, 2 helicopter. kind: 0 start, 1 landing. time: second of the local day. mass: kg. */
+/* type: 0 large, 1 small, 2 helicopter. kind: 0 start, 1 landing. time: second of the local day. mass: kg.
+ * given: one number a point, 1 where the movement counts and 0 where it doesn't; another number of them, or one over
+ * 1, is refused with 9. */
 uint32_t okubinrafo_enter(OKUBINRAFO_BOOK, uint32_t identity, uint32_t type, uint32_t kind, uint32_t time,
-                          uint32_t mass);
+                          uint32_t mass, const uint32_t *given, size_t given_len);
+/* given: one level a point, 0 where the movement doesn't count. */
 uint32_t okubinrafo_supply(OKUBINRAFO_BOOK, uint32_t identity, const uint32_t *given, size_t given_len);
 uint32_t okubinrafo_take_back(OKUBINRAFO_BOOK, uint32_t identity);
 uint32_t okubinrafo_withdraw(OKUBINRAFO_BOOK, uint32_t identity);
 
 /* A journal: calls one after the other as numbers.
- *   1 enter: identity, type, kind, time, mass.   2 supply: identity, how many levels follow, those levels.
- *   3 take back: identity.                       4 withdraw: identity.
+ *   1 enter: identity, type, kind, time, mass, how many yes and no (1 and 0) follow, those.
+ *   2 supply: identity, how many levels follow, those levels.
+ *   3 take back: identity.
+ *   4 withdraw: identity.
  * The calls are made in order, each as the function above would make it; answers: one number a call, 0 or its refusal.
  * Refusals of the whole, before anything changes: 16 the numbers are off this layout, 9, 14 fewer answers than
  * calls. */
 uint32_t okubinrafo_replay(OKUBINRAFO_BOOK, const uint32_t *journal, size_t journal_len,
                            uint32_t *answers, size_t answers_len);
 
-/* answer: 39 numbers: total; 1 if a level is given, 0 if below zero; the level (0 if below zero); V of the 18 groups;
- * U of the 18 groups. */
+/* Over the movements that count at the point. answer: 39 numbers: total; 1 if a level is given, 0 if below zero; the
+ * level (0 if below zero); V of the 18 groups; U of the 18 groups. */
 uint32_t okubinrafo_load(OKUBINRAFO_BOOK_READ, uint32_t point, uint32_t days, uint64_t *answer, size_t answer_len);
 /* How that load comes about, refused as it is. answer: 78 numbers: V, U, S and the scaled energy of each of the 18
- * groups, four a group; upper and lower of the general factor (0 and 0 where no movement stands); P; total; 1 if a
+ * groups, four a group; upper and lower of the general factor (0 and 0 where no movement counts); P; total; 1 if a
  * level is given, 0 if below zero; the level (0 if below zero). */
 uint32_t okubinrafo_account(OKUBINRAFO_BOOK_READ, uint32_t point, uint32_t days, uint64_t *answer, size_t answer_len);
 /* answer: 1 number: 1 over, 0 within. */

@@ -33,19 +33,22 @@ TOO_LARGE = [-1, 2**32, 2**64, -(2**200), 2**200]
 
 
 def calls():
-    """Each function of the package by name, with arguments that fit: n a number, l a list of numbers, b bytes."""
+    """Each function of the package by name, with arguments that fit.
+
+    n is a number, l a list of numbers, o a list that may be left out, b bytes.
+    """
     book, hill = Book(3, 1), Network(HILL, 3, 3, 100)
     book.enter(1, 0, 0, 0, 7000)
     book.supply(1, [5000])
     return {
         "Book": (lambda *arguments: list(Book(*arguments).rows()), "nn", (2, 1)),
-        "enter": (book.enter, "nnnnn", (5, 0, 0, 0, 7000)),
+        "enter": (book.enter, "nnnnno", (5, 0, 0, 0, 7000, [1])),
         "supply": (book.supply, "nl", (1, [100])),
         "take_back": (book.take_back, "n", (1,)),
         "withdraw": (book.withdraw, "n", (1,)),
         "load": (book.load, "nn", (0, 1)),
         "verdict": (book.verdict, "nnn", (0, 1, 5000)),
-        "replayed enter": (lambda *given: book.replay([("enter", *given)]), "nnnnn", (6, 0, 0, 0, 7000)),
+        "replayed enter": (lambda *given: book.replay([("enter", *given)]), "nnnnno", (6, 0, 0, 0, 7000, [0])),
         "replayed supply": (lambda *given: book.replay([("supply", *given)]), "nl", (1, [100])),
         "Network": (lambda *arguments: Network(*arguments).write(), "lnnnnn", (HILL, 3, 3, 100, 0, 0)),
         "contours": (hill.contours, "n", (4500,)),
@@ -69,7 +72,8 @@ class Arguments(unittest.TestCase):
             function(*given)
 
     def test_wrong_types(self):
-        wrong_of = {"n": NO_NUMBERS, "l": NO_LISTS, "b": NO_BYTES}
+        left_out = [wrong for wrong in NO_LISTS if wrong is not None]
+        wrong_of = {"n": NO_NUMBERS, "l": NO_LISTS, "o": left_out, "b": NO_BYTES}
         for name, (_, letters, _) in calls().items():
             for place, letter in enumerate(letters):
                 for wrong in wrong_of[letter]:
@@ -97,6 +101,7 @@ class Arguments(unittest.TestCase):
         for name in calls():
             function, letters, fitting = calls()[name]
             convert = {"n": kind, "l": lambda numbers: [kind(number) for number in numbers], "b": memoryview}
+            convert["o"] = convert["l"]
             expected = function(*fitting)
             again, _, _ = calls()[name]
             given = [convert[letter](argument) for letter, argument in zip(letters, fitting)]
@@ -118,6 +123,7 @@ class Arguments(unittest.TestCase):
     def test_journals(self):
         book = Book(1, 1)
         wrong_calls = [("enter", 5), ("supply", 5), ("take_back",), ("withdraw", 5, 6), 5, None, ("supply", 5, b"12")]
+        wrong_calls += [("enter", 5, 0, 0, 0, 7000, [1], 1)]
         for wrong in wrong_calls:
             with self.subTest(call=wrong), self.assertRaises(TypeError):
                 book.replay([wrong])

@@ -46,7 +46,7 @@ class Header(unittest.TestCase):
     def test_every_refusal_has_a_name_and_a_sentence(self):
         refusals = re.findall(r"^ +(OKUBINRAFO_\w+) = (\d+),?", header(), re.MULTILINE)
         self.assertEqual([int(number) for _, number in refusals], list(range(1, len(refusals) + 1)))
-        self.assertGreaterEqual(len(refusals), 18)
+        self.assertGreaterEqual(len(refusals), 19)
         self.assertEqual(len({name for name, _ in refusals}), len(refusals))
         sentences = {okubinrafo.Refused(int(number)).sentence for _, number in refusals}
         self.assertEqual(len(sentences - {""}), len(refusals))

@@ -69,10 +69,11 @@ class Books(Case):
         book.enter(9, 1, 1, 0, 200)
         book.enter(4, 0, 0, 25200, 200)
         book.supply(9, [0, 12000])
-        self.assertEqual(list(book.rows()), [(4, 0, None), (9, 11, (0, 12000))])
+        everywhere = (True, True)
+        self.assertEqual(list(book.rows()), [(4, 0, everywhere, None), (9, 11, everywhere, (0, 12000))])
         book.take_back(9)
         book.withdraw(4)
-        self.assertEqual(list(book.rows()), [(9, 11, None)])
+        self.assertEqual(list(book.rows()), [(9, 11, everywhere, None)])
 
     def test_numbers_that_the_library_cannot_take(self):
         for wrong in (-1, 2**32):
@@ -82,9 +83,9 @@ class Books(Case):
                 Book(1, 1).supply(1, [wrong])
 
     def test_sentences(self):
-        sentences = [okubinrafo.sentence(number) for number in range(1, 19)]
-        self.assertEqual(len({sentence for sentence in sentences if sentence}), 18)
-        self.assertEqual([okubinrafo.sentence(number) for number in (0, 19, 2**32 - 1)], ["", "", ""])
+        sentences = [okubinrafo.sentence(number) for number in range(1, 20)]
+        self.assertEqual(len({sentence for sentence in sentences if sentence}), 19)
+        self.assertEqual([okubinrafo.sentence(number) for number in (0, 20, 2**32 - 1)], ["", "", ""])
         refused = self.refused(3, Book(1, 1).withdraw, 0)
         self.assertEqual(refused.sentence, "the identity is not from 1 to 99,999")
         self.assertEqual(str(refused), "refused (3): the identity is not from 1 to 99,999")
@@ -96,7 +97,7 @@ class Books(Case):
         supplied, withdrawn = ("supply", 5, [300]), ("withdraw", 5)
         calls = [entered, supplied, ("take_back", 6), withdrawn, too_light, ("enter", 8, 2, 0, 0, 7000)]
         self.assertEqual(book.replay(calls), [0, 0, 5, 0, 2, 0])
-        self.assertEqual(list(book.rows()), [(8, 14, None)])
+        self.assertEqual(list(book.rows()), [(8, 14, (True,), None)])
         self.assertEqual(book.replay([]), [])
         self.assertEqual(Book(50_000, 8).replay([("enter", 99_999, 0, 0, 0, 151)]), [0])
 
@@ -126,7 +127,8 @@ class Registers(Case):
     def test_rows_are_judged_in_the_reports_order(self):
         row = "7,G,70000,S,07:00:00,1.00\r\n"
         self.assertEqual(self.read(HEADER + "0,G,150,S,07:00:00,999.99")[1], 0)
-        self.assertEqual(list(self.read(HEADER + row + "7,G,100,S,07:00:00,2.00\r\n")[0].rows()), [(7, 0, (100,))])
+        book, _ = self.read(HEADER + row + "7,G,100,S,07:00:00,2.00\r\n")
+        self.assertEqual(list(book.rows()), [(7, 0, (True,), (100,))])
         self.refused_at(16, 1, "")
         self.refused_at(16, 1, HEADER.replace("\r", "") + row)
         self.refused_at(16, 3, HEADER + row + "\r\n")

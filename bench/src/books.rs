@@ -1,6 +1,6 @@
 //! Books: loads, shifts and registers.
 
-use crate::inputs::{book, register, Book};
+use crate::inputs::{book, register, some_elsewhere, Book};
 use crate::library::Library;
 use crate::timing::{alone, beside, grows, line, pair, rate};
 use reference::book::Columns;
@@ -10,24 +10,26 @@ use reference::level::{table_a, table_b};
 #[rustfmt::skip]
 extern "C" {
     fn baseline_load(
-        identities: *const u32, groups: *const u32, marks: *const u32, levels: *const u32, rows: usize, points: u32,
-        point: u32, days: u32, table_a: *const u64, table_b: *const u64, answer: *mut u64,
+        identities: *const u32, groups: *const u32, marks: *const u32, counts: *const u32, levels: *const u32,
+        rows: usize, points: u32, point: u32, days: u32, table_a: *const u64, table_b: *const u64, answer: *mut u64,
     ) -> u32;
     fn baseline_open(
-        identities: *mut u32, groups: *mut u32, marks: *mut u32, levels: *mut u32, used: usize, points: usize,
-        place: usize,
+        identities: *mut u32, groups: *mut u32, marks: *mut u32, counts: *mut u32, levels: *mut u32, used: usize,
+        points: usize, place: usize,
     );
     fn baseline_close(
-        identities: *mut u32, groups: *mut u32, marks: *mut u32, levels: *mut u32, used: usize, points: usize,
-        place: usize,
+        identities: *mut u32, groups: *mut u32, marks: *mut u32, counts: *mut u32, levels: *mut u32, used: usize,
+        points: usize, place: usize,
     );
     fn baseline_sound(
-        identities: *const u32, groups: *const u32, marks: *const u32, levels: *const u32, rows: usize, points: u32,
+        identities: *const u32, groups: *const u32, marks: *const u32, counts: *const u32, levels: *const u32,
+        rows: usize, points: u32,
     ) -> u32;
     fn baseline_commas(text: *const u8, length: usize) -> usize;
 }
 
 const POINTS: u32 = 8;
+const EVERYWHERE: [u32; POINTS as usize] = [1; POINTS as usize];
 const DAYS: u32 = 365;
 const FEW_ROWS: usize = 1_000;
 const MAX_ROWS: usize = 50_000;
@@ -37,12 +39,12 @@ const JOURNAL_PAIRS: usize = 50;
 #[rustfmt::skip]
 macro_rules! with_book {
     ($function:expr, $book:expr, $($argument:expr),*) => {{
-        let Book { identities: i, groups: g, marks: m, levels: l, points } = &mut *$book;
+        let Book { identities: i, groups: g, marks: m, counts: c, levels: l, points } = &mut *$book;
         // SAFETY: every pointer is lent with its own length.
         let answer = unsafe {
             $function(
-                i.as_mut_ptr(), i.len(), g.as_mut_ptr(), g.len(), m.as_mut_ptr(), m.len(), l.as_mut_ptr(), l.len(),
-                *points, $($argument),*
+                i.as_mut_ptr(), i.len(), g.as_mut_ptr(), g.len(), m.as_mut_ptr(), m.len(), c.as_mut_ptr(), c.len(),
+                l.as_mut_ptr(), l.len(), *points, $($argument),*
             )
         };
         assert_eq!(answer, 0, "the call must be accepted");
@@ -59,22 +61,29 @@ fn library_loads(library: &Library, book: &mut Book) -> Vec<u64> {
 
 fn c_loads(book: &Book) -> Vec<u64> {
     let mut answers = vec![0; LOAD_NUMBERS * POINTS as usize];
-    let (i, g, m, l) = (book.identities.as_ptr(), book.groups.as_ptr(), book.marks.as_ptr(), book.levels.as_ptr());
+    let (i, g, m) = (book.identities.as_ptr(), book.groups.as_ptr(), book.marks.as_ptr());
+    let (c, l) = (book.counts.as_ptr(), book.levels.as_ptr());
     let (rows, a, b) = (book.identities.len(), table_a().as_ptr(), table_b().as_ptr());
     for (point, answer) in (0..).zip(answers.chunks_mut(LOAD_NUMBERS)) {
         // SAFETY: the columns fit, and the answer has 39 numbers.
-        let number = unsafe { baseline_load(i, g, m, l, rows, POINTS, point, DAYS, a, b, answer.as_mut_ptr()) };
+        let number = unsafe { baseline_load(i, g, m, c, l, rows, POINTS, point, DAYS, a, b, answer.as_mut_ptr()) };
         assert_eq!(number, 0, "the load must be accepted");
     }
     answers
 }
 
 pub fn loads(library: &Library) {
-    let mut own = book(MAX_ROWS, 0, POINTS);
+    let everywhere = book(MAX_ROWS, 0, POINTS);
+    let elsewhere = some_elsewhere(everywhere.clone());
+    time_loads(library, "load at 8 points, 50,000 rows", everywhere);
+    time_loads(library, "the same, one in eight not counting at a point", elsewhere);
+}
+
+fn time_loads(library: &Library, what: &str, mut own: Book) {
     let other = own.clone();
     assert_eq!(library_loads(library, &mut own), c_loads(&other), "both must give the same loads");
     let times = pair(|| library_loads(library, &mut own), || c_loads(&other));
-    beside("load at 8 points, 50,000 rows", times, "C", Some(1.5));
+    beside(what, times, "C", Some(1.3));
 }
 
 /// A book with one unused row, an identity that would go in at its middle, and that place.
@@ -91,12 +100,14 @@ impl Middle {
     }
 
     fn enter_and_withdraw(&mut self, library: &Library) {
-        with_book!(library.enter, &mut self.book, self.identity, 0, 0, 0, 7_000);
+        let (given, many) = (EVERYWHERE.as_ptr(), EVERYWHERE.len());
+        with_book!(library.enter, &mut self.book, self.identity, 0, 0, 0, 7_000, given, many);
         with_book!(library.withdraw, &mut self.book, self.identity);
     }
 
     fn replay(&mut self, library: &Library, pairs: usize) {
-        let journal: Vec<u32> = (0..pairs).flat_map(|_| [1, self.identity, 0, 0, 0, 7_000, 4, self.identity]).collect();
+        let enter = [&[1, self.identity, 0, 0, 0, 7_000, POINTS][..], &EVERYWHERE].concat();
+        let journal = [&enter[..], &[4, self.identity]].concat().repeat(pairs);
         let mut answers = vec![0; 2 * pairs];
         with_book!(
             library.replay,
@@ -110,20 +121,21 @@ impl Middle {
 
     /// Only the bytes that both move, in C.
     fn move_bytes(&mut self) {
-        let Book { identities, groups, marks, levels, points } = &mut self.book;
-        let (i, g, m, l) = (identities.as_mut_ptr(), groups.as_mut_ptr(), marks.as_mut_ptr(), levels.as_mut_ptr());
+        let Book { identities, groups, marks, counts, levels, points } = &mut self.book;
+        let (i, g, m) = (identities.as_mut_ptr(), groups.as_mut_ptr(), marks.as_mut_ptr());
+        let (c, l) = (counts.as_mut_ptr(), levels.as_mut_ptr());
         let (rows, points) = (identities.len(), *points as usize);
         // SAFETY: one row is unused before and none after the first.
         unsafe {
-            baseline_open(i, g, m, l, rows - 1, points, self.place);
+            baseline_open(i, g, m, c, l, rows - 1, points, self.place);
             *i.add(self.place) = self.identity;
-            baseline_close(i, g, m, l, rows, points, self.place);
+            baseline_close(i, g, m, c, l, rows, points, self.place);
         }
     }
 
     /// The look at the whole book that both calls begin with, in C.
     fn look(&self) {
-        let Book { identities, groups, marks, levels, points } = &self.book;
+        let Book { identities, groups, marks, counts, levels, points } = &self.book;
         for _ in 0..2 {
             // SAFETY: the columns fit.
             let sound = unsafe {
@@ -131,6 +143,7 @@ impl Middle {
                     identities.as_ptr(),
                     groups.as_ptr(),
                     marks.as_ptr(),
+                    counts.as_ptr(),
                     levels.as_ptr(),
                     identities.len(),
                     *points,
@@ -167,7 +180,8 @@ fn read_register(library: &Library, text: &[u8], book: &mut Book, mut journal: V
         let answer = unsafe { (library.read_row)(line.as_ptr(), line.len(), POINTS, f, fields.len(), l, levels.len()) };
         assert_eq!(answer, 0, "the row must be accepted");
         let [identity, aircraft, mass, kind, time, computed] = fields;
-        journal.extend([1, identity, aircraft, kind, time, mass]);
+        journal.extend([1, identity, aircraft, kind, time, mass, POINTS]);
+        journal.extend(EVERYWHERE);
         if computed == 1 {
             journal.extend([2, identity, POINTS]);
             journal.extend(levels);
@@ -183,7 +197,7 @@ fn read_register(library: &Library, text: &[u8], book: &mut Book, mut journal: V
 /// Seconds of the library and of a scan for commas, and the bytes of the register.
 fn time_register(library: &Library, rows: usize) -> (f64, f64, usize) {
     let text = register(rows as u32, POINTS);
-    let mut journal = Vec::with_capacity(20 * rows);
+    let mut journal = Vec::with_capacity(26 * rows);
     let own = || {
         let mut book = Columns::new(rows, POINTS);
         journal = read_register(library, &text, &mut book, std::mem::take(&mut journal));

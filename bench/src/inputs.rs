@@ -18,7 +18,8 @@ impl Numbers {
     }
 }
 
-/// A book of `rows` rows of which `free` are unused, with odd identities; three in four movements are computed.
+/// A book of `rows` rows of which `free` are unused, with odd identities; three in four movements are computed, and all
+/// count at every point.
 pub fn book(rows: usize, free: usize, points: u32) -> Book {
     let mut numbers = Numbers::new();
     let mut book = Columns::new(rows, points);
@@ -30,6 +31,17 @@ pub fn book(rows: usize, free: usize, points: u32) -> Book {
             book.levels[row * points as usize..][..points as usize]
                 .iter_mut()
                 .for_each(|level| *level = 4_000 + numbers.below(6_000));
+        }
+    }
+    book.everywhere()
+}
+
+/// The book where at each point one movement in eight doesn't count.
+pub fn some_elsewhere(mut book: Book) -> Book {
+    let mut numbers = Numbers::new();
+    for (count, level) in book.counts.iter_mut().zip(&mut book.levels) {
+        if numbers.below(8) == 0 {
+            (*count, *level) = (0, 0);
         }
     }
     book

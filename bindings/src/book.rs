@@ -8,18 +8,20 @@ pub const GROUPS: usize = 18;
 const LOAD_NUMBERS: usize = 3 + 2 * GROUPS;
 const ACCOUNT_NUMBERS: usize = 4 * GROUPS + 6;
 
-/// A book: four columns that the caller lends, all zero at first. Rows: 1 to 50,000, as many as identities, groups and
-/// marks; levels has `points` (1 to 8) numbers a row.
+/// A book: five columns that the caller lends, all zero at first. Rows: 1 to 50,000, as many as identities, groups and
+/// marks; counts and levels have `points` (1 to 8) numbers a row.
 #[derive(Debug)]
 pub struct Book<'a> {
     pub identities: &'a mut [u32],
     pub groups: &'a mut [u32],
     pub marks: &'a mut [u32],
+    /// 1 where the movement counts; 0 where it doesn't, and there its level is 0 too.
+    pub counts: &'a mut [u32],
     pub levels: &'a mut [u32],
     pub points: u32,
 }
 
-/// A load at a point.
+/// A load at a point, of the movements that count there.
 #[derive(Clone, Debug, PartialEq, Eq)]
 pub struct Load {
     pub total: u64,
@@ -48,7 +50,7 @@ pub struct Group {
 #[derive(Clone, Debug, PartialEq, Eq)]
 pub struct Account {
     pub groups: [Group; GROUPS],
-    /// The general factor, V+U+W over V+U; None where no movement stands.
+    /// The general factor, V+U+W over V+U; None where no movement counts.
     pub factor: Option<(u64, u64)>,
     /// P, the sum of the scaled energies.
     pub energy: u64,
@@ -64,7 +66,8 @@ macro_rules! with_book {
         Refusal::of(unsafe {
             raw::$name(
                 $book.identities.$pointer(), $book.identities.len(), $book.groups.$pointer(), $book.groups.len(),
-                $book.marks.$pointer(), $book.marks.len(), $book.levels.$pointer(), $book.levels.len(), $book.points,
+                $book.marks.$pointer(), $book.marks.len(), $book.counts.$pointer(), $book.counts.len(),
+                $book.levels.$pointer(), $book.levels.len(), $book.points,
                 $($number,)* $($given.as_ptr(), $given.len(),)* $($room.as_mut_ptr(), $room.len(),)*
             )
         })
@@ -72,12 +75,21 @@ macro_rules! with_book {
 }
 
 impl Book<'_> {
-    /// Enters a movement, not computed. aircraft: 0 large, 1 small, 2 helicopter; kind: 0 start, 1 landing.
-    pub fn enter(&mut self, identity: u32, aircraft: u32, kind: u32, time: u32, mass: u32) -> Answer<()> {
-        with_book!(okubinrafo_enter, as_mut_ptr, self, [identity, aircraft, kind, time, mass], [], [])
+    /// Enters a movement, not computed. aircraft: 0 large, 1 small, 2 helicopter; kind: 0 start, 1 landing; `given` has
+    /// one number a point, 1 where the movement counts and 0 where it doesn't.
+    pub fn enter(
+        &mut self,
+        identity: u32,
+        aircraft: u32,
+        kind: u32,
+        time: u32,
+        mass: u32,
+        given: &[u32],
+    ) -> Answer<()> {
+        with_book!(okubinrafo_enter, as_mut_ptr, self, [identity, aircraft, kind, time, mass], [given], [])
     }
 
-    /// Supplies all levels of a standing movement, which marks it computed.
+    /// Supplies all levels of a standing movement, 0 where it doesn't count, which marks it computed.
     pub fn supply(&mut self, identity: u32, given: &[u32]) -> Answer<()> {
         with_book!(okubinrafo_supply, as_mut_ptr, self, [identity], [given], [])
     }

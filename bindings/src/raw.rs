@@ -21,39 +21,41 @@ type Doubles = *mut f64;
 exported! {
     fn okubinrafo_enter(
         identities: Room, identities_len: usize, groups: Room, groups_len: usize, marks: Room, marks_len: usize,
-        levels: Room, levels_len: usize, points: u32, identity: u32, aircraft: u32, kind: u32, time: u32, mass: u32,
+        counts: Room, counts_len: usize, levels: Room, levels_len: usize, points: u32, identity: u32, aircraft: u32,
+        kind: u32, time: u32, mass: u32, given: Numbers, given_len: usize,
     );
     fn okubinrafo_supply(
         identities: Room, identities_len: usize, groups: Room, groups_len: usize, marks: Room, marks_len: usize,
-        levels: Room, levels_len: usize, points: u32, identity: u32, given: Numbers, given_len: usize,
+        counts: Room, counts_len: usize, levels: Room, levels_len: usize, points: u32, identity: u32, given: Numbers,
+        given_len: usize,
     );
     fn okubinrafo_take_back(
         identities: Room, identities_len: usize, groups: Room, groups_len: usize, marks: Room, marks_len: usize,
-        levels: Room, levels_len: usize, points: u32, identity: u32,
+        counts: Room, counts_len: usize, levels: Room, levels_len: usize, points: u32, identity: u32,
     );
     fn okubinrafo_withdraw(
         identities: Room, identities_len: usize, groups: Room, groups_len: usize, marks: Room, marks_len: usize,
-        levels: Room, levels_len: usize, points: u32, identity: u32,
+        counts: Room, counts_len: usize, levels: Room, levels_len: usize, points: u32, identity: u32,
     );
     fn okubinrafo_replay(
         identities: Room, identities_len: usize, groups: Room, groups_len: usize, marks: Room, marks_len: usize,
-        levels: Room, levels_len: usize, points: u32, journal: Numbers, journal_len: usize,
-        answers: Room, answers_len: usize,
+        counts: Room, counts_len: usize, levels: Room, levels_len: usize, points: u32,
+        journal: Numbers, journal_len: usize, answers: Room, answers_len: usize,
     );
     fn okubinrafo_load(
         identities: Numbers, identities_len: usize, groups: Numbers, groups_len: usize, marks: Numbers,
-        marks_len: usize, levels: Numbers, levels_len: usize, points: u32, point: u32, days: u32,
-        answer: *mut u64, answer_len: usize,
+        marks_len: usize, counts: Numbers, counts_len: usize, levels: Numbers, levels_len: usize, points: u32,
+        point: u32, days: u32, answer: *mut u64, answer_len: usize,
     );
     fn okubinrafo_account(
         identities: Numbers, identities_len: usize, groups: Numbers, groups_len: usize, marks: Numbers,
-        marks_len: usize, levels: Numbers, levels_len: usize, points: u32, point: u32, days: u32,
-        answer: *mut u64, answer_len: usize,
+        marks_len: usize, counts: Numbers, counts_len: usize, levels: Numbers, levels_len: usize, points: u32,
+        point: u32, days: u32, answer: *mut u64, answer_len: usize,
     );
     fn okubinrafo_verdict(
         identities: Numbers, identities_len: usize, groups: Numbers, groups_len: usize, marks: Numbers,
-        marks_len: usize, levels: Numbers, levels_len: usize, points: u32, point: u32, days: u32, limit: u32,
-        answer: Room, answer_len: usize,
+        marks_len: usize, counts: Numbers, counts_len: usize, levels: Numbers, levels_len: usize, points: u32,
+        point: u32, days: u32, limit: u32, answer: Room, answer_len: usize,
     );
     fn okubinrafo_contours(
         levels: Numbers, levels_len: usize, columns: u32, rows: u32, spacing: u32, west: u32, south: u32, level: u32,

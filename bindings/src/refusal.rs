@@ -31,8 +31,8 @@ refusals! {
     NO_UNUSED_ROW = 6, "the book is full";
     WRONG_LEVELS = 7, "another number of levels than points, or one over 12,000";
     NO_LEVELS_HELD = 8, "there are no levels to take back";
-    NOT_SOUND = 9, "the book, its number of points, or the point asked for";
-    NONE_COMPUTED = 10, "movements stand and none is computed";
+    NOT_SOUND = 9, "the book, its number of points, the point asked for, or yes and no";
+    NONE_COMPUTED = 10, "movements count at the point and none of them is computed";
     WRONG_DAYS = 11, "the days are outside 1 to 366";
     WRONG_NETWORK = 12, "size, spacing, origin or count of values of a network";
     WRONG_NETWORK_LEVEL = 13, "a network level is over 15,000 or no data";
@@ -41,6 +41,7 @@ refusals! {
     REGISTER_OFF_LAYOUT = 16, "the text of a register, or a journal's numbers";
     NETWORK_OFF_LAYOUT = 17, "the text of a network";
     WRONG_FLIGHTS = 18, "too many movements or tracks, columns of unequal length, or a value out of its range";
+    LEVEL_ELSEWHERE = 19, "a level other than zero at a point where the movement doesn't count";
 }
 
 impl Refusal {
@@ -85,7 +86,7 @@ mod tests {
         let header: Vec<_> = include_str!("../../include/okubinrafo.h").lines().filter_map(named).collect();
         assert_eq!(header, Refusal::ALL);
         assert_eq!(header.last().map(|(_, refusal)| refusal.0), Some(header.len() as u32));
-        assert!(header.len() >= 18);
+        assert!(header.len() >= 19);
     }
 
     #[test]

@@ -5,6 +5,7 @@ use okubinrafo::{Account, Along, Book, Flights, Frame, Group, Network, Refusal, 
 
 const ROWS: usize = 10;
 const POINTS: usize = 1;
+const EVERYWHERE: [u32; POINTS] = [1; POINTS];
 const HILL: [u32; 9] = [4000, 4000, 4000, 4000, 5000, 4000, 4000, 4000, 4000];
 const FRAME: Frame = Frame { columns: 3, rows: 3, spacing: 100, west: 0, south: 0 };
 
@@ -14,13 +15,14 @@ struct Columns {
     identities: [u32; ROWS],
     groups: [u32; ROWS],
     marks: [u32; ROWS],
+    counts: [u32; ROWS * POINTS],
     levels: [u32; ROWS * POINTS],
 }
 
 impl Columns {
     fn book(&mut self) -> Book<'_> {
-        let Columns { identities, groups, marks, levels } = self;
-        Book { identities, groups, marks, levels, points: POINTS as u32 }
+        let Columns { identities, groups, marks, counts, levels } = self;
+        Book { identities, groups, marks, counts, levels, points: POINTS as u32 }
     }
 }
 
@@ -29,7 +31,7 @@ fn fill(book: &mut Book, register: &str) -> Result<(), Refusal> {
     for line in register.split_terminator("\r\n").skip(1) {
         let mut levels = [0; POINTS];
         let row = read_row(line.as_bytes(), book.points, &mut levels)?;
-        book.enter(row.identity, row.aircraft, row.kind, row.time, row.mass)?;
+        book.enter(row.identity, row.aircraft, row.kind, row.time, row.mass, &EVERYWHERE)?;
         if row.computed {
             book.supply(row.identity, &levels)?;
         }
@@ -68,8 +70,8 @@ fn a_refused_call_changes_nothing() {
     fill(&mut columns.book(), include_str!("../../examples/document/register.csv")).expect("every row is accepted");
     let before = columns.clone();
     let mut book = columns.book();
-    assert_eq!(book.enter(1, 0, 0, 25_200, 70_000), Err(Refusal::ALREADY_STANDS));
-    assert_eq!(book.enter(5, 0, 0, 25_200, 150), Err(Refusal::TOO_LIGHT));
+    assert_eq!(book.enter(1, 0, 0, 25_200, 70_000, &EVERYWHERE), Err(Refusal::ALREADY_STANDS));
+    assert_eq!(book.enter(5, 0, 0, 25_200, 150, &EVERYWHERE), Err(Refusal::TOO_LIGHT));
     assert_eq!(book.supply(1, &[]), Err(Refusal::WRONG_LEVELS));
     assert_eq!(book.take_back(3), Err(Refusal::NO_LEVELS_HELD));
     assert_eq!(book.withdraw(9), Err(Refusal::DOES_NOT_STAND));
@@ -87,12 +89,13 @@ fn a_refused_call_changes_nothing() {
 fn calls_one_by_one_and_in_a_journal() {
     let (mut columns, mut again, mut answers) = (Columns::default(), Columns::default(), [7; 5]);
     let mut book = columns.book();
-    assert_eq!(book.enter(9, 2, 1, 82_800, 3_000), Ok(()));
+    assert_eq!(book.enter(9, 2, 1, 82_800, 3_000, &EVERYWHERE), Ok(()));
     assert_eq!(book.load(0, 1), Err(Refusal::NONE_COMPUTED));
     assert_eq!(book.account(0, 1), Err(Refusal::NONE_COMPUTED));
     assert_eq!(book.supply(9, &[5000]), Ok(()));
     assert_eq!(book.take_back(9), Ok(()));
-    again.book().replay(&[1, 9, 2, 1, 82_800, 3_000, 2, 9, 1, 5000, 3, 9, 4, 8], &mut answers).expect("a journal");
+    let journal = [1, 9, 2, 1, 82_800, 3_000, 1, 1, 2, 9, 1, 5000, 3, 9, 4, 8];
+    again.book().replay(&journal, &mut answers).expect("a journal");
     assert_eq!(answers, [0, 0, 0, 5, 7]);
     assert_eq!((columns.identities[0], columns.groups[0], columns.marks[0]), (9, 17, 0));
     assert_eq!(columns, again);

@@ -13,12 +13,13 @@ START, LANDING = 0, 1
 DAY, EVENING, NIGHT = 0, 1, 2
 
 Load = namedtuple("Load", "total level computed missing")
-Load.__doc__ = "A load: level is None for below zero; computed and missing have V and U of the 18 groups."
+Load.__doc__ = """A load of the movements that count at a point: level is None for below zero; computed and missing
+have V and U of the 18 groups."""
 Group = namedtuple("Group", "computed missing energy counted")
 Group.__doc__ = "A group in an account: V, U, its energy S, and that energy scaled by (V+U)/V."
 Account = namedtuple("Account", "groups factor energy total level")
 Account.__doc__ = """How a load comes about: the 18 groups; the general factor as (upper, lower), None where no movement
-is computed; P, the energy of all groups; the total; the level, None for below zero."""
+counts; P, the energy of all groups; the total; the level, None for below zero."""
 
 _GROUPS = 18
 _LOAD_NUMBERS = 39
@@ -26,7 +27,7 @@ _ACCOUNT_NUMBERS = 78
 # The library refuses every call on a larger book with 9, so no more memory is lent than shows that it is larger.
 MAX_ROWS, _MAX_POINTS = 50_000, 8
 # The number of each call of a journal, and how many arguments it takes.
-_JOURNAL = {"enter": (1, 5), "supply": (2, 2), "take_back": (3, 1), "withdraw": (4, 1)}
+_JOURNAL = {"enter": (1, (5, 6)), "supply": (2, (2,)), "take_back": (3, (1,)), "withdraw": (4, (1,))}
 
 
 class Book:
@@ -34,15 +35,16 @@ class Book:
 
     def __init__(self, rows, points):
         self.points = whole(points)
-        rows, points = min(whole(rows), MAX_ROWS + 1), min(self.points, _MAX_POINTS + 1)
-        self._columns = [(U32 * rows)(), (U32 * rows)(), (U32 * rows)(), (U32 * (rows * points))()]
+        rows = min(whole(rows), MAX_ROWS + 1)
+        cells = rows * min(self.points, _MAX_POINTS + 1)
+        self._columns = [(U32 * count)() for count in (rows, rows, rows, cells, cells)]
 
-    def enter(self, identity, type, kind, time, mass):
-        """Enters a movement, not computed."""
-        ask("enter", *self._columns, self.points, identity, type, kind, time, mass)
+    def enter(self, identity, type, kind, time, mass, counts=None):
+        """Enters a movement, not computed. counts has a true or false (or 1 or 0) a point; None counts everywhere."""
+        ask("enter", *self._columns, self.points, identity, type, kind, time, mass, self._counted(counts))
 
     def supply(self, identity, levels):
-        """Supplies all levels of a standing movement, which marks it computed."""
+        """Supplies all levels of a standing movement, 0 where it doesn't count, which marks it computed."""
         ask("supply", *self._columns, self.points, identity, numbers(levels))
 
     def take_back(self, identity):
@@ -54,7 +56,7 @@ class Book:
         ask("withdraw", *self._columns, self.points, identity)
 
     def load(self, point, days):
-        """The load at a point over a number of days."""
+        """The load at a point over a number of days, of the movements that count there."""
         answer = (U64 * _LOAD_NUMBERS)()
         ask("load", *self._columns, self.points, point, days, answer)
         level = answer[2] if answer[1] else None
@@ -77,11 +79,11 @@ class Book:
     def replay(self, calls):
         """Makes many calls at once; answers with a number for each, 0 or its refusal.
 
-        A call is ("enter", identity, type, kind, time, mass), ("supply", identity, levels), ("take_back", identity)
-        or ("withdraw", identity).
+        A call is ("enter", identity, type, kind, time, mass) with counts behind or without, ("supply", identity,
+        levels), ("take_back", identity) or ("withdraw", identity).
         """
         calls = list(calls)
-        journal = numbers(number for call in calls for number in _spelled(call))
+        journal = numbers(number for call in calls for number in self._spelled(call))
         answers = (U32 * len(calls))()
         ask("replay", *self._columns, self.points, journal, answers)
         return list(answers)
@@ -98,11 +100,15 @@ class Book:
             return read_into(self, file).entered
 
     def rows(self):
-        """The movements in rising identity as (identity, group, levels), levels None where not computed."""
-        identities, groups, marks, levels = self._columns
+        """The movements in rising identity as (identity, group, counts, levels).
+
+        counts has True or False a point; levels is None where the movement is not computed.
+        """
+        identities, groups, marks, counts, levels = self._columns
         for row, identity in enumerate(itertools.takewhile(bool, identities)):
-            held = tuple(levels[row * self.points : (row + 1) * self.points])
-            yield identity, groups[row], held if marks[row] else None
+            cells = slice(row * self.points, (row + 1) * self.points)
+            held = tuple(levels[cells]) if marks[row] else None
+            yield identity, groups[row], tuple(map(bool, counts[cells])), held
 
     def room(self):
         """How many rows there is room for, used ones included."""
@@ -115,16 +121,22 @@ class Book:
         for column, content in zip(self._columns, copy):
             ctypes.memmove(column, content, len(content))
 
+    def _counted(self, counts):
+        """A number a point from what is given: None counts everywhere."""
+        return numbers([1] * min(self.points, _MAX_POINTS + 1) if counts is None else counts)
 
-def _spelled(call):
-    """A call as a journal's numbers."""
-    name, *given = call
-    if name not in _JOURNAL:
-        raise ValueError(f"no call of a journal: {name!r}")
-    number, expected = _JOURNAL[name]
-    if len(given) != expected:
-        raise TypeError(f"{name} takes {expected} arguments, not {len(given)}")
-    if name == "supply":
-        levels = numbers(given[1])
-        given = [given[0], len(levels), *levels]
-    return [number, *given]
+    def _spelled(self, call):
+        """A call as a journal's numbers; those of a list follow their number."""
+        name, *given = call
+        if name not in _JOURNAL:
+            raise ValueError(f"no call of a journal: {name!r}")
+        number, expected = _JOURNAL[name]
+        if len(given) not in expected:
+            raise TypeError(f"{name} takes {' or '.join(map(str, expected))} arguments, not {len(given)}")
+        if name == "enter":
+            cells = self._counted(given[5] if len(given) > 5 else None)
+            given = [*given[:5], len(cells), *cells]
+        elif name == "supply":
+            cells = numbers(given[1])
+            given = [given[0], len(cells), *cells]
+        return [number, *given]

@@ -18,9 +18,9 @@ TEXTS = (str, bytes, bytearray, memoryview)
 
 # What the functions of include/okubinrafo.h take: n is a number, the other letters are slices.
 _SLICES = {"b": U8, "i": U32, "q": U64, "d": F64}
-_BOOK, _NETWORK = "iiiin", "innnnn"
+_BOOK, _NETWORK = "iiiiin", "innnnn"
 FACES = {
-    "enter": _BOOK + "nnnnn",
+    "enter": _BOOK + "nnnnni",
     "supply": _BOOK + "ni",
     "take_back": _BOOK + "n",
     "withdraw": _BOOK + "n",

@@ -117,7 +117,7 @@ def fields():
     many = HEADER + b"".join(b"%d" % (i + 1) + ROW[1:] + b"\r\n" for i in range(2001))
     room = "register, line 2002: id is '2001' and finds no room: the report's book has 2,000 rows (6)\n"
     report("rule 6", many, "6,2002", f"{room}    2001{ROW[1:].decode()}\n")
-    none = "movements stand, and none of them has levels, so no load can be worked out"
+    none = "movements count at the point, and none of them has levels, so no load can be worked out"
     report("rule 10", HEADER + b"1,G,70000,S,07:00:00,", "10,0", f"register: {none} (10)\n")
 
 

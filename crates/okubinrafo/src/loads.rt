@@ -61,20 +61,22 @@ pub extern "C" fn okubinrafo_load(
     identities: &[u32],
     groups: &[u32],
     marks: &[u32],
+    counts: &[u32],
     levels: &[u32],
     points: u32,
     point: u32,
     days: u32,
     answer: &mut [u64],
 ) -> u32
-    ensures { λ r. ⌜ Writes (bookLoad points point (bookBefore identities groups marks levels) days .refused)
-        (loadNumbers (bookLoad points point (bookBefore identities groups marks levels) days))
+    ensures { λ r. ⌜ Writes (bookLoad points point (bookBefore identities groups marks counts levels) days .refused)
+        (loadNumbers (bookLoad points point (bookBefore identities groups marks counts levels) days))
         (now (answer .entry)) r (now (answer .exit)) ⌝ }
 {
     let load = load::load_at(
         identities,
         groups,
         marks,
+        counts,
         levels,
         points as usize,
         point as usize,
@@ -88,8 +90,8 @@ pub extern "C" fn okubinrafo_load(
         return 14;
     }
     let level = load.level;
-    let counts = load.counts;
-    put_numbers(load.total, level, counts, answer);
+    let of_groups = load.counts;
+    put_numbers(load.total, level, of_groups, answer);
     0
 }
 
@@ -99,20 +101,22 @@ pub extern "C" fn okubinrafo_account(
     identities: &[u32],
     groups: &[u32],
     marks: &[u32],
+    counts: &[u32],
     levels: &[u32],
     points: u32,
     point: u32,
     days: u32,
     answer: &mut [u64],
 ) -> u32
-    ensures { λ r. ⌜ Writes (bookLoad points point (bookBefore identities groups marks levels) days .refused)
-        (accountOf points point (bookBefore identities groups marks levels) days)
+    ensures { λ r. ⌜ Writes (bookLoad points point (bookBefore identities groups marks counts levels) days .refused)
+        (accountOf points point (bookBefore identities groups marks counts levels) days)
         (now (answer .entry)) r (now (answer .exit)) ⌝ }
 {
     load::account::account_at(
         identities,
         groups,
         marks,
+        counts,
         levels,
         points as usize,
         point as usize,
@@ -138,6 +142,7 @@ pub extern "C" fn okubinrafo_verdict(
     identities: &[u32],
     groups: &[u32],
     marks: &[u32],
+    counts: &[u32],
     levels: &[u32],
     points: u32,
     point: u32,
@@ -146,14 +151,15 @@ pub extern "C" fn okubinrafo_verdict(
     answer: &mut [u32],
 ) -> u32
     ensures { λ r. ⌜ Writes
-        (refusalNumber (bookVerdict points point (bookBefore identities groups marks levels) days limit))
-        (verdictNumbers (bookVerdict points point (bookBefore identities groups marks levels) days limit))
+        (refusalNumber (bookVerdict points point (bookBefore identities groups marks counts levels) days limit))
+        (verdictNumbers (bookVerdict points point (bookBefore identities groups marks counts levels) days limit))
         (now (answer .entry)) r (now (answer .exit)) ⌝ }
 {
     let judged = load::verdict_at(
         identities,
         groups,
         marks,
+        counts,
         levels,
         points as usize,
         point as usize,

@@ -12,7 +12,7 @@ ofNetwork what = bytes "network: " ++ what
 abbrev pub ofFlights : List ℕ → List ℕ
 ofFlights what = bytes "movements or tracks: " ++ what
 
--- from 0, which is no refusal, to 18
+-- from 0, which is no refusal, to 19
 unfoldable pub sentences : List (List ℕ)
 sentences =
     []
@@ -24,8 +24,8 @@ sentences =
     ∷ bytes "the book has no unused row left"
     ∷ bytes "the number of levels is not the number of points, or a level is over 120.00"
     ∷ bytes "the movement has no levels that could be taken back"
-    ∷ bytes "the book is not sound, its points are not 1 to 8, or the point asked for is not there"
-    ∷ bytes "movements stand, and none of them has levels, so no load can be worked out"
+    ∷ bytes "the book is not sound, its points are not 1 to 8, there is no such point, or not one yes or no a point"
+    ∷ bytes "movements count at the point, and none of them has levels, so no load can be worked out"
     ∷ bytes "the days have to be from 1 to 366"
     ∷ ofNetwork
     (bytes "size (2 to 256 a side), spacing (1 to 500 m), origin (0 to 900,000 m) or the count of values is wrong")
@@ -36,6 +36,7 @@ sentences =
     ∷ ofNetwork (bytes "a line is off its layout, or its line end is LF where CRLF is expected")
     ∷ ofFlights
     (bytes "over 50,000, columns of unequal length, class or kind over 1, second over 86,399, or no such date")
+    ∷ bytes "a level is not zero at a point where the movement does not count"
     ∷ []
 
 -- a number that is no refusal has no sentence

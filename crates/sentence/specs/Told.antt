@@ -11,7 +11,7 @@ use Rattle.sentence.specs.Sentence.{sentenceOf, maxSentence}
 
 -- the largest refusal number in use
 abbrev pub maxRefusal : ℕ
-maxRefusal = 18
+maxRefusal = 19
 
 -- what each refusal is about, from 0, which is none
 unfoldable pub subjects : List (List ℕ)
@@ -35,6 +35,7 @@ subjects =
     ∷ bytes "register"
     ∷ bytes "CRLF"
     ∷ bytes "movements or tracks"
+    ∷ bytes "does not count"
     ∷ []
 
 -- a text between two spaces, 32
@@ -54,8 +55,8 @@ bounds =
     ∷ []
     ∷ (bytes " is not the number of points," ∷ bytes " a level is over 120.00 " ∷ [])
     ∷ (bytes " has no levels " ∷ [])
-    ∷ (bytes " points are not 1 to 8," ∷ [])
-    ∷ []
+    ∷ (bytes " points are not 1 to 8," ∷ bytes " or not one yes or no a point " ∷ [])
+    ∷ (bytes " movements count at the point," ∷ [])
     ∷ (bytes " have to be from 1 to 366 " ∷ [])
     ∷ (bytes "(2 to 256 a side)" ∷ bytes "(1 to 500 m)" ∷ bytes "(0 to 900,000 m)" ∷ [])
     ∷ (bytes " a level is over 150.00," ∷ [])
@@ -69,6 +70,7 @@ bounds =
     ∷ bytes " second over 86,399,"
     ∷ bytes " or no such date "
     ∷ [])
+    ∷ (bytes " a level is not zero " ∷ bytes " where the movement does not count " ∷ [])
     ∷ []
 
 -- whether a word stands somewhere in a text

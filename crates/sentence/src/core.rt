@@ -17,7 +17,10 @@ pub fn put_any(out: &mut [u8], number: u32) -> usize
     if number < 12 {
         return of_load(out, number);
     }
-    of_file(out, number)
+    if number < 18 {
+        return of_file(out, number);
+    }
+    of_later(out, number)
 }
 
 // 1 to 6: a movement, its identity and its row.
@@ -63,12 +66,12 @@ fn of_load(out: &mut [u8], number: u32) -> usize
         9 => put_text(
             out,
             0,
-            b"the book is not sound, its points are not 1 to 8, or the point asked for is not there",
+            b"the book is not sound, its points are not 1 to 8, there is no such point, or not one yes or no a point",
         ),
         10 => put_text(
             out,
             0,
-            b"movements stand, and none of them has levels, so no load can be worked out",
+            b"movements count at the point, and none of them has levels, so no load can be worked out",
         ),
         _ => put_text(out, 0, b"the days have to be from 1 to 366"),
     }
@@ -83,9 +86,9 @@ fn put_about(out: &mut [u8], about: &[u8], what: &[u8]) -> usize
     put_text(out, next, what)
 }
 
-// From 12 on: networks, lent room, limits and contour levels, the layouts of files, and flights to be coupled.
+// 12 to 17: networks, lent room, limits and contour levels, and the layouts of files.
 fn of_file(out: &mut [u8], number: u32) -> usize
-    requires { ⌜ (12 ≤ number) × (maxSentence ≤ length (now out)) ⌝ }
+    requires { ⌜ ((12 ≤ number) × (number < 18)) × (maxSentence ≤ length (now out)) ⌝ }
     ensures { λ r. ⌜ Wrote (now (out .entry)) 0 (sentenceOf number) (now (out .exit)) r ⌝ }
 {
     match number {
@@ -110,15 +113,29 @@ fn of_file(out: &mut [u8], number: u32) -> usize
             0,
             b"the register, limits.csv, movements, tracks.csv or the journal is off its layout",
         ),
-        17 => put_about(
+        _ => put_about(
             out,
             b"network: ",
             b"a line is off its layout, or its line end is LF where CRLF is expected",
         ),
+    }
+}
+
+// From 18 on: flights to be coupled, and a level where its movement doesn't count.
+fn of_later(out: &mut [u8], number: u32) -> usize
+    requires { ⌜ (18 ≤ number) × (maxSentence ≤ length (now out)) ⌝ }
+    ensures { λ r. ⌜ Wrote (now (out .entry)) 0 (sentenceOf number) (now (out .exit)) r ⌝ }
+{
+    match number {
         18 => put_about(
             out,
             b"movements or tracks: ",
             b"over 50,000, columns of unequal length, class or kind over 1, second over 86,399, or no such date",
+        ),
+        19 => put_text(
+            out,
+            0,
+            b"a level is not zero at a point where the movement does not count",
         ),
         _ => 0,
     }

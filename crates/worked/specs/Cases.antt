@@ -1,4 +1,4 @@
--- The cases of RULES, "Numbers worked by hand", that are marked P.
+-- The cases of docs/WORKED.md that are marked P.
 -- Assumes nothing.
 use Prim.Native.Nat.{ℕ, _+_, _*_, _^_, _≤_}
 use mathlib.Core.Path.{_≡_}

@@ -2,7 +2,7 @@
 use mathlib.Core.Path.{_≡_, sym, ap, _∙_}
 use native.Mathlib.Omega.{arith}
 use lib.ListN.{length}
-use Rattle.book_rules.specs.Columns.{bookNow}
+use Rattle.book_rules.specs.Columns.{Book, bookNow}
 use Rattle.load_rules.specs.declared.Load.{Load}
 use Rattle.load_rules.specs.Load.{bookLoad}
 use Rattle.room.specs.Room.{front}
@@ -16,14 +16,15 @@ use Rattle.okubinrafo.proofs.loads.okubinrafo_load.Tie as tie
 abbrev start : tie.After-load-at → tie.Start
 start c = search
 
--- the load of the book, and its numbers
+-- the book, its load and the load's numbers
+abbrev book : tie.Start → Book
+book s = bookNow (s .args .identities) (s .args .groups) (s .args .marks) (s .args .counts) (s .args .levels)
+
 abbrev the-load : tie.Start → Load
-the-load s = bookLoad (s .args .points) (s .args .point)
-    (bookNow (s .args .identities) (s .args .groups) (s .args .marks) (s .args .levels)) (s .args .days)
+the-load s = bookLoad (s .args .points) (s .args .point) (book s) (s .args .days)
 
 long : (s : tie.Start) → length (loadNumbers (the-load s)) ≡ loadSize
-long s = length-load (s .args .points) (s .args .point)
-    (bookNow (s .args .identities) (s .args .groups) (s .args .marks) (s .args .levels)) (s .args .days)
+long s = length-load (s .args .points) (s .args .point) (book s) (s .args .days)
 
 -- past the first test it is not refused
 fine : (c : tie.Else1) → the-load (start (c .before)) .refused ≡ 0

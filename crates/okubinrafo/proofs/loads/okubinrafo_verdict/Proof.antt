@@ -13,8 +13,8 @@ abbrev verdict : tie.After-verdict-at → Judged
 verdict c =
     let s : tie.Start = search in
     bookVerdict (s .args .points) (s .args .point)
-    (bookNow (s .args .identities) (s .args .groups) (s .args .marks) (s .args .levels)) (s .args .days)
-    (s .args .limit)
+    (bookNow (s .args .identities) (s .args .groups) (s .args .marks) (s .args .counts) (s .args .levels))
+    (s .args .days) (s .args .limit)
 
 returns : tie.Need-returns
 returns c =

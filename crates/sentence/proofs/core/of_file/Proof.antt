@@ -1,7 +1,6 @@
 -- `sentence::core::of_file` meets its contract: each number has its own text. Assumes nothing.
-use Rattle.room.proofs.Laws.{wrote-none}
 use Rattle.sentence.specs.Sentence.{sentences, sentenceOf}
-use Rattle.sentence.proofs.{Says.past-all, Spelled.of-number, Spelled.above}
+use Rattle.sentence.proofs.Spelled.{of-number, above, one-only}
 use borrow.Author.Needs.{needs}
 use Rattle.sentence.proofs.core.of_file.Statement.{statement}
 use Rattle.sentence.proofs.core.of_file.Tie as tie
@@ -39,29 +38,17 @@ returns-5 c =
 returns-6 : tie.Need-returns-6
 unfolding sentenceOf sentences
 returns-6 c =
-    let arm : tie.At-match-keys6 = search in
-    of-number 17 (arm .match .keys6) (c .before .before .put-about3 .ensures)
-
-returns-7 : tie.Need-returns-7
-unfolding sentenceOf sentences
-returns-7 c =
-    let arm : tie.At-match-keys7 = search in
-    of-number 18 (arm .match .keys7) (c .before .before .put-about4 .ensures)
-
-returns-8 : tie.Need-returns-8
-returns-8 c =
-    let s = c .before .before in
-    let seven = c .match .rest in
-    let four = seven .0 .0 .0 in
-    let high = above 14 (above 13 (above 12 (s .pre .0) (four .0 .0 .0 .1)) (four .0 .0 .1)) (four .0 .1) in
-    let higher = above 17 (above 16 (above 15 high (four .1)) (seven .0 .0 .1)) (seven .0 .1) in
-    rw (past-all (s .args .number) (above 18 higher (seven .1))) (wrote-none _ 0)
+    let start : tie.Start = search in
+    let arm : tie.At-match-rest = search in
+    let five = arm .match .rest in
+    let high = above 13 (above 12 (start .pre .0 .0) (five .0 .0 .0 .0 .1)) (five .0 .0 .0 .1) in
+    let highest = above 16 (above 15 (above 14 high (five .0 .0 .1)) (five .0 .1)) (five .1) in
+    of-number 17 (one-only highest (start .pre .0 .1)) (c .before .before .put-about3 .ensures)
 
 pub of-file-spec : {M : Type 1} → statement M
 of-file-spec =
     tie.close (tie.spec (λ c. search needs) (λ c. search needs) (λ c κs. search needs) (λ c. search needs)
     (λ c. search needs) (λ c κs. search needs) (λ c. search needs) (λ c κs. search needs) (λ c. search needs)
     (λ c κs. search needs) (λ c. search needs) (λ c κs. search needs) (λ c. search needs) (λ c. search needs)
-    (λ c κs. search needs) (λ c. search needs) (λ c. search needs) (λ c κs. search needs) (λ c. search needs)
-    returns (λ c. search needs) returns-2 (λ c. search needs) returns-3 (λ c. search needs) returns-4
-    (λ c. search needs) returns-5 (λ c. search needs) returns-6 (λ c. search needs) returns-7 returns-8)
+    (λ c κs. search needs) (λ c. search needs) returns (λ c. search needs) returns-2 (λ c. search needs) returns-3
+    (λ c. search needs) returns-4 (λ c. search needs) returns-5 (λ c. search needs) returns-6)
