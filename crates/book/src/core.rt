@@ -16,11 +16,12 @@ ghost use mathlib.Core.Bool.{true};
 ghost use Rattle.book_rules.specs.Columns.{bookNow, bookBefore, bookAfter, sound};
 ghost use Rattle.book_rules.specs.Calls.{Call, Called};
 
-// Enters a movement: its row goes in at its place, not computed.
+// Enters a movement, which counts where `given` says: its row goes in at its place, not computed.
 pub fn enter(
     ids: &mut [u32],
     groups: &mut [u32],
     marks: &mut [u32],
+    counts: &mut [u32],
     levels: &mut [u32],
     points: usize,
     identity: u32,
@@ -28,14 +29,15 @@ pub fn enter(
     kind: u32,
     time: u32,
     mass: u32,
+    given: &[u32],
 ) -> u32
-    requires { ⌜ sound points (bookNow ids groups marks levels) ≡ true ⌝ }
-    ensures { λ r. ⌜ Called points (bookBefore ids groups marks levels) (Call.enter identity ty kind time mass) r
-        (bookAfter ids groups marks levels) ⌝ }
+    requires { ⌜ sound points (bookNow ids groups marks counts levels) ≡ true ⌝ }
+    ensures { λ r. ⌜ Called points (bookBefore ids groups marks counts levels)
+        (Call.enter identity ty kind time mass (now (given .entry))) r (bookAfter ids groups marks counts levels) ⌝ }
 {
     let at = place_of(ids, identity);
     let rows = standing_rows(ids);
-    let not_entered = enter_refusal(ids, at, rows, identity, ty, kind, time, mass);
+    let not_entered = enter_refusal(ids, at, rows, points, identity, ty, kind, time, mass, given);
     if not_entered != 0 {
         return not_entered;
     }
@@ -44,12 +46,14 @@ pub fn enter(
         ids,
         groups,
         marks,
+        counts,
         levels,
         points,
         at,
         rows,
         identity,
         group,
+        given,
     );
     0
 }
@@ -59,17 +63,18 @@ pub fn supply(
     ids: &[u32],
     groups: &[u32],
     marks: &mut [u32],
+    counts: &[u32],
     levels: &mut [u32],
     points: usize,
     identity: u32,
     given: &[u32],
 ) -> u32
-    requires { ⌜ sound points (bookNow ids groups marks levels) ≡ true ⌝ }
-    ensures { λ r. ⌜ Called points (bookBefore ids groups marks levels) (Call.supply identity (now (given .entry))) r
-        (bookAfter ids groups marks levels) ⌝ }
+    requires { ⌜ sound points (bookNow ids groups marks counts levels) ≡ true ⌝ }
+    ensures { λ r. ⌜ Called points (bookBefore ids groups marks counts levels)
+        (Call.supply identity (now (given .entry))) r (bookAfter ids groups marks counts levels) ⌝ }
 {
     let at = place_of(ids, identity);
-    let not_supplied = supply_refusal(ids, at, points, identity, given);
+    let not_supplied = supply_refusal(ids, counts, at, points, identity, given);
     if not_supplied != 0 {
         return not_supplied;
     }
@@ -83,13 +88,14 @@ pub fn take_back(
     ids: &[u32],
     groups: &[u32],
     marks: &mut [u32],
+    counts: &[u32],
     levels: &mut [u32],
     points: usize,
     identity: u32,
 ) -> u32
-    requires { ⌜ sound points (bookNow ids groups marks levels) ≡ true ⌝ }
-    ensures { λ r. ⌜ Called points (bookBefore ids groups marks levels) (Call.takeBack identity) r
-        (bookAfter ids groups marks levels) ⌝ }
+    requires { ⌜ sound points (bookNow ids groups marks counts levels) ≡ true ⌝ }
+    ensures { λ r. ⌜ Called points (bookBefore ids groups marks counts levels) (Call.takeBack identity) r
+        (bookAfter ids groups marks counts levels) ⌝ }
 {
     let at = place_of(ids, identity);
     let not_taken_back = take_back_refusal(ids, marks, at, identity);
@@ -106,13 +112,14 @@ pub fn withdraw(
     ids: &mut [u32],
     groups: &mut [u32],
     marks: &mut [u32],
+    counts: &mut [u32],
     levels: &mut [u32],
     points: usize,
     identity: u32,
 ) -> u32
-    requires { ⌜ sound points (bookNow ids groups marks levels) ≡ true ⌝ }
-    ensures { λ r. ⌜ Called points (bookBefore ids groups marks levels) (Call.withdraw identity) r
-        (bookAfter ids groups marks levels) ⌝ }
+    requires { ⌜ sound points (bookNow ids groups marks counts levels) ≡ true ⌝ }
+    ensures { λ r. ⌜ Called points (bookBefore ids groups marks counts levels) (Call.withdraw identity) r
+        (bookAfter ids groups marks counts levels) ⌝ }
 {
     let at = place_of(ids, identity);
     let not_withdrawn = withdraw_refusal(ids, at, identity);
@@ -120,6 +127,6 @@ pub fn withdraw(
         return not_withdrawn;
     }
     let rows = standing_rows(ids);
-    row_out(ids, groups, marks, levels, points, at, rows);
+    row_out(ids, groups, marks, counts, levels, points, at, rows);
     0
 }

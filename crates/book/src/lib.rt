@@ -9,11 +9,12 @@ use soundness::is_sound;
 ghost use Rattle.book_rules.specs.Columns.{bookBefore, bookAfter};
 ghost use Rattle.book_rules.specs.Calls.{Call, Called};
 
-// Enters a movement: its row goes in at its place, not computed.
+// Enters a movement, which counts where `given` says: its row goes in at its place, not computed.
 pub fn enter(
     ids: &mut [u32],
     groups: &mut [u32],
     marks: &mut [u32],
+    counts: &mut [u32],
     levels: &mut [u32],
     points: usize,
     identity: u32,
@@ -21,17 +22,19 @@ pub fn enter(
     kind: u32,
     time: u32,
     mass: u32,
+    given: &[u32],
 ) -> u32
-    ensures { λ r. ⌜ Called points (bookBefore ids groups marks levels) (Call.enter identity ty kind time mass) r
-        (bookAfter ids groups marks levels) ⌝ }
+    ensures { λ r. ⌜ Called points (bookBefore ids groups marks counts levels)
+        (Call.enter identity ty kind time mass (now (given .entry))) r (bookAfter ids groups marks counts levels) ⌝ }
 {
-    if !is_sound(ids, groups, marks, levels, points) {
+    if !is_sound(ids, groups, marks, counts, levels, points) {
         return 9;
     }
     core::enter(
         ids,
         groups,
         marks,
+        counts,
         levels,
         points,
         identity,
@@ -39,6 +42,7 @@ pub fn enter(
         kind,
         time,
         mass,
+        given,
     )
 }
 
@@ -47,18 +51,19 @@ pub fn supply(
     ids: &[u32],
     groups: &[u32],
     marks: &mut [u32],
+    counts: &[u32],
     levels: &mut [u32],
     points: usize,
     identity: u32,
     given: &[u32],
 ) -> u32
-    ensures { λ r. ⌜ Called points (bookBefore ids groups marks levels) (Call.supply identity (now (given .entry))) r
-        (bookAfter ids groups marks levels) ⌝ }
+    ensures { λ r. ⌜ Called points (bookBefore ids groups marks counts levels)
+        (Call.supply identity (now (given .entry))) r (bookAfter ids groups marks counts levels) ⌝ }
 {
-    if !is_sound(ids, groups, marks, levels, points) {
+    if !is_sound(ids, groups, marks, counts, levels, points) {
         return 9;
     }
-    core::supply(ids, groups, marks, levels, points, identity, given)
+    core::supply(ids, groups, marks, counts, levels, points, identity, given)
 }
 
 // Takes the levels of a movement back: it is no longer computed.
@@ -66,17 +71,18 @@ pub fn take_back(
     ids: &[u32],
     groups: &[u32],
     marks: &mut [u32],
+    counts: &[u32],
     levels: &mut [u32],
     points: usize,
     identity: u32,
 ) -> u32
-    ensures { λ r. ⌜ Called points (bookBefore ids groups marks levels) (Call.takeBack identity) r
-        (bookAfter ids groups marks levels) ⌝ }
+    ensures { λ r. ⌜ Called points (bookBefore ids groups marks counts levels) (Call.takeBack identity) r
+        (bookAfter ids groups marks counts levels) ⌝ }
 {
-    if !is_sound(ids, groups, marks, levels, points) {
+    if !is_sound(ids, groups, marks, counts, levels, points) {
         return 9;
     }
-    core::take_back(ids, groups, marks, levels, points, identity)
+    core::take_back(ids, groups, marks, counts, levels, points, identity)
 }
 
 // Withdraws a movement: later rows move down.
@@ -84,15 +90,16 @@ pub fn withdraw(
     ids: &mut [u32],
     groups: &mut [u32],
     marks: &mut [u32],
+    counts: &mut [u32],
     levels: &mut [u32],
     points: usize,
     identity: u32,
 ) -> u32
-    ensures { λ r. ⌜ Called points (bookBefore ids groups marks levels) (Call.withdraw identity) r
-        (bookAfter ids groups marks levels) ⌝ }
+    ensures { λ r. ⌜ Called points (bookBefore ids groups marks counts levels) (Call.withdraw identity) r
+        (bookAfter ids groups marks counts levels) ⌝ }
 {
-    if !is_sound(ids, groups, marks, levels, points) {
+    if !is_sound(ids, groups, marks, counts, levels, points) {
         return 9;
     }
-    core::withdraw(ids, groups, marks, levels, points, identity)
+    core::withdraw(ids, groups, marks, counts, levels, points, identity)
 }

@@ -69,25 +69,35 @@ zeros-after t count w z e =
     ∙ sym (append-assoc (take count (drop w t)) (drop count (drop w t)) (replicate w 0))
     ∙ ap (λ (s : List ℕ). s ++ replicate w 0) (take-append-drop count (drop w t))
 
--- A tail in which only `count` values moved is the tail in which all did, where the others are zeros
+-- Where only `count` values moved, the others being zeros, all did
 
-pub opened-tail : (a count w v : ℕ) (xs : List ℕ) {ys : List ℕ} → ZeroFrom (a + count) xs
-    → a + count + w ≤ length xs
-    → ys ≡ replicate w v ++ (take count (midOf a (length xs - a) xs)
+-- the room that was made holds whatever is put there
+pub room-made : (a count w : ℕ) (xs : List ℕ) {ys : List ℕ} → ZeroFrom (a + count) xs → a + count + w ≤ length xs
+    → ys ≡ take w (midOf a (length xs - a) xs) ++ (take count (midOf a (length xs - a) xs)
     ++ drop (count + w) (midOf a (length xs - a) xs))
-    → putMid a (length xs - a) xs ys ≡ opened a (replicate w v) xs
-unfolding opened
-opened-tail a count w v xs {ys} z h e =
+    → (vs : List ℕ) → length vs ≡ w
+    → put (putMid a (length xs - a) xs ys) a vs ≡ opened a vs xs
+unfolding opened put
+room-made a count w xs {ys} z h e vs r =
     let t = drop a xs in
-    let vs = replicate w v in
+    let rest = take count t ++ drop (count + w) t in
     let l : length (take a xs) ≡ a = length-take-le a xs (omega arith) in
     let m : length t ≡ length xs - a = length-drop a xs in
-    let r : length vs ≡ w = length-replicate w v in
+    let o : length (take w t) ≡ w = length-take-le w t (omega arith) in
     let n : length xs - length (take a xs) - length vs ≡ length t - w = omega arith in
     let k : length xs - (a + count) ≡ length t - count = omega arith in
-    put-tail a xs ys (omega arith)
-    ∙ ap (λ (s : List ℕ). take a xs ++ s) (e
-    ∙ ap (λ (s : List ℕ). vs ++ (take count s ++ drop (count + w) s)) (tail-mid a xs))
+    let whole : putMid a (length xs - a) xs ys ≡ take a xs ++ (take w t ++ rest) =
+    put-tail a xs ys (omega arith) ∙ ap (λ (s : List ℕ). take a xs ++ s) (e
+    ∙ ap (λ (s : List ℕ). take w s ++ (take count s ++ drop (count + w) s)) (tail-mid a xs)) in
+    let last : drop (a + length vs) (take a xs ++ (take w t ++ rest)) ≡ rest =
+    sym (drop-drop (length vs) a (take a xs ++ (take w t ++ rest)))
+    ∙ ap (drop (length vs)) (drop-at (take a xs) (take w t ++ rest) a l)
+    ∙ drop-at (take w t) rest (length vs) (o ∙ sym r) in
+    ap (λ (s : List ℕ). take a s ++ vs ++ drop (a + length vs) s) whole
+    ∙ ap (λ (s : List ℕ). s ++ vs ++ drop (a + length vs) (take a xs ++ (take w t ++ rest)))
+    (take-at (take a xs) (take w t ++ rest) a l)
+    ∙ ap (λ (s : List ℕ). take a xs ++ vs ++ s) last
+    ∙ append-assoc (take a xs) vs rest
     ∙ ap (λ (s : List ℕ). take a xs ++ (vs ++ s))
     (sym (cut-end t count w (omega arith) (drop-drop count a xs ∙ z .zeros ∙ ap (λ i. replicate i 0) k))
     ∙ ap (λ i. take i t) (sym n))
@@ -117,18 +127,6 @@ put-part a n xs {ys} {zs} e l =
     ∙ ap (λ (t : List ℕ). take a xs ++ (t ++ drop (a + n) xs)) e
     ∙ ap (λ k. take a xs ++ (zs ++ drop (a + k) xs)) (sym l)
     ∙ sym (append-assoc (take a xs) zs (drop (a + length zs) xs))
-
--- the front of a tail that was moved up is filled
-pub filled-front : (w v : ℕ) (xs rest : List ℕ) {moved ys : List ℕ} → w ≤ length xs
-    → moved ≡ take w xs ++ rest
-    → ys ≡ replicate (length (midOf 0 (w - 0) moved)) v
-    → ys ++ postOf 0 (w - 0) moved ≡ replicate w v ++ rest
-filled-front w v xs rest {moved} {ys} h e f =
-    let l : length (take w xs) ≡ w = length-take-le w xs h in
-    let k : w ≤ length moved = omega (arith, ap length e, length-append (take w xs) rest) in
-    let m : length (midOf 0 (w - 0) moved) ≡ w = omega (arith, mid-len 0 w moved k) in
-    ap (λ (t : List ℕ). ys ++ t) (post-is 0 w moved (omega arith) ∙ ap (drop w) e ∙ drop-at (take w xs) rest w l)
-    ∙ ap (λ (t : List ℕ). t ++ rest) (f ∙ ap (λ n. replicate n v) m)
 
 -- the end of what was moved down is filled
 pub filled-end : (count w v : ℕ) (xs : List ℕ) {moved ys : List ℕ} → count + w ≤ length xs

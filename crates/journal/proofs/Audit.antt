@@ -24,21 +24,21 @@ use Rattle.journal.proofs.Reading.{calls-more, laid-more, nothing-left}
 
 width-spelled : (c : Call) (rest : List ℕ) → widthOf (spelled c ++ rest) ≡ length (spelled c)
 unfolding spelled widthOf
-width-spelled (enter x t k s m) rest = refl
+width-spelled (enter x t k s m cs) rest = omega arith
 width-spelled (supply x ls) rest = omega arith
 width-spelled (takeBack x) rest = refl
 width-spelled (withdraw x) rest = refl
 
 call-spelled : (c : Call) (rest : List ℕ) → callAt (spelled c ++ rest) ≡ c
 unfolding spelled callAt
-call-spelled (enter x t k s m) rest = refl
+call-spelled (enter x t k s m cs) rest = ap (enter x t k s m) (take-append-seam cs rest)
 call-spelled (supply x ls) rest = ap (supply x) (take-append-seam ls rest)
 call-spelled (takeBack x) rest = refl
 call-spelled (withdraw x) rest = refl
 
 some-spelled : (c : Call) → 1 ≤ length (spelled c)
 unfolding spelled
-some-spelled (enter x t k s m) = omega arith
+some-spelled (enter x t k s m cs) = omega arith
 some-spelled (supply x ls) = omega arith
 some-spelled (takeBack x) = omega arith
 some-spelled (withdraw x) = omega arith
@@ -70,7 +70,7 @@ unfolding spelled
 spelled-so =
     record {
       nothing = nothing-left [] (omega arith) .1;
-      enter= = λ x t k s m rest. calls-spelled (enter x t k s m) rest;
+      enter= = λ x t k s m cs rest. calls-spelled (enter x t k s m cs) rest;
       supply= = λ x ls rest. calls-spelled (supply x ls) rest;
       take-back= = λ x rest. calls-spelled (takeBack x) rest;
       withdraw= = λ x rest. calls-spelled (withdraw x) rest;

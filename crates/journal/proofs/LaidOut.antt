@@ -14,16 +14,25 @@ use Rattle.journal.proofs.Audit.{journal-calls}
 
 -- The numbers of a call in front of the others
 
-enter-front : (j : List ℕ) → getD j 0 0 ≡ 1 → 6 ≤ length j
-    → (1 ∷ getD j 1 0 ∷ getD j 2 0 ∷ getD j 3 0 ∷ getD j 4 0 ∷ getD j 5 0 ∷ []) ++ drop 6 j ≡ j
+-- numbers that come after how many they are
+counted-front : (n : ℕ) (j : List ℕ) → n ≤ length j → (length (take n j) ∷ take n j) ++ drop n j ≡ n ∷ j
+counted-front n j h = rw (length-take-le n j h) (ap (λ (l : List ℕ). n ∷ l) (take-append-drop n j))
+
+enter-front : (j : List ℕ) → getD j 0 0 ≡ 1 → 7 + getD j 6 0 ≤ length j
+    → let counts = take (getD j 6 0) (drop 7 j) in
+    (1 ∷ getD j 1 0 ∷ getD j 2 0 ∷ getD j 3 0 ∷ getD j 4 0 ∷ getD j 5 0 ∷ length counts ∷ counts)
+    ++ drop (7 + getD j 6 0) j ≡ j
 enter-front [] k h = absurd (omega arith)
 enter-front (a ∷ []) k h = absurd (omega arith)
 enter-front (a ∷ b ∷ []) k h = absurd (omega arith)
 enter-front (a ∷ b ∷ c ∷ []) k h = absurd (omega arith)
 enter-front (a ∷ b ∷ c ∷ d ∷ []) k h = absurd (omega arith)
 enter-front (a ∷ b ∷ c ∷ d ∷ e ∷ []) k h = absurd (omega arith)
-enter-front (a ∷ b ∷ c ∷ d ∷ e ∷ f ∷ j) k h =
-    ap (λ (x : ℕ). x ∷ b ∷ c ∷ d ∷ e ∷ f ∷ j) (sym k)
+enter-front (a ∷ b ∷ c ∷ d ∷ e ∷ f ∷ []) k h = absurd (omega arith)
+enter-front (a ∷ b ∷ c ∷ d ∷ e ∷ f ∷ n ∷ j) k h =
+    rw (← drop-drop n 7 (a ∷ b ∷ c ∷ d ∷ e ∷ f ∷ n ∷ j))
+    (ap (λ (l : List ℕ). 1 ∷ b ∷ c ∷ d ∷ e ∷ f ∷ l) (counted-front n j (omega arith))
+    ∙ ap (λ (x : ℕ). x ∷ b ∷ c ∷ d ∷ e ∷ f ∷ n ∷ j) (sym k))
 
 supply-front : (j : List ℕ) → getD j 0 0 ≡ 2 → 3 + getD j 2 0 ≤ length j
     → let levels = take (getD j 2 0) (drop 3 j) in
@@ -31,10 +40,9 @@ supply-front : (j : List ℕ) → getD j 0 0 ≡ 2 → 3 + getD j 2 0 ≤ length
 supply-front [] k h = absurd (omega arith)
 supply-front (a ∷ []) k h = absurd (omega arith)
 supply-front (a ∷ b ∷ []) k h = absurd (omega arith)
-supply-front (a ∷ b ∷ c ∷ j) k h =
-    rw (← drop-drop c 3 (a ∷ b ∷ c ∷ j), length-take-le c j (omega arith))
-    (ap (λ (l : List ℕ). 2 ∷ b ∷ c ∷ l) (take-append-drop c j)
-    ∙ ap (λ (x : ℕ). x ∷ b ∷ c ∷ j) (sym k))
+supply-front (a ∷ b ∷ n ∷ j) k h =
+    rw (← drop-drop n 3 (a ∷ b ∷ n ∷ j))
+    (ap (λ (l : List ℕ). 2 ∷ b ∷ l) (counted-front n j (omega arith)) ∙ ap (λ (x : ℕ). x ∷ b ∷ n ∷ j) (sym k))
 
 two-front : (j : List ℕ) (n : ℕ) → getD j 0 0 ≡ n → 2 ≤ length j
     → (n ∷ getD j 1 0 ∷ []) ++ drop 2 j ≡ j
@@ -50,13 +58,13 @@ call-front j some all =
   where
     by : (a b c d : Bool) → eqb (getD j 0 0) 1 ≡ a → eqb (getD j 0 0) 2 ≡ b → eqb (getD j 0 0) 3 ≡ c
         → eqb (getD j 0 0) 4 ≡ d
-        → 1 ≤ cond a 6 (cond b (3 + getD j 2 0) (cond (c || d) 2 0))
-        → cond a 6 (cond b (3 + getD j 2 0) (cond (c || d) 2 0)) ≤ length j
+        → 1 ≤ cond a (7 + getD j 6 0) (cond b (3 + getD j 2 0) (cond (c || d) 2 0))
+        → cond a (7 + getD j 6 0) (cond b (3 + getD j 2 0) (cond (c || d) 2 0)) ≤ length j
         → spelled
-        (cond a (enter (getD j 1 0) (getD j 2 0) (getD j 3 0) (getD j 4 0) (getD j 5 0))
+        (cond a (enter (getD j 1 0) (getD j 2 0) (getD j 3 0) (getD j 4 0) (getD j 5 0) (take (getD j 6 0) (drop 7 j)))
         (cond b (supply (getD j 1 0) (take (getD j 2 0) (drop 3 j)))
         (cond c (takeBack (getD j 1 0)) (withdraw (getD j 1 0)))))
-        ++ drop (cond a 6 (cond b (3 + getD j 2 0) (cond (c || d) 2 0))) j
+        ++ drop (cond a (7 + getD j 6 0) (cond b (3 + getD j 2 0) (cond (c || d) 2 0))) j
         ≡ j
     by true b c d p q r s m l = enter-front j (eqb-true (getD j 0 0) 1 p) l
     by false true c d p q r s m l = supply-front j (eqb-true (getD j 0 0) 2 q) l

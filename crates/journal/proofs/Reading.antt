@@ -144,7 +144,7 @@ step-laid j at w e h l = step-of j at w e h (laid-complete (drop at j) (omega (a
 -- What the first number says of the call
 
 module _ (j : List ℕ) where
-  pub width-enter : getD j 0 0 ≡ 1 → widthOf j ≡ 6
+  pub width-enter : getD j 0 0 ≡ 1 → widthOf j ≡ 7 + getD j 6 0
   unfolding widthOf
   width-enter e = rw e refl
 
@@ -168,7 +168,8 @@ module _ (j : List ℕ) where
       rw (ne-eqb (getD j 0 0) 1 a, ne-eqb (getD j 0 0) 2 b, ne-eqb (getD j 0 0) 3 d, ne-eqb (getD j 0 0) 4 e) refl
 
   pub call-enter : getD j 0 0 ≡ 1
-      → callAt j ≡ enter (getD j 1 0) (getD j 2 0) (getD j 3 0) (getD j 4 0) (getD j 5 0)
+      → callAt j
+      ≡ enter (getD j 1 0) (getD j 2 0) (getD j 3 0) (getD j 4 0) (getD j 5 0) (take (getD j 6 0) (drop 7 j))
   unfolding callAt
   call-enter e = rw e refl
 
@@ -188,7 +189,7 @@ module _ (j : List ℕ) where
 -- the width by the three tests on the first number
 width-by : (j : List ℕ) (a b d : Bool) → eqb (getD j 0 0) 1 ≡ a → eqb (getD j 0 0) 2 ≡ b
     → (eqb (getD j 0 0) 3 || eqb (getD j 0 0) 4) ≡ d
-    → widthOf j ≡ cond a 6 (cond b (3 + getD j 2 0) (cond d 2 0))
+    → widthOf j ≡ cond a (7 + getD j 6 0) (cond b (3 + getD j 2 0) (cond d 2 0))
 unfolding widthOf
 width-by j a b d p q r = rw (p, q, r) refl
 
@@ -198,7 +199,7 @@ complete-two j e =
     by (eqb (getD j 0 0) 1) (eqb (getD j 0 0) 2) (eqb (getD j 0 0) 3 || eqb (getD j 0 0) 4)
     (width-by j _ _ _ refl refl refl) (complete-width j e)
   where
-    by : (a b d : Bool) → widthOf j ≡ cond a 6 (cond b (3 + getD j 2 0) (cond d 2 0))
+    by : (a b d : Bool) → widthOf j ≡ cond a (7 + getD j 6 0) (cond b (3 + getD j 2 0) (cond d 2 0))
         → (1 ≤ widthOf j) × (widthOf j ≤ length j) → 2 ≤ length j
     by true b d p w = omega (arith, p, w)
     by false true d p w = omega (arith, p, w)

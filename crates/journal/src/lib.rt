@@ -22,18 +22,19 @@ fn replay_refusal(
     ids: &[u32],
     groups: &[u32],
     marks: &[u32],
+    counts: &[u32],
     levels: &[u32],
     points: usize,
     journal: &[u32],
     room: usize,
 ) -> u32
     ensures { λ r. ⌜ r
-        ≡ replayRefusal points (bookBefore ids groups marks levels) (now (journal .entry)) room ⌝ }
+        ≡ replayRefusal points (bookBefore ids groups marks counts levels) (now (journal .entry)) room ⌝ }
 {
     if !is_laid_out(journal) {
         return 16;
     }
-    if !is_sound(ids, groups, marks, levels, points) {
+    if !is_sound(ids, groups, marks, counts, levels, points) {
         return 9;
     }
     if room < count_calls(journal) {
@@ -47,25 +48,26 @@ fn run(
     ids: &mut [u32],
     groups: &mut [u32],
     marks: &mut [u32],
+    counts: &mut [u32],
     levels: &mut [u32],
     points: usize,
     journal: &[u32],
     answers: &mut [u32],
 )
-    requires { ⌜ sound points (bookNow ids groups marks levels) ≡ true ⌝ }
+    requires { ⌜ sound points (bookNow ids groups marks counts levels) ≡ true ⌝ }
     requires { ⌜ laidOut (now journal) ≡ true ⌝ }
     requires { ⌜ length (callsOf (now journal)) ≤ length (now answers) ⌝ }
-    ensures { λ _. ⌜ bookAfter ids groups marks levels
-        ≡ booked (bookBefore ids groups marks levels) (callsFor points (now (journal .entry))) ⌝ }
+    ensures { λ _. ⌜ bookAfter ids groups marks counts levels
+        ≡ booked (bookBefore ids groups marks counts levels) (callsFor points (now (journal .entry))) ⌝ }
     ensures { λ _. ⌜ now (answers .exit)
-        ≡ front (answered (bookBefore ids groups marks levels) (callsFor points (now (journal .entry))))
+        ≡ front (answered (bookBefore ids groups marks counts levels) (callsFor points (now (journal .entry))))
         (now (answers .entry)) ⌝ }
 {
     let mut at = 0;
     let mut made = 0;
     while at < journal.len() {
         let width = width_of(&journal[at..]);
-        let answer = make_call(ids, groups, marks, levels, points, &journal[at..]);
+        let answer = make_call(ids, groups, marks, counts, levels, points, &journal[at..]);
         answers[made] = answer;
         made += 1;
         at += width;
@@ -77,18 +79,28 @@ pub fn replay(
     ids: &mut [u32],
     groups: &mut [u32],
     marks: &mut [u32],
+    counts: &mut [u32],
     levels: &mut [u32],
     points: usize,
     journal: &[u32],
     answers: &mut [u32],
 ) -> u32
-    ensures { λ r. ⌜ Replayed points (bookBefore ids groups marks levels) (now (journal .entry))
-        (now (answers .entry)) r (bookAfter ids groups marks levels) (now (answers .exit)) ⌝ }
+    ensures { λ r. ⌜ Replayed points (bookBefore ids groups marks counts levels) (now (journal .entry))
+        (now (answers .entry)) r (bookAfter ids groups marks counts levels) (now (answers .exit)) ⌝ }
 {
-    let refused = replay_refusal(ids, groups, marks, levels, points, journal, answers.len());
+    let refused = replay_refusal(
+        ids,
+        groups,
+        marks,
+        counts,
+        levels,
+        points,
+        journal,
+        answers.len(),
+    );
     if refused != 0 {
         return refused;
     }
-    run(ids, groups, marks, levels, points, journal, answers);
+    run(ids, groups, marks, counts, levels, points, journal, answers);
     0
 }

@@ -11,19 +11,22 @@ fn enter_from(
     ids: &mut [u32],
     groups: &mut [u32],
     marks: &mut [u32],
+    counts: &mut [u32],
     levels: &mut [u32],
     points: usize,
     rest: &[u32],
 ) -> u32
-    requires { ⌜ sound points (bookNow ids groups marks levels) ≡ true ⌝ }
-    requires { ⌜ 6 ≤ length (now rest) ⌝ }
-    ensures { λ r. ⌜ Called points (bookBefore ids groups marks levels)
-        (enterAt (now (rest .entry))) r (bookAfter ids groups marks levels) ⌝ }
+    requires { ⌜ sound points (bookNow ids groups marks counts levels) ≡ true ⌝ }
+    requires { ⌜ 7 + getD (now rest) 6 0 ≤ length (now rest) ⌝ }
+    ensures { λ r. ⌜ Called points (bookBefore ids groups marks counts levels)
+        (enterAt (now (rest .entry))) r (bookAfter ids groups marks counts levels) ⌝ }
 {
+    let end = 7 + rest[6] as usize;
     book::core::enter(
         ids,
         groups,
         marks,
+        counts,
         levels,
         points,
         rest[1],
@@ -31,6 +34,7 @@ fn enter_from(
         rest[3],
         rest[4],
         rest[5],
+        &rest[7..end],
     )
 }
 
@@ -38,42 +42,53 @@ fn supply_from(
     ids: &[u32],
     groups: &[u32],
     marks: &mut [u32],
+    counts: &[u32],
     levels: &mut [u32],
     points: usize,
     rest: &[u32],
 ) -> u32
-    requires { ⌜ sound points (bookNow ids groups marks levels) ≡ true ⌝ }
+    requires { ⌜ sound points (bookNow ids groups marks counts levels) ≡ true ⌝ }
     requires { ⌜ 3 + getD (now rest) 2 0 ≤ length (now rest) ⌝ }
-    ensures { λ r. ⌜ Called points (bookBefore ids groups marks levels)
-        (supplyAt (now (rest .entry))) r (bookAfter ids groups marks levels) ⌝ }
+    ensures { λ r. ⌜ Called points (bookBefore ids groups marks counts levels)
+        (supplyAt (now (rest .entry))) r (bookAfter ids groups marks counts levels) ⌝ }
 {
     let end = 3 + rest[2] as usize;
-    book::core::supply(ids, groups, marks, levels, points, rest[1], &rest[3..end])
+    book::core::supply(
+        ids,
+        groups,
+        marks,
+        counts,
+        levels,
+        points,
+        rest[1],
+        &rest[3..end],
+    )
 }
 
 pub(crate) fn make_call(
     ids: &mut [u32],
     groups: &mut [u32],
     marks: &mut [u32],
+    counts: &mut [u32],
     levels: &mut [u32],
     points: usize,
     rest: &[u32],
 ) -> u32
-    requires { ⌜ sound points (bookNow ids groups marks levels) ≡ true ⌝ }
+    requires { ⌜ sound points (bookNow ids groups marks counts levels) ≡ true ⌝ }
     requires { ⌜ complete (now rest) ≡ true ⌝ }
-    ensures { λ r. ⌜ Called points (bookBefore ids groups marks levels) (callAt (now (rest .entry))) r
-        (bookAfter ids groups marks levels) ⌝ }
+    ensures { λ r. ⌜ Called points (bookBefore ids groups marks counts levels) (callAt (now (rest .entry))) r
+        (bookAfter ids groups marks counts levels) ⌝ }
 {
     let kind = rest[0];
     let identity = rest[1];
     if kind == 1 {
-        return enter_from(ids, groups, marks, levels, points, rest);
+        return enter_from(ids, groups, marks, counts, levels, points, rest);
     }
     if kind == 2 {
-        return supply_from(ids, groups, marks, levels, points, rest);
+        return supply_from(ids, groups, marks, counts, levels, points, rest);
     }
     if kind == 3 {
-        return book::core::take_back(ids, groups, marks, levels, points, identity);
+        return book::core::take_back(ids, groups, marks, counts, levels, points, identity);
     }
-    book::core::withdraw(ids, groups, marks, levels, points, identity)
+    book::core::withdraw(ids, groups, marks, counts, levels, points, identity)
 }

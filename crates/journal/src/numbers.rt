@@ -20,7 +20,7 @@ pub(crate) fn width_of(rest: &[u32]) -> usize
 {
     let kind = number_at(rest, 0);
     if kind == 1 {
-        return 6;
+        return 7 + number_at(rest, 6) as usize;
     }
     if kind == 2 {
         return 3 + number_at(rest, 2) as usize;

@@ -8,6 +8,6 @@ use Rattle.book.proofs.withdraw.Tie as tie
 pub withdraw-spec : {M : Type 1} → statement M
 withdraw-spec =
     tie.close (tie.spec (λ c κs. search needs) (λ c. search needs) (λ c. search needs) (λ c. search needs)
-    (λ c. search needs) (λ c. unsound (failed (c .before .is-sound .ensures) (c .if1 .taken)))
+    (λ c. search needs) (λ c. search needs) (λ c. unsound (failed (c .before .is-sound .ensures) (c .if1 .taken)))
     (λ c κs. let left1 : tie.Else1 = search in passed (left1 .before .is-sound .ensures) (left1 .if1 .left))
-    (λ c. search needs) (λ c. search needs) (λ c. search needs) (λ c. search needs) (λ c. search))
+    (λ c. search needs) (λ c. search needs) (λ c. search needs) (λ c. search needs) (λ c. search needs) (λ c. search))

@@ -22,7 +22,8 @@ abbrev start : tie.Else2 → tie.Start
 start c = search
 
 past : (c : tie.Else2) → let a = start c .args in
-    replayRefusal (a .points) (bookNow (a .ids) (a .groups) (a .marks) (a .levels)) (a .journal .now) (a .room)
+    replayRefusal (a .points) (bookNow (a .ids) (a .groups) (a .marks) (a .counts) (a .levels))
+    (a .journal .now) (a .room)
     ≡ refuse 14 (leb (length (callsOf (a .journal .now))) (a .room)) 0
 unfolding replayRefusal
 past c =

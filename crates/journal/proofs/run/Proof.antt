@@ -14,24 +14,25 @@ use Rattle.journal.proofs.run.Statement.{statement}
 use Rattle.journal.proofs.run.Tie as tie
 
 abbrev Inv-loop : tie.InvT-loop
-Inv-loop ids₀ groups₀ marks₀ levels₀ points journal answers₀ at₀ made₀ ids groups marks levels answers
+Inv-loop ids₀ groups₀ marks₀ counts₀ levels₀ points journal answers₀ at₀ made₀ ids groups marks counts levels answers
     at made =
-    Replaying points (bookOf ids₀ groups₀ marks₀ levels₀) journal answers₀ at made
-    (bookOf ids groups marks levels) answers
+    Replaying points (bookOf ids₀ groups₀ marks₀ counts₀ levels₀) journal answers₀ at made
+    (bookOf ids groups marks counts levels) answers
     × ((length ids ≡ length ids₀)
     × ((length groups ≡ length groups₀)
     × ((length marks ≡ length marks₀)
-    × ((length levels ≡ length levels₀) × (length answers ≡ length answers₀)))))
+    × ((length counts ≡ length counts₀)
+    × ((length levels ≡ length levels₀) × (length answers ≡ length answers₀))))))
 
 abbrev μ-loop : tie.MeasureT-loop
-μ-loop ids₀ groups₀ marks₀ levels₀ points journal answers₀ at₀ made₀ ids groups marks levels answers
+μ-loop ids₀ groups₀ marks₀ counts₀ levels₀ points journal answers₀ at₀ made₀ ids groups marks counts levels answers
     at made =
     length journal - at
 
 loop-holds : tie.Need-loop-holds Inv-loop μ-loop
 loop-holds c =
     let start : tie.Start Inv-loop μ-loop = search in
-    (replay-starts _ _ _ _ (start .pre .0) (start .pre .1 .0), (refl, (refl, (refl, (refl, refl)))))
+    (replay-starts _ _ _ _ (start .pre .0) (start .pre .1 .0), (refl, (refl, (refl, (refl, (refl, refl))))))
 
 -- the places that the facts below look back to
 abbrev start : tie.After-width-of Inv-loop μ-loop → tie.Start Inv-loop μ-loop
@@ -49,7 +50,7 @@ step c =
 
 -- there is an answer's room for it
 abbrev book : tie.Start Inv-loop μ-loop → Book
-book s = bookNow (s .args .ids) (s .args .groups) (s .args .marks) (s .args .levels)
+book s = bookNow (s .args .ids) (s .args .groups) (s .args .marks) (s .args .counts) (s .args .levels)
 
 space : (c : tie.After-width-of Inv-loop μ-loop)
     → length (all (start c .args .points) (book (start c)) (start c .args .journal .now)) ≤ length
@@ -105,7 +106,10 @@ loop-again c =
     let at : tie.After-width-of Inv-loop μ-loop = search in
     let inv = head at .loop .inv in (
       replay-more (inv .0) (step at) (space at) (made .make-call .ensures),
-      (search needs, (search needs, (search needs, (search needs, simp length-set (omega (arith, inv .1)))))),
+      (
+        search needs,
+        (search needs, (search needs, (search needs, (search needs, simp length-set (omega (arith, inv .1)))))),
+      ),
     )
 
 pub run-spec : {M : Type 1} → statement M
@@ -116,4 +120,4 @@ run-spec =
     (λ c. search needs) (λ c. search needs) make-call-requires mul-answers
     (λ c. let at : tie.After-width-of Inv-loop μ-loop = search in let b = below at in omega arith) add-made add-at
     loop-less loop-again (λ c. search needs) (λ c. search needs) (λ c. search needs) (λ c. search needs)
-    (λ c. search needs) (λ c. replay-ends (c .before .loop .inv .0) (c .loop-test .left)))
+    (λ c. search needs) (λ c. search needs) (λ c. replay-ends (c .before .loop .inv .0) (c .loop-test .left)))

@@ -17,9 +17,9 @@ returns-2 c =
 
 rows-sound-requires : tie.Need-rows-sound-requires
 rows-sound-requires c κs =
-    let g = fitting _ _ _ _ _
+    let g = fitting _ _ _ _ _ _
     (passed (c .before .before .before .shape-fits .ensures) (c .before .before .if1 .left)) in
-    (g .groups=, (g .marks=, g .levels=))
+    (g .groups=, (g .marks=, (g .counts=, g .levels=)))
 
 returns-3 : tie.Need-returns-3
 unfolding sound shaped

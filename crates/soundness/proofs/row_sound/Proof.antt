@@ -11,16 +11,17 @@ returns c =
     let at-head-sound : tie.After-head-sound = search in
     let s : tie.Start = search in
     let h : headSound (s .args .x) (s .args .g) (s .args .m) ≡ true = sym (at-head-sound .head-sound .ensures)
-    ∙ c .before .before .if1 .taken in
-    c .row-within .ensures ∙ rw (h, ← (c .before .top-level .ensures)) refl
+    ∙ c .before .if1 .taken in
+    c .cells-sound .ensures ∙ rw h refl
 
 returns-2 : tie.Need-returns-2
 unfolding rowSound
-returns-2 c = let s = c .before .before .before in
+returns-2 c =
+    let s : tie.Start = search in
     let h : headSound (s .args .x) (s .args .g) (s .args .m) ≡ false = sym (c .before .head-sound .ensures)
     ∙ c .if1 .left in
     rw h refl
 
 pub row-sound-spec : {M : Type 1} → statement M
 row-sound-spec =
-    tie.close (tie.spec (λ c κs. search needs) (λ c κs. search needs) (λ c κs. search needs) returns returns-2)
+    tie.close (tie.spec (λ c κs. search needs) (λ c κs. search needs) returns returns-2)

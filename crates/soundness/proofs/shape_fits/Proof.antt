@@ -25,8 +25,9 @@ returns-4 c =
 
 -- past the ranges the columns decide
 past : (c : tie.Else4) → let a = c .before .before .before .before .args in
-    shapeFits (a .points) (a .rows) (a .groups) (a .marks) (a .levels)
-    ≡ ((eqb (a .groups) (a .rows) && eqb (a .marks) (a .rows)) && eqb (a .levels) (a .rows * a .points))
+    shapeFits (a .points) (a .rows) (a .groups) (a .marks) (a .counts) (a .levels)
+    ≡ ((eqb (a .groups) (a .rows) && eqb (a .marks) (a .rows))
+    && (eqb (a .counts) (a .rows * a .points) && eqb (a .levels) (a .rows * a .points)))
 unfolding shapeFits
 past c =
     simp (
@@ -36,8 +37,14 @@ past c =
       le-leb _ _ (c .if4 .left),
     )
 
-mul-result : tie.Need-mul-result
-mul-result c =
+-- and past the three of one value a row, those of one a point
+past-rows : (c : tie.Else6) → let a = c .before .before .before .before .before .before .args in
+    shapeFits (a .points) (a .rows) (a .groups) (a .marks) (a .counts) (a .levels)
+    ≡ (eqb (a .counts) (a .rows * a .points) && eqb (a .levels) (a .rows * a .points))
+past-rows c = rw (past (c .before .before), eq-eqb _ _ (c .before .if5 .left), eq-eqb _ _ (c .if6 .left))
+
+mul-cells : tie.Need-mul-cells
+mul-cells c =
     let start : tie.Start = search in
     let left2 : tie.Else2 = search in
     product-fits (start .args .rows) (start .args .points) (c .before .before .if4 .left) (left2 .if2 .left)
@@ -47,5 +54,6 @@ shape-fits-spec =
     tie.close (tie.spec (λ c. unfold shapeFits in simp (lt-leb _ _ (c .if1 .taken)))
     (λ c. unfold shapeFits in simp (le-leb _ _ (c .before .if1 .left), lt-leb _ _ (c .if2 .taken))) returns-3
     returns-4 (λ c. rw (past (c .before), ne-eqb _ _ (c .if5 .taken)))
-    (λ c. rw (past (c .before .before), eq-eqb _ _ (c .before .if5 .left), ne-eqb _ _ (c .if6 .taken))) mul-result
-    (λ c. rw (past (c .before .before), eq-eqb _ _ (c .before .if5 .left), eq-eqb _ _ (c .if6 .left))))
+    (λ c. rw (past (c .before .before), eq-eqb _ _ (c .before .if5 .left), ne-eqb _ _ (c .if6 .taken))) mul-cells
+    (λ c. rw (past-rows (c .before), ne-eqb _ _ (c .if7 .taken)))
+    (λ c. rw (past-rows (c .before), eq-eqb _ _ (c .if7 .left))))

@@ -11,7 +11,7 @@ use Rattle.book.proofs.core.take_back.Statement.{statement}
 use Rattle.book.proofs.core.take_back.Tie as tie
 
 abbrev book : tie.Start → Book
-book s = bookNow (s .args .ids) (s .args .groups) (s .args .marks) (s .args .levels)
+book s = bookNow (s .args .ids) (s .args .groups) (s .args .marks) (s .args .counts) (s .args .levels)
 
 -- the places that the facts below look back to
 abbrev start : tie.Else1 → tie.Start
@@ -54,8 +54,8 @@ returns-2 c =
 
 pub take-back-spec : {M : Type 1} → statement M
 take-back-spec =
-    tie.close (tie.spec (λ c κs. sound-rises _ _ (c .before .before .before .before .pre)) take-back-refusal-requires
-    (λ c. search needs) returns (λ c κs. row (c .before) .marks<)
+    tie.close (tie.spec (λ c κs. let start : tie.Start = search in sound-rises _ _ (start .pre))
+    take-back-refusal-requires (λ c. search needs) returns (λ c κs. row (c .before) .marks<)
     (λ c. let left1 : tie.Else1 = search in row left1 .fits)
     (λ c κs. let left1 : tie.Else1 = search in row left1 .levels<) (λ c. search needs) (λ c. search needs)
     returns-2)

@@ -11,7 +11,7 @@ use Rattle.book.proofs.core.withdraw.Statement.{statement}
 use Rattle.book.proofs.core.withdraw.Tie as tie
 
 abbrev book : tie.Start → Book
-book s = bookNow (s .args .ids) (s .args .groups) (s .args .marks) (s .args .levels)
+book s = bookNow (s .args .ids) (s .args .groups) (s .args .marks) (s .args .counts) (s .args .levels)
 
 -- the places that the facts below look back to
 abbrev start : tie.Else1 → tie.Start
@@ -62,4 +62,5 @@ withdraw-spec =
     tie.close (tie.spec (λ c κs. let start : tie.Start = search in sound-rises _ _ (start .pre))
     withdraw-refusal-requires (λ c. search needs) returns
     (λ c κs. let start : tie.Start = search in (sound-rises _ _ (start .pre), sound-identities _ _ (start .pre)))
-    row-out-requires (λ c. search needs) (λ c. search needs) (λ c. search needs) (λ c. search needs) returns-2)
+    row-out-requires (λ c. search needs) (λ c. search needs) (λ c. search needs) (λ c. search needs)
+    (λ c. search needs) returns-2)

@@ -6,8 +6,8 @@ use native.Mathlib.Omega.{arith}
 use lib.ListN.{length}
 use borrow.Author.{Tests.eq-eqb, Tests.ne-eqb, Needs.needs}
 use Rattle.book_rules.specs.{Columns.indexOf, Calls.withdrawRefusal}
-use Rattle.book_rules.proofs.Search.{place-index, stands-index}
-use Rattle.book_rules.proofs.Accepted.{withdrawn, identity-in, take-back-mark, take-back-refused}
+use Rattle.book_rules.proofs.Accepted.{withdrawn, take-back-mark, take-back-refused}
+use Rattle.book.proofs.Stood.{stood-index, stood-below}
 use Rattle.book.proofs.refusals.take_back_refusal.Statement.{statement}
 use Rattle.book.proofs.refusals.take_back_refusal.Tie as tie
 
@@ -20,15 +20,11 @@ ok c = sym (c .before .withdraw-refusal .ensures) ∙ c .if1 .left
 same : (c : tie.Else1)
     → indexOf (c .before .before .before .before .args .identity)
     (c .before .before .before .before .args .ids .now) ≡ c .before .before .before .before .args .at
-same c =
-    let w = withdrawn _ _ (ok c) in
-    place-index _ _ (identity-in _ (w .identity=) .0) (c .before .before .before .before .pre .0 .rising=)
-    (stands-index _ _ (w .stands=))
-    ∙ sym (c .before .before .before .before .pre .0 .place)
+same c = stood-index (c .before .before .before .before .pre .0) (withdrawn _ _ (ok c))
 
 row : (c : tie.Else1)
     → c .before .before .before .before .args .at < length (c .before .before .before .before .args .marks .now)
-row c = omega (arith, same c, stands-index _ _ (withdrawn _ _ (ok c) .stands=))
+row c = omega (arith, stood-below (c .before .before .before .before .pre .0) (withdrawn _ _ (ok c)))
 
 returns : tie.Need-returns
 returns c =

@@ -40,20 +40,24 @@ returns-3 c =
     let at-take-back : tie.After-take-back = search in
     rw (call-take-back _ (taken3 .if3 .taken)) (at-take-back .take-back .ensures)
 
+-- past the tests of the first number
+abbrev tested : tie.After-withdraw → tie.Else3
+tested c = search
+
 returns-4 : tie.Need-returns-4
 returns-4 c =
-    let left1 : tie.Else1 = search in
-    let left2 : tie.Else2 = search in
-    let left3 : tie.Else3 = search in
     let at-withdraw : tie.After-withdraw = search in
-    rw (call-withdraw _ (left1 .if1 .left) (left2 .if2 .left) (left3 .if3 .left)) (at-withdraw .withdraw .ensures)
+    let left3 = tested at-withdraw in
+    rw (call-withdraw _ (left3 .before .before .if1 .left) (left3 .before .if2 .left) (left3 .if3 .left))
+    (at-withdraw .withdraw .ensures)
 
 pub make-call-spec : {M : Type 1} → statement M
 make-call-spec =
     tie.close (tie.spec (λ c. let start : tie.Start = search in omega (arith, complete-two _ (start .pre .1)))
     (λ c. let start : tie.Start = search in omega (arith, complete-two _ (start .pre .1))) enter-from-requires
-    (λ c. search needs) (λ c. search needs) (λ c. search needs) (λ c. search needs) returns supply-from-requires
-    (λ c. search needs) (λ c. search needs) (λ c. search needs) (λ c. search needs) returns-2
+    (λ c. search needs) (λ c. search needs) (λ c. search needs) (λ c. search needs) (λ c. search needs) returns
+    supply-from-requires (λ c. search needs) (λ c. search needs) (λ c. search needs) (λ c. search needs)
+    (λ c. search needs) returns-2 (λ c κs. let start : tie.Start = search in start .pre .0) (λ c. search needs)
+    (λ c. search needs) (λ c. search needs) (λ c. search needs) (λ c. search needs) returns-3
     (λ c κs. let start : tie.Start = search in start .pre .0) (λ c. search needs) (λ c. search needs)
-    (λ c. search needs) (λ c. search needs) returns-3 (λ c κs. let start : tie.Start = search in start .pre .0)
-    (λ c. search needs) (λ c. search needs) (λ c. search needs) (λ c. search needs) returns-4)
+    (λ c. search needs) (λ c. search needs) (λ c. search needs) returns-4)

@@ -6,9 +6,14 @@ use Rattle.journal.proofs.Reading.{width-enter, width-supply, width-tak
 use Rattle.journal.proofs.numbers.width_of.Statement.{statement}
 use Rattle.journal.proofs.numbers.width_of.Tie as tie
 
+returns : tie.Need-returns
+returns c =
+    ap (λ n. 7 + n) (c .number-at2 .ensures)
+    ∙ sym (width-enter _ (sym (c .before .before .number-at .ensures) ∙ c .before .if1 .taken))
+
 returns-2 : tie.Need-returns-2
 returns-2 c =
-    ap (λ n. 3 + n) (c .number-at2 .ensures)
+    ap (λ n. 3 + n) (c .number-at3 .ensures)
     ∙ sym (width-supply _ (sym (c .before .before .before .number-at .ensures) ∙ c .before .if2 .taken))
 
 returns-5 : tie.Need-returns-5
@@ -20,9 +25,8 @@ returns-5 c =
 
 pub width-of-spec : {M : Type 1} → statement M
 width-of-spec =
-    tie.close (tie.spec (λ c κs. search needs)
-    (λ c. sym (width-enter _ (sym (c .before .number-at .ensures) ∙ c .if1 .taken))) (λ c κs. search needs)
-    (λ c. search needs) (λ c. search needs) returns-2
+    tie.close (tie.spec (λ c κs. search needs) (λ c κs. search needs) (λ c. search needs) (λ c. search needs) returns
+    (λ c κs. search needs) (λ c. search needs) (λ c. search needs) returns-2
     (λ c. sym (width-take-back _ (sym (c .before .before .before .number-at .ensures) ∙ c .if3 .taken)))
     (λ c. sym (width-withdraw _ (sym (c .before .before .before .before .number-at .ensures) ∙ c .if4 .taken)))
     returns-5)
