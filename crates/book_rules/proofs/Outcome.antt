@@ -1,6 +1,6 @@
 -- Every outcome that a call's contract allows means what the rules say. Assumes nothing.
-use mathlib.Core.{Path._≡_, Path.refl, Path.sym, Path.ap, Path.subst, Path._∙_, Bool.Bool, Bool.true, Bool.false, Logic.⊎-elim}
-use mathlib.Core.List.{List, [], _∷_}
+use mathlib.Core.{Path._≡_, Path.refl, Path.sym, Path.ap, Path.subst, Path._∙_, Bool.Bool, Bool.true, Bool.false}
+use mathlib.Core.{Logic.⊎-elim, List.List, List.[], List._∷_}
 use Prim.Native.Nat.{ℕ, _≤_, _<_}
 use native.Mathlib.Omega.{arith}
 use lib.{ListN.length, ListN.replicate, ListN.length-replicate, ListN.getD, Dec.eqb, Dec.ltb}
