@@ -65,7 +65,8 @@ module _ (p : ℕ) (b : Book) (s : SoundBook p b) where
           → stands x (b .identities) ≡ false
       by x n false e = e
       by x n true e =
-          let h = stands-index x (b .identities) e in absurd (n (indexOf x (b .identities)) h (index-is x (b .identities) h))
+          let h = stands-index x (b .identities) e in
+          absurd (n (indexOf x (b .identities)) h (index-is x (b .identities) h))
 
 pub reads : (p : ℕ) → Reads p
 unfolding rowHeld
