@@ -1,6 +1,6 @@
 -- Rows and list are looked up by their places. Assumes nothing.
 use mathlib.Core.{Path._≡_, Path.refl, Path.ap, Path._∙_, Bool.Bool, Bool.true, Bool.false}
-use mathlib.Core.{Logic.⊎-elim, List.List}
+use mathlib.Core.Logic.{⊎-elim}
 use Prim.Native.Nat.{ℕ, suc, _≤_, _<_}
 use native.Mathlib.{Nat.lt-of-not-le, Omega.arith}
 use lib.{ListN.length, ListN.getD}
