@@ -18,3 +18,4 @@ pub mod FullBook
 pub mod Accepted
 pub mod Failing
 pub mod Running
+pub mod RegisterExact

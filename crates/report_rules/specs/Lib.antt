@@ -10,3 +10,4 @@ pub mod FullBook
 pub mod Accepted
 pub mod Failed
 pub mod Told
+pub mod RegisterExact
