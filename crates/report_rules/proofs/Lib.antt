@@ -19,3 +19,4 @@ pub mod Accepted
 pub mod Failing
 pub mod Running
 pub mod RegisterExact
+pub mod RowJudged

@@ -11,3 +11,4 @@ pub mod Accepted
 pub mod Failed
 pub mod Told
 pub mod RegisterExact
+pub mod RowJudged
