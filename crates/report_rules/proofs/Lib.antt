@@ -20,3 +20,5 @@ pub mod FullBook
 pub mod Accepted
 pub mod Failing
 pub mod Running
+pub mod RegisterExact
+pub mod RowJudged

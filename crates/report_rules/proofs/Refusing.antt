@@ -13,11 +13,10 @@ use Rattle.register.specs.{Header.registerHeader, LimitsFile.limitsOf, Row.layo
 use Rattle.report_steps.specs.Intake.{takenNumber, entering, supplying, suppliedTaken, enteredTaken, layoutTaken}
 use Rattle.report_steps.specs.Intake.{rowTaken}
 use Rattle.report_steps.specs.Reading.{pointsRefusal, lineRefusal, headerPoints, registerStep, registered}
-use Rattle.stream.specs.Refused.{TextRefused}
 use Rattle.stream.proofs.Firsts.{text-refused}
 use Rattle.report_text.specs.Text.{bookRefusal, bookText}
 use Rattle.report_rules.specs.{Report.bookRows, Report.reportOf, Flights.bookIn}
-use Rattle.report_rules.specs.Refused.{ReportRefused, HeaderExactly, RowRefused}
+use Rattle.report_rules.specs.Refused.{ReportRefused, RegisterRefused, HeaderExactly, RowRefused}
 use Rattle.report_rules.proofs.Answers.{reading-refused, reading-reported, register-text, report-refused}
 use Rattle.report_rules.proofs.{Answers.report-accepted, Headers.header-is, Headers.is-header}
 
@@ -48,8 +47,9 @@ refused-report limits register =
 
 -- The first refusal of a register counts
 
-pub register-refused : (p : ℕ) (b : Book) (register : List ℕ) → TextRefused (registerStep p) b register
-register-refused p b register = text-refused (registerStep p) b register
+pub register-refused : (p : ℕ) (b : Book) (register : List ℕ) → RegisterRefused p b register
+register-refused p b register =
+    let k = text-refused (registerStep p) b register in record { empty = k .empty; first = k .first }
 
 -- What refuses a line
 

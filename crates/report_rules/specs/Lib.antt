@@ -11,3 +11,5 @@ pub mod FullBook
 pub mod Accepted
 pub mod Failed
 pub mod Told
+pub mod RegisterExact
+pub mod RowJudged
