@@ -1,9 +1,9 @@
 -- No row of a register is refused 19, since it counts at every point. Assumes nothing.
-use mathlib.Core.{Path._≡_, Path.refl, Path.sym, Path._∙_, Bool.Bool, Bool.true, Bool.false, Bool.not, Bool.cond}
-use mathlib.Core.{Bool._&&_, List.List, List.[], List._∷_}
+use mathlib.Core.{Path._≡_, Path.refl, Bool.Bool, Bool.true, Bool.false, Bool.not, Bool.cond, Bool._&&_}
+use mathlib.Core.List.{List, [], _∷_}
 use Prim.Native.Nat.{ℕ, zero, suc, _≤_}
 use native.Mathlib.Omega.{arith}
-use lib.{ListN.length, ListN.take, ListN.replicate, Dec.eqb, Dec.leb, Dec.ltb}
+use lib.{ListN.take, ListN.replicate, Dec.eqb, Dec.leb}
 use borrow.Author.Tests.{eq-eqb, ne-eqb, eqb-true, leb-false}
 use Rattle.refusal.specs.Refuse.{refuse}
 use Rattle.text.specs.Line.{linesOf}

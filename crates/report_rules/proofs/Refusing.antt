@@ -30,7 +30,8 @@ unfolding bookText
 book-refused limits register fine accepted ne =
     let l = limitsOf limits in
     let s = registered (l .points) (emptyBook (l .points) bookRows) register in
-    report-accepted bookText limits register fine ∙ sym (register-text bookText l register s refl) ∙ reading-reported bookText l s accepted
+    report-accepted bookText limits register fine ∙ sym (register-text bookText l register s refl)
+    ∙ reading-reported bookText l s accepted
     ∙ rw (ne-eqb (bookRefusal l (s .held)) 0 ne) refl
 
 pub refused-report : (limits register : List ℕ) → ReportRefused limits register
@@ -38,9 +39,11 @@ refused-report limits register =
     let l = limitsOf limits in
     let s = registered (l .points) (emptyBook (l .points) bookRows) register in
     record {
-      by-limits = λ ne. refuses (reportOf limits register) (l .refusal) (l .line) (report-refused bookText limits register ne);
+      by-limits = λ ne. refuses (reportOf limits register) (l .refusal) (l .line)
+          (report-refused bookText limits register ne);
       by-register = λ fine ne. refuses (reportOf limits register) (s .refusal) (s .line)
-          (report-accepted bookText limits register fine ∙ sym (register-text bookText l register s refl) ∙ reading-refused bookText l s ne);
+          (report-accepted bookText limits register fine ∙ sym (register-text bookText l register s refl)
+          ∙ reading-refused bookText l s ne);
       by-book = λ fine accepted ne. refuses (reportOf limits register) (bookRefusal l (s .held)) 0
           (book-refused limits register fine accepted ne);
     }

@@ -173,8 +173,8 @@ row-flights p n b ms line t z test = go (row-did p b line z)
         ∙ sym (flight-yes p line (known in-book .heavy)))
     go (given in-book some fine) =
         let accepts : listRefusal p n entered (made p (supplying p l)) ≡ 0 =
-        sym (refusal-told p n (after p b (entering p l)) entered (made p (supplying p l)) (told-one p n b ms (entering p l) t in-book))
-        ∙ fine in
+        sym (refusal-told p n (after p b (entering p l)) entered (made p (supplying p l))
+        (told-one p n b ms (entering p l) t in-book)) ∙ fine in
         ap (λ (cs : List Made). howMany test (listOf ms (accepted p n ms cs))) (calls-given p b line read in-book some)
         ∙ ap (howMany test) (one-accepted p n ms (made p (entering p l)) (made p (supplying p l) ∷ [])
         (sym listed ∙ in-book)

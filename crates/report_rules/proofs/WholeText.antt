@@ -193,7 +193,8 @@ module _ (limits register : List ℕ) (fine : limitsOf limits .refusal ≡ 0)
 
   book-text : reportOf limits register ≡ bookText l b
   book-text =
-      report-accepted bookText limits register fine ∙ sym (register-text bookText l register (readIn limits register) refl)
+      report-accepted bookText limits register fine
+      ∙ sym (register-text bookText l register (readIn limits register) refl)
       ∙ reading-reported bookText l (readIn limits register) accepted
 
   ten-text : bookRefusal l b ≡ 10 → bookText l b ≡ refusedText 10 0
@@ -239,7 +240,8 @@ whole-text limits register =
     let s = readIn limits register in
     record {
       by-limits = λ ne. report-refused bookText limits register ne ∙ refusal-bytes (l .refusal) (l .line);
-      by-register = λ fine ne. report-accepted bookText limits register fine ∙ sym (register-text bookText l register s refl)
+      by-register = λ fine ne. report-accepted bookText limits register fine
+          ∙ sym (register-text bookText l register s refl)
           ∙ reading-refused bookText l s ne ∙ refusal-bytes (s .refusal) (s .line);
       ten = λ fine accepted some z. ten-whole limits register fine accepted some z;
       points = λ fine accepted either-way.
