@@ -41,7 +41,6 @@ pub fn enter(
     if not_entered != 0 {
         return not_entered;
     }
-    let group = group_of(ty, kind, time);
     row_in(
         ids,
         groups,
@@ -52,7 +51,7 @@ pub fn enter(
         at,
         rows,
         identity,
-        group,
+        group_of(ty, kind, time),
         given,
     );
     0

@@ -65,7 +65,8 @@ returns-2 c =
     let start : tie.Start = search in
     let a = start .args in
     let book = bookNow (a .ids) (a .groups) (a .marks) (a .counts) (a .levels) in
-    meets (start .pre) (ok (at-group-of .before)) (at-row-in .row-in .ensures
+    let left1 : tie.Else1 = search in
+    meets (start .pre) (ok left1) (at-row-in .row-in .ensures
     ∙ (λ i. rowIn (a .points) book (at-place-of .place-of .ensures i) (a .identity) (at-group-of .group-of .ensures i)
     (now (a .given))))
 
@@ -73,5 +74,6 @@ pub enter-spec : {M : Type 1} → statement M
 enter-spec =
     tie.close (tie.spec (λ c κs. let start : tie.Start = search in sound-rises _ _ (start .pre))
     (λ c κs. let start : tie.Start = search in (sound-rises _ _ (start .pre), sound-identities _ _ (start .pre)))
-    enter-refusal-requires (λ c. search needs) returns (λ c κs. fields-in _ _ _ _ (facts c .fields)) row-in-requires
+    enter-refusal-requires (λ c. search needs) returns
+    (λ c κs. let left1 : tie.Else1 = search in fields-in _ _ _ _ (facts left1 .fields)) row-in-requires
     (λ c. search needs) (λ c. search needs) (λ c. search needs) (λ c. search needs) (λ c. search needs) returns-2)
