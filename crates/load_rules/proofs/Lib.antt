@@ -13,3 +13,4 @@ pub mod TotalBound
 pub mod CountedOnce
 pub mod Accounts
 pub mod Elsewhere
+pub mod Found
