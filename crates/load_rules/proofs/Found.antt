@@ -5,7 +5,7 @@ use mathlib.Core.{Bool.false, Bool.cond, List.List, List.[], List._∷_}
 use Prim.Native.Nat.{ℕ, suc, _+_, _*_, _-_, _%_, _≤_}
 use native.Mathlib.Omega.{arith}
 use lib.{ListN.length, ListN.getD, Dec.eqb}
-use borrow.Author.Tests.{eqb-true, eqb-false, eq-eqb, ne-eqb, lt-ltb}
+use borrow.Author.Tests.{eqb-true, eqb-false, eq-eqb, ne-eqb}
 use Rattle.refusal.proofs.Ranges.{within-at}
 use Rattle.level.specs.Energy.{energyOf}
 use Rattle.book_rules.specs.Columns.{Book}
@@ -22,7 +22,7 @@ use Rattle.load_rules.specs.Factors.{sumTo}
 use Rattle.load_rules.specs.{Load.answer, Load.bookLoad}
 use Rattle.load_rules.specs.Afresh.{CountsEach, Brought}
 use Rattle.load_rules.specs.Found.{oneThere, markedThere, energyThere, overAll, FoundCounted}
-use Rattle.load_rules.proofs.SumLaws.{sum-add, sum-zero, sum-ext, sum-times, sum-one}
+use Rattle.load_rules.proofs.SumLaws.{sum-add, sum-zero, sum-ext, sums-each}
 use Rattle.load_rules.proofs.Counting.{counting-none, counting-kept, counting-left-out, counting-le}
 use Rattle.load_rules.proofs.Counting.{counting-good}
 use Rattle.load_rules.proofs.{HistoryLaws.shares-rows, HistoryLaws.shares-grouped, Brings.each-brings}
@@ -33,14 +33,12 @@ use Rattle.load_rules.proofs.{RowRefusals.book-refusals, CountedOnce.an
 -- k at the identity x, and 0 at all others
 sum-at : (k x n : ℕ) → 1 ≤ x → x ≤ n → sumTo (λ i. cond (eqb x (suc i)) k 0) n ≡ k
 sum-at k x n low high =
-    sum-ext _ (λ i. k * cond (eqb (x - 1) i) 1 0) n (λ i h. each i (eqb x (suc i)) refl)
-    ∙ sum-times k (λ i. cond (eqb (x - 1) i) 1 0) n
-    ∙ ap (λ j. k * j) (sum-one (x - 1) n ∙ ap (λ (t : Bool). cond t 1 0) (lt-ltb (x - 1) n (omega arith)))
-    ∙ omega arith
+    sum-ext _ (λ i. cond (eqb (x - 1) i) k 0) n (λ i h. each i (eqb x (suc i)) refl)
+    ∙ sums-each .below k (x - 1) n (omega arith)
   where
-    each : (i : ℕ) (t : Bool) → eqb x (suc i) ≡ t → cond t k 0 ≡ k * cond (eqb (x - 1) i) 1 0
-    each i true e = rw (eq-eqb (x - 1) i (omega (arith, eqb-true x (suc i) e))) (omega arith)
-    each i false e = rw (ne-eqb (x - 1) i (λ z. eqb-false x (suc i) e (omega arith))) (omega arith)
+    each : (i : ℕ) (t : Bool) → eqb x (suc i) ≡ t → cond t k 0 ≡ cond (eqb (x - 1) i) k 0
+    each i true e = rw (eq-eqb (x - 1) i (omega (arith, eqb-true x (suc i) e))) refl
+    each i false e = rw (ne-eqb (x - 1) i (λ z. eqb-false x (suc i) e (omega arith))) refl
 
 module _ (p : ℕ) (w : Row → ℕ) where
   -- the row of a movement
@@ -146,7 +144,7 @@ counting-found p pt (a ∷ ms) s = go (eqb (getD (a .counts) pt 0) 1) refl (a .h
 
 pub found-counted : (p pt : ℕ) (b : Book) (days : ℕ) → bookLoad p pt b days .refused ≡ 0
     → FoundCounted (bookLoad p pt b days) p pt b days
-unfolding bookLoad markedThere energyThere oneThere
+unfolding bookLoad answer markedThere energyThere oneThere
 found-counted p pt b days z =
     let ok = book-refusals p pt b days .load .answered .0 z .0 in
     let r = book-read p b (ok .0) in
@@ -166,6 +164,7 @@ found-counted p pt b days z =
     λ w zero=. sym (ap (λ (v : Book). overAll p v w) e ∙ over-rows p w zero= (r .unused) ms (r .good) (r .rising)) in
     let each : (g : ℕ) → Brought pt g ms _ _ _ = λ g. all-found p pt g ms (r .good) in
     record {
+      size = ap (λ (l : Load). length (l .counts)) a;
       computed = λ g h. c .computed g h ∙ each g .computed ∙ by (markedThere pt g 1) refl;
       missing = λ g h. c .missing g h ∙ each g .missing ∙ by (markedThere pt g 0) refl;
       standing = c .standing ∙ counting-found p pt ms (r .good) ∙ by (oneThere pt) refl;

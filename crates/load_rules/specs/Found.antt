@@ -3,7 +3,7 @@
 use Prim.Native.Nat.{ℕ, suc, _+_, _*_, _%_, _<_}
 use mathlib.Core.Path.{_≡_}
 use mathlib.Core.Bool.{cond, _&&_}
-use lib.ListN.{getD}
+use lib.ListN.{length, getD}
 use lib.Dec.{eqb}
 use Rattle.level.specs.Energy.{energyOf, meanOf}
 use Rattle.level.specs.Level.{levelOf}
@@ -36,9 +36,12 @@ overAll p b w = sumTo (λ i. w (found (suc i) p b)) 99999
 
 -- what an answered load a over these days says of the rows of a book, at point pt of p
 pub record FoundCounted (a : Load) (p pt : ℕ) (b : Book) (days : ℕ) : Type 0 where
-  -- V and U of a group are the movements found of it that count there, computed and not
-  pub computed : (g : ℕ) → g < 18 → countsAt a g .computed ≡ overAll p b (markedThere pt g 1)
-  pub missing : (g : ℕ) → g < 18 → countsAt a g .missing ≡ overAll p b (markedThere pt g 0)
+  -- V and U of a group, at its number, are the movements found of it that count there, computed and not
+  pub size : length (a .counts) ≡ 18
+  pub computed : (g : ℕ) → g < 18
+      → getD (a .counts) g (record { computed = 0; missing = 0 }) .computed ≡ overAll p b (markedThere pt g 1)
+  pub missing : (g : ℕ) → g < 18
+      → getD (a .counts) g (record { computed = 0; missing = 0 }) .missing ≡ overAll p b (markedThere pt g 0)
   -- and add up to all that are found and count there
   pub standing : sumTo (λ g. countsAt a g .computed + countsAt a g .missing) 18 ≡ overAll p b (oneThere pt)
   -- the total is that of their energies, and the level that of the total
