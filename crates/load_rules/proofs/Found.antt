@@ -1,14 +1,14 @@
 -- A load counts what look-up finds in the rows: each identity that stands and counts at the point, once. Assumes
 -- nothing.
 use mathlib.Core.{Path._≡_, Path.refl, Path.sym, Path.ap, Path.subst, Path.fun-ext, Path._∙_, Bool.Bool, Bool.true}
-use mathlib.Core.{Bool.false, Bool.cond, List.List, List.[], List._∷_}
-use Prim.Native.Nat.{ℕ, suc, _+_, _*_, _-_, _%_, _≤_}
+use mathlib.Core.{Bool.false, Bool.cond, Bool._&&_, List.List, List.[], List._∷_}
+use Prim.Native.Nat.{ℕ, suc, _+_, _*_, _-_, _%_, _≤_, _<_}
 use native.Mathlib.Omega.{arith}
-use lib.{ListN.length, ListN.getD, Dec.eqb}
+use lib.{ListN.length, ListN.getD, Dec.eqb, Dec.ltb}
 use borrow.Author.Tests.{eqb-true, eqb-false, eq-eqb, ne-eqb}
 use Rattle.refusal.proofs.Ranges.{within-at}
 use Rattle.level.specs.Energy.{energyOf}
-use Rattle.book_rules.specs.Columns.{Book}
+use Rattle.book_rules.specs.Columns.{Book, sound}
 use Rattle.book_rules.specs.History.{Held, Movement, movement, rowsOf}
 use Rattle.book_rules.specs.History.Held.{none, holds}
 use Rattle.book_rules.specs.Lookup.{Row, found, rowHeld, listed}
@@ -16,16 +16,18 @@ use Rattle.book_rules.specs.Lookup.Row.{nowhere, row}
 use Rattle.book_rules.proofs.{Standing.AllGood, Standing.Rising, Reading.book-read, Kept.read-rows}
 use Rattle.book_rules.proofs.SoundBook.{sound-exactly}
 use Rattle.book_rules.proofs.Listed.{rows-found, listed-none, listed-this, listed-later, below-none}
-use Rattle.load_rules.specs.declared.Load.{Load}
+use Rattle.load_rules.specs.declared.{Group.Group, Load.Load}
 use Rattle.load_rules.specs.{Shares.Share, Shares.countingAt, Shares.sharesOf, Shares.bookShares, Tally.tally}
 use Rattle.load_rules.specs.Factors.{sumTo}
-use Rattle.load_rules.specs.{Load.answer, Load.bookLoad}
-use Rattle.load_rules.specs.Afresh.{CountsEach, Brought}
-use Rattle.load_rules.specs.Found.{oneThere, markedThere, energyThere, overAll, FoundCounted}
+use Rattle.load_rules.specs.{Load.answer, Load.bookLoad, Account.groupsOf}
+use Rattle.load_rules.specs.Afresh.{computedIn, missingIn, energyOfGroup, CountsEach, Brought}
+use Rattle.load_rules.specs.Found.{oneThere, markedThere, energyThere, overAll, FoundCounted, FoundAccount}
 use Rattle.load_rules.proofs.SumLaws.{sum-add, sum-zero, sum-ext, sums-each}
 use Rattle.load_rules.proofs.Counting.{counting-none, counting-kept, counting-left-out, counting-le}
 use Rattle.load_rules.proofs.Counting.{counting-good}
 use Rattle.load_rules.proofs.{HistoryLaws.shares-rows, HistoryLaws.shares-grouped, Brings.each-brings}
+use Rattle.load_rules.proofs.ListLaws.{list-computed, list-missing, list-energy}
+use Rattle.load_rules.proofs.Accounts.{told-same, book-account}
 use Rattle.load_rules.proofs.{RowRefusals.book-refusals, CountedOnce.answer-counts, CountedOnce.load-answered}
 
 -- What is found of each identity, over all identities
@@ -140,34 +142,78 @@ counting-found p pt (a ∷ ms) s = go (eqb (getD (a .counts) pt 0) 1) refl (a .h
     go c e none i = rw e (omega (arith, length-all c e))
     go c e (holds ls) i = rw e (omega (arith, length-all c e))
 
--- An answered load of any book
+-- An answered load of any book, and its account
 
-pub found-counted : (p pt : ℕ) (b : Book) (days : ℕ) → bookLoad p pt b days .refused ≡ 0
-    → FoundCounted (bookLoad p pt b days) p pt b days
-unfolding bookLoad answer markedThere energyThere oneThere
-found-counted p pt b days z =
-    let ok = book-refusals p pt b days .load .answered .0 z .0 in
-    let r = book-read p b (ok .0) in
-    let ms = r .list in
-    let ns = countingAt pt ms in
-    let e = read-rows r in
-    let same : bookShares p pt b ≡ sharesOf pt ns =
-    ap (bookShares p pt) e ∙ shares-rows p pt (r .unused) ms (r .good) (ok .1) in
-    let good = counting-good pt p ms (r .good) in
-    let few : length ns ≤ 50000 =
-    omega (arith, counting-le pt ms, r .same, sound-exactly p b .only (ok .0) .rows .1) in
-    let a : bookLoad p pt b days ≡ answer (tally (sharesOf pt ns)) days =
-    load-answered _ (bookShares p pt b) days z ∙ ap (λ (l : List Share). answer (tally l) days) same in
-    let c = subst (λ (l : Load). CountsEach l pt ns days) (sym a)
-    (answer-counts pt ns days (shares-grouped p pt ns good) p good few) in
-    let by : (w : Row → ℕ) → w nowhere ≡ 0 → overList p w ms ≡ overAll p b w =
-    λ w zero=. sym (ap (λ (v : Book). overAll p v w) e ∙ over-rows p w zero= (r .unused) ms (r .good) (r .rising)) in
-    let each : (g : ℕ) → Brought pt g ms _ _ _ = λ g. all-found p pt g ms (r .good) in
-    record {
-      size = ap (λ (l : Load). length (l .counts)) a;
-      computed = λ g h. c .computed g h ∙ each g .computed ∙ by (markedThere pt g 1) refl;
-      missing = λ g h. c .missing g h ∙ each g .missing ∙ by (markedThere pt g 0) refl;
-      standing = c .standing ∙ counting-found p pt ms (r .good) ∙ by (oneThere pt) refl;
-      total = rw (← fun-ext (λ g. each g .energy ∙ by (energyThere pt g) refl)) (c .formulas);
-      level = c .level;
-    }
+module _ (p pt : ℕ) (b : Book) (days : ℕ) (z : bookLoad p pt b days .refused ≡ 0) where
+  ok : (sound p b ≡ true) × (pt < p)
+  ok = book-refusals p pt b days .load .answered .0 z .0
+
+  -- the movements of its rows, and those that count there
+  all : List Movement
+  all = book-read p b (ok .0) .list
+
+  here : List Movement
+  here = countingAt pt all
+
+  good : AllGood p all
+  unfolding all
+  good = book-read p b (ok .0) .good
+
+  shares : bookShares p pt b ≡ sharesOf pt here
+  unfolding here all
+  shares =
+      let r = book-read p b (ok .0) in
+      ap (bookShares p pt) (read-rows r) ∙ shares-rows p pt (r .unused) (r .list) (r .good) (ok .1)
+
+  by-look-up : (w : Row → ℕ) → w nowhere ≡ 0 → overList p w all ≡ overAll p b w
+  unfolding all
+  by-look-up w zero= =
+      let r = book-read p b (ok .0) in
+      sym (ap (λ (v : Book). overAll p v w) (read-rows r) ∙ over-rows p w zero= (r .unused) (r .list) (r .good) (r .rising))
+
+  v-found : (g : ℕ) → computedIn g here ≡ overAll p b (markedThere pt g 1)
+  unfolding here markedThere
+  v-found g = all-found p pt g all good .computed ∙ by-look-up (markedThere pt g 1) refl
+
+  u-found : (g : ℕ) → missingIn g here ≡ overAll p b (markedThere pt g 0)
+  unfolding here markedThere
+  u-found g = all-found p pt g all good .missing ∙ by-look-up (markedThere pt g 0) refl
+
+  s-found : (g : ℕ) → energyOfGroup pt g here ≡ overAll p b (energyThere pt g)
+  unfolding here energyThere
+  s-found g = all-found p pt g all good .energy ∙ by-look-up (energyThere pt g) refl
+
+  answered : bookLoad p pt b days ≡ answer (tally (sharesOf pt here)) days
+  unfolding bookLoad
+  answered =
+      load-answered (sound p b && ltb pt p) (bookShares p pt b) days z
+      ∙ ap (λ (l : List Share). answer (tally l) days) shares
+
+  each-counted : CountsEach (bookLoad p pt b days) pt here days
+  unfolding here all
+  each-counted =
+      let fit : AllGood p here = counting-good pt p all good in
+      let few : length here ≤ 50000 =
+      omega (arith, counting-le pt all, book-read p b (ok .0) .same, sound-exactly p b .only (ok .0) .rows .1) in
+      subst (λ (l : Load). CountsEach l pt here days) (sym answered)
+      (answer-counts pt here days (shares-grouped p pt here fit) p fit few)
+
+  pub found-counted : FoundCounted (bookLoad p pt b days) p pt b days
+  unfolding here answer oneThere
+  found-counted =
+      record {
+        size = ap (λ (l : Load). length (l .counts)) answered;
+        computed = λ g h. each-counted .computed g h ∙ v-found g;
+        missing = λ g h. each-counted .missing g h ∙ u-found g;
+        standing = each-counted .standing ∙ counting-found p pt all good ∙ by-look-up (oneThere pt) refl;
+        total = rw (← fun-ext s-found) (each-counted .formulas);
+        level = each-counted .level;
+      }
+
+  pub found-account : FoundAccount p pt b days
+  found-account =
+      let each : (g : ℕ) → groupsOf p pt b g ≡ tally (sharesOf pt here) g = λ g. ap (λ ss. tally ss g) shares in
+      told-same (fun-ext (λ g. ap (λ (c : Group). c .computed) (each g) ∙ list-computed pt g here ∙ v-found g))
+      (fun-ext (λ g. ap (λ (c : Group). c .missing) (each g) ∙ list-missing pt g here ∙ u-found g))
+      (fun-ext (λ g. ap (λ (c : Group). c .energy) (each g) ∙ list-energy pt g here ∙ s-found g))
+      (book-account p pt b days z)

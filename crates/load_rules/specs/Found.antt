@@ -12,6 +12,7 @@ use Rattle.book_rules.specs.Lookup.{Row, found}
 use Rattle.book_rules.specs.Lookup.Row.{nowhere, row}
 use Rattle.load_rules.specs.declared.Load.{Load}
 use Rattle.load_rules.specs.Factors.{sumTo}
+use Rattle.load_rules.specs.{Load.bookLoad, Account.accountOf, Account.AccountTells}
 use Rattle.load_rules.specs.Afresh.{countsAt, TotalHolds}
 
 -- 1 where what is found stands and counts at point pt
@@ -48,3 +49,9 @@ pub record FoundCounted (a : Load) (p pt : ℕ) (b : Book) (days : ℕ) : Type 0
   pub total : TotalHolds (λ g. countsAt a g .computed) (λ g. countsAt a g .missing)
       (λ g. overAll p b (energyThere pt g)) (a .total)
   pub level : a .level ≡ levelOf (meanOf (a .total) days)
+
+-- and its account, number by number: V, U and S of each group are those of the movements found
+abbrev pub FoundAccount : (p pt : ℕ) (b : Book) (days : ℕ) → Type 0
+FoundAccount p pt b days =
+    AccountTells (λ g. overAll p b (markedThere pt g 1)) (λ g. overAll p b (markedThere pt g 0))
+    (λ g. overAll p b (energyThere pt g)) (bookLoad p pt b days) (accountOf p pt b days)
