@@ -169,7 +169,8 @@ module _ (p pt : ℕ) (b : Book) (days : ℕ) (z : bookLoad p pt b days .refused
   unfolding all
   by-look-up w zero= =
       let r = book-read p b (ok .0) in
-      sym (ap (λ (v : Book). overAll p v w) (read-rows r) ∙ over-rows p w zero= (r .unused) (r .list) (r .good) (r .rising))
+      sym (ap (λ (v : Book). overAll p v w) (read-rows r)
+      ∙ over-rows p w zero= (r .unused) (r .list) (r .good) (r .rising))
 
   v-found : (g : ℕ) → computedIn g here ≡ overAll p b (markedThere pt g 1)
   unfolding here markedThere
