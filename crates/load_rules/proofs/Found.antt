@@ -17,9 +17,11 @@ use Rattle.book_rules.proofs.{Standing.AllGood, Standing.Rising, Reading.book-r
 use Rattle.book_rules.proofs.SoundBook.{sound-exactly}
 use Rattle.book_rules.proofs.Listed.{rows-found, listed-none, listed-this, listed-later, below-none}
 use Rattle.load_rules.specs.declared.{Group.Group, Load.Load}
-use Rattle.load_rules.specs.{Shares.Share, Shares.countingAt, Shares.sharesOf, Shares.bookShares, Tally.tally}
+use Rattle.load_rules.specs.{Shares.Share, Shares.countingAt, Shares.sharesOf, Shares.bookShares}
+use Rattle.load_rules.specs.Tally.{groupWith, tally}
 use Rattle.load_rules.specs.Factors.{sumTo}
-use Rattle.load_rules.specs.{Load.answer, Load.bookLoad, Account.groupsOf}
+use Rattle.load_rules.specs.{Load.answer, Load.bookLoad}
+use Rattle.load_rules.proofs.TallyLaws.{AllGrouped}
 use Rattle.load_rules.specs.Afresh.{computedIn, missingIn, energyOfGroup, CountsEach, Brought}
 use Rattle.load_rules.specs.Found.{oneThere, markedThere, energyThere, overAll, FoundCounted, FoundAccount}
 use Rattle.load_rules.proofs.SumLaws.{sum-add, sum-zero, sum-ext, sums-each}
@@ -144,10 +146,7 @@ counting-found p pt (a ∷ ms) s = go (eqb (getD (a .counts) pt 0) 1) refl (a .h
 
 -- An answered load of any book, and its account
 
-module _ (p pt : ℕ) (b : Book) (days : ℕ) (z : bookLoad p pt b days .refused ≡ 0) where
-  ok : (sound p b ≡ true) × (pt < p)
-  ok = book-refusals p pt b days .load .answered .0 z .0
-
+module _ (p pt : ℕ) (b : Book) (ok : (sound p b ≡ true) × (pt < p)) where
   -- the movements of its rows, and those that count there
   all : List Movement
   all = book-read p b (ok .0) .list
@@ -184,37 +183,60 @@ module _ (p pt : ℕ) (b : Book) (days : ℕ) (z : bookLoad p pt b days .refused
   unfolding here energyThere
   s-found g = all-found p pt g all good .energy ∙ by-look-up (energyThere pt g) refl
 
-  answered : bookLoad p pt b days ≡ answer (tally (sharesOf pt here)) days
-  unfolding bookLoad
-  answered =
-      load-answered (sound p b && ltb pt p) (bookShares p pt b) days z
-      ∙ ap (λ (l : List Share). answer (tally l) days) shares
+  -- V, U and S of each group
+  pub tally-found : (g : ℕ) → tally (bookShares p pt b) g
+      ≡ groupWith (overAll p b (markedThere pt g 1)) (overAll p b (markedThere pt g 0)) (overAll p b (energyThere pt g))
+  unfolding tally
+  tally-found g =
+      let each : tally (bookShares p pt b) g ≡ tally (sharesOf pt here) g = ap (λ ss. tally ss g) shares in
+      let v = ap (λ (c : Group). c .computed) each ∙ list-computed pt g here ∙ v-found g in
+      let u = ap (λ (c : Group). c .missing) each ∙ list-missing pt g here ∙ u-found g in
+      let s = ap (λ (c : Group). c .energy) each ∙ list-energy pt g here ∙ s-found g in
+      λ i. groupWith (v i) (u i) (s i)
 
-  each-counted : CountsEach (bookLoad p pt b days) pt here days
-  unfolding here all
-  each-counted =
+  pub grouped : AllGrouped (bookShares p pt b)
+  unfolding here
+  grouped = subst AllGrouped (sym shares) (shares-grouped p pt here (counting-good pt p all good))
+
+  each-counted : (days : ℕ) → bookLoad p pt b days .refused ≡ 0
+      → (bookLoad p pt b days ≡ answer (tally (sharesOf pt here)) days)
+      × CountsEach (bookLoad p pt b days) pt here days
+  unfolding bookLoad here all
+  each-counted days z =
       let fit : AllGood p here = counting-good pt p all good in
       let few : length here ≤ 50000 =
       omega (arith, counting-le pt all, book-read p b (ok .0) .same, sound-exactly p b .only (ok .0) .rows .1) in
-      subst (λ (l : Load). CountsEach l pt here days) (sym answered)
-      (answer-counts pt here days (shares-grouped p pt here fit) p fit few)
+      let a : bookLoad p pt b days ≡ answer (tally (sharesOf pt here)) days =
+      load-answered (sound p b && ltb pt p) (bookShares p pt b) days z
+      ∙ ap (λ (l : List Share). answer (tally l) days) shares in (
+        a,
+        subst (λ (l : Load). CountsEach l pt here days) (sym a)
+            (answer-counts pt here days (shares-grouped p pt here fit) p fit few),
+      )
+
+  counted : (days : ℕ) → bookLoad p pt b days .refused ≡ 0 → FoundCounted (bookLoad p pt b days) p pt b days
+  unfolding here answer oneThere
+  counted days z =
+      let e = each-counted days z in
+      record {
+        size = ap (λ (l : Load). length (l .counts)) (e .0);
+        computed = λ g h. e .1 .computed g h ∙ v-found g;
+        missing = λ g h. e .1 .missing g h ∙ u-found g;
+        standing = e .1 .standing ∙ counting-found p pt all good ∙ by-look-up (oneThere pt) refl;
+        total = rw (← fun-ext s-found) (e .1 .formulas);
+        level = e .1 .level;
+      }
+
+module _ (p pt : ℕ) (b : Book) (days : ℕ) (z : bookLoad p pt b days .refused ≡ 0) where
+  ok : (sound p b ≡ true) × (pt < p)
+  ok = book-refusals p pt b days .load .answered .0 z .0
 
   pub found-counted : FoundCounted (bookLoad p pt b days) p pt b days
-  unfolding here answer oneThere
-  found-counted =
-      record {
-        size = ap (λ (l : Load). length (l .counts)) answered;
-        computed = λ g h. each-counted .computed g h ∙ v-found g;
-        missing = λ g h. each-counted .missing g h ∙ u-found g;
-        standing = each-counted .standing ∙ counting-found p pt all good ∙ by-look-up (oneThere pt) refl;
-        total = rw (← fun-ext s-found) (each-counted .formulas);
-        level = each-counted .level;
-      }
+  found-counted = counted p pt b ok days z
 
   pub found-account : FoundAccount p pt b days
   found-account =
-      let each : (g : ℕ) → groupsOf p pt b g ≡ tally (sharesOf pt here) g = λ g. ap (λ ss. tally ss g) shares in
-      told-same (fun-ext (λ g. ap (λ (c : Group). c .computed) (each g) ∙ list-computed pt g here ∙ v-found g))
-      (fun-ext (λ g. ap (λ (c : Group). c .missing) (each g) ∙ list-missing pt g here ∙ u-found g))
-      (fun-ext (λ g. ap (λ (c : Group). c .energy) (each g) ∙ list-energy pt g here ∙ s-found g))
+      let each = tally-found p pt b ok in
+      told-same (fun-ext (λ g. ap (λ (c : Group). c .computed) (each g)))
+      (fun-ext (λ g. ap (λ (c : Group). c .missing) (each g))) (fun-ext (λ g. ap (λ (c : Group). c .energy) (each g)))
       (book-account p pt b days z)

@@ -14,3 +14,4 @@ pub mod CountedOnce
 pub mod Accounts
 pub mod Elsewhere
 pub mod Found
+pub mod Alike
