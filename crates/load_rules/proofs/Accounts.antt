@@ -120,7 +120,7 @@ book-account p pt b days z =
 
 -- After any calls on an empty book of n rows and p points
 
-told-same : {v v′ u u′ s s′ : ℕ → ℕ} {load : Load} {numbers : List ℕ}
+pub told-same : {v v′ u u′ s s′ : ℕ → ℕ} {load : Load} {numbers : List ℕ}
     → v ≡ v′ → u ≡ u′ → s ≡ s′ → AccountTells v u s load numbers
     → AccountTells v′ u′ s′ load numbers
 told-same a b c t = rw (← a, ← b, ← c) t

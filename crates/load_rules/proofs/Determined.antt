@@ -2,7 +2,7 @@
 -- is what is worked from the same shares. Assumes nothing.
 use mathlib.Core.Path.{_≡_, refl, sym, ap, _∙_}
 use mathlib.Core.{Bool.Bool, Bool.true, Bool.false, Bool.cond, Bool.not, Bool._&&_, List.List, Logic._↔_}
-use Prim.Native.Nat.{ℕ, _<_}
+use Prim.Native.Nat.{ℕ, suc, _≤_, _<_}
 use native.Mathlib.Omega.{arith}
 use lib.Dec.{eqb, ltb}
 use borrow.Author.Tests.{eqb-true, eqb-false, ltb-true}
@@ -26,6 +26,19 @@ number-of n v = go (eqb n 0) refl
     go : (t : Bool) → eqb n 0 ≡ t → refusalNumber (cond t (Given v) (Refused n)) ≡ n
     go true e = sym (eqb-true n 0 e)
     go false e = refl
+
+-- and where it is a refusal that number is not 0
+pub refused-told : (n : ℕ) (v : Verdict) (m : ℕ) → judged n v ≡ Refused m → 1 ≤ m
+unfolding judged
+refused-told n v m = go (eqb n 0) refl
+  where
+    one-more : Judged → ℕ
+    one-more (Refused n) = suc n
+    one-more (Given v) = 0
+
+    go : (t : Bool) → eqb n 0 ≡ t → cond t (Given v) (Refused n) ≡ Refused m → 1 ≤ m
+    go true e h = absurd (omega (arith, ap one-more h))
+    go false e h = omega (arith, eqb-false n 0 e, ap one-more h)
 
 over-of : (n : ℕ) (v : Verdict) → overNumber (judged n v) ≡ cond (eqb n 0) (verdictNumber v) 0
 unfolding judged

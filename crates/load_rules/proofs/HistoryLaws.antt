@@ -74,7 +74,7 @@ module _ (p pt : ℕ) where
       go true = refl
       go false = refl
 
-  shares-grouped : (ms : List Movement) → AllGood p ms → AllGrouped (sharesOf pt ms)
+  pub shares-grouped : (ms : List Movement) → AllGood p ms → AllGrouped (sharesOf pt ms)
   unfolding sharesOf
   shares-grouped [] s = tt
   shares-grouped (a ∷ ms) s = (held-grouped pt (a .group) (a .held) (s .0 .group<), shares-grouped ms (s .1))

@@ -13,3 +13,5 @@ pub mod TotalBound
 pub mod CountedOnce
 pub mod Accounts
 pub mod Elsewhere
+pub mod Found
+pub mod Alike

@@ -12,8 +12,9 @@ use Rattle.book_rules.specs.Columns.{Book, sound}
 use Rattle.book_rules.proofs.SoundBook.{sound-exactly}
 use Rattle.load_rules.specs.Shares.{Share, energyIn, anyComputed, rowShare, sharesTo, bookShares}
 use Rattle.load_rules.specs.Shares.Share.{has, lacks}
-use Rattle.load_rules.specs.{Load.noneComputed, Load.bookLoad, Verdict.bookVerdict}
+use Rattle.load_rules.specs.{Load.noneComputed, Load.bookLoad, Verdict.judgedOf, Verdict.bookVerdict}
 use Rattle.load_rules.specs.Refusals.{NoneMarked, LoadNumbers, VerdictNumbers, BookRefusals}
+use Rattle.load_rules.proofs.Determined.{refused-told}
 use Rattle.load_rules.proofs.RefusalLaws.{days-exactly, limit-exactly, load-numbers, verdict-numbers}
 
 -- what holds of each number below k, and of k
@@ -132,7 +133,7 @@ module _ (p pt : ℕ) (b : Book) where
       above (suc n) = (λ h e. omega arith, λ h. omega arith)
 
   pub book-refusals : (days : ℕ) → BookRefusals p pt b days
-  unfolding bookLoad bookVerdict
+  unfolding bookLoad bookVerdict judgedOf
   book-refusals days =
       let f = both (sound p b) (ltb pt p) (λ e. e, λ e. e) (less pt p) in
       let fits = sound p b && ltb pt p in
@@ -142,4 +143,5 @@ module _ (p pt : ℕ) (b : Book) where
         verdict =
             λ limit. verdict-under marked-exactly
             (verdict-numbers fits ss days f (days-exactly days) Iff·rfl limit (limit-exactly limit));
+        told = λ limit n. refused-told _ _ n;
       }

@@ -1,10 +1,10 @@
 -- Laws of sums over numbers. Assumes nothing.
-use mathlib.Core.{Path._≡_, Path.refl, Path.sym, Bool.Bool, Bool.true, Bool.false, Bool.cond}
+use mathlib.Core.{Path._≡_, Path.refl, Path.sym, Path.ap, Path._∙_, Bool.Bool, Bool.true, Bool.false, Bool.cond}
 use Prim.Native.Nat.{ℕ, zero, suc, _+_, _*_, _≤_, _<_}
 use native.Mathlib.{Nat.mul-add, Nat.mul-zero, Nat.zero-add, Nat.suc-add, Omega.arith}
 use lib.Dec.{eqb, ltb}
 use borrow.Author.Tests.{eqb-true, eqb-false, ltb-true, ltb-false, lt-ltb, le-ltb}
-use Rattle.load_rules.specs.Factors.{sumTo}
+use Rattle.load_rules.specs.Factors.{sumTo, SumsEach}
 
 pub sum-add : (f g : ℕ → ℕ) (n : ℕ) → sumTo (λ i. f i + g i) n ≡ sumTo f n + sumTo g n
 unfolding sumTo
@@ -53,3 +53,23 @@ sum-one h (suc n) = go (eqb h n) refl (ltb h n) refl (sum-one h n)
         let q = eqb-false h n e in
         let w = ltb-false h n l in
         rw (le-ltb h (suc n) (omega arith)) (omega arith)
+
+-- and any number k
+sum-at : (k h n : ℕ) → sumTo (λ i. cond (eqb h i) k 0) n ≡ cond (ltb h n) k 0
+sum-at k h n =
+    sum-ext _ (λ i. k * cond (eqb h i) 1 0) n (λ i l. times-one (eqb h i))
+    ∙ sum-times k (λ i. cond (eqb h i) 1 0) n
+    ∙ ap (λ j. k * j) (sum-one h n)
+    ∙ sym (times-one (ltb h n))
+  where
+    times-one : (t : Bool) → cond t k 0 ≡ k * cond t 1 0
+    times-one true = omega arith
+    times-one false = omega arith
+
+pub sums-each : SumsEach
+sums-each =
+    record {
+      below = λ k h n l. sum-at k h n ∙ ap (λ (t : Bool). cond t k 0) (lt-ltb h n l);
+      past = λ k h n l. sum-at k h n ∙ ap (λ (t : Bool). cond t k 0) (le-ltb h n l);
+      both = sum-add;
+    }

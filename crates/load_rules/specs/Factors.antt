@@ -48,6 +48,12 @@ unfoldable pub sumTo : (ℕ → ℕ) → ℕ → ℕ
 sumTo f zero = 0
 sumTo f (suc n) = sumTo f n + f n
 
+-- a sum has each number below n once: what only h has, where h is below n, and of two functions the sums of both
+pub record SumsEach : Type 0 where
+  pub below : (k h n : ℕ) → h < n → sumTo (λ i. cond (eqb h i) k 0) n ≡ k
+  pub past : (k h n : ℕ) → n ≤ h → sumTo (λ i. cond (eqb h i) k 0) n ≡ 0
+  pub both : (f g : ℕ → ℕ) (n : ℕ) → sumTo (λ i. f i + g i) n ≡ sumTo f n + sumTo g n
+
 -- a group with computed movements has its V + U known; the U of any other are unknown
 unfoldable pub known : Counts → ℕ
 known c = cond (eqb (c .computed) 0) 0 (c .computed + c .missing)

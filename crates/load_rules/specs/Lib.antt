@@ -7,3 +7,4 @@ pub mod Refusals
 pub mod Afresh
 pub mod Account
 pub mod Elsewhere
+pub mod Found

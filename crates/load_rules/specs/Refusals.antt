@@ -10,6 +10,7 @@ use mathlib.Core.Bool.{true}
 use Rattle.book_rules.specs.Columns.{Book, sound}
 use Rattle.book_rules.specs.History.{Movement, movement}
 use Rattle.book_rules.specs.History.Held.{none}
+use Rattle.load_rules.specs.declared.Judged.the-variants.{Refused}
 use Rattle.load_rules.specs.Load.{bookLoad}
 use Rattle.load_rules.specs.Verdict.{refusalNumber, bookVerdict}
 
@@ -62,3 +63,5 @@ pub record BookRefusals (p pt : ℕ) (b : Book) (days : ℕ) : Type 0 where
   pub verdict : (limit : ℕ)
       → VerdictNumbers ((sound p b ≡ true) × (pt < p)) (DaysInRange days) (LimitInRange limit) (NoneMarked p pt b)
       (refusalNumber (bookVerdict p pt b days limit))
+  -- and a refusal is told with a number: 0 is that of a verdict
+  pub told : (limit n : ℕ) → bookVerdict p pt b days limit ≡ Refused n → 1 ≤ n
