@@ -65,7 +65,7 @@ identity-in x e = (
 )
 
 -- there is one value a point
-fit-length : (p top : ℕ) (vs : List ℕ) → (eqb (length vs) p && allWithin top vs) ≡ true → length vs ≡ p
+pub fit-length : (p top : ℕ) (vs : List ℕ) → (eqb (length vs) p && allWithin top vs) ≡ true → length vs ≡ p
 fit-length p top vs e = eqb-true (length vs) p (and-left (eqb (length vs) p) _ e)
 
 pub levels-length : (p : ℕ) (ls : List ℕ) → levelsFit p ls ≡ true → length ls ≡ p

@@ -8,7 +8,7 @@ use native.Mathlib.{Nat.mul-one, Omega.arith}
 use lib.{ListN.length, ListN.replicate, ListN.length-replicate, Dec.eqb, Dec.leb}
 use borrow.Author.Tests.{ne-eqb, leb-true, leb-false, ltb-true, ltb-false, eqb-true, eqb-false, not-true}
 use Rattle.refusal.specs.Range.{allWithin}
-use Rattle.refusal.proofs.Laws.{and-left, and-right}
+use Rattle.refusal.proofs.Laws.{and-right}
 use Rattle.movement.specs.Limits.{groupCount, maxCount, maxLevel}
 use Rattle.movement.specs.{Aircraft.aircraftNumbered, Kind.kindNumbered, Period.periodOf, Group.groupOf}
 use Rattle.movement.specs.Rules.{identityFits, levelsFit, countsFit, zeroElsewhere}
@@ -21,7 +21,7 @@ use Rattle.book_rules.specs.History.{Held, Movement, movement, added, ho
 use Rattle.book_rules.specs.History.{markOf, levelsOf, column, identityCell, groupCell, markCell, countCells}
 use Rattle.book_rules.specs.History.{levelCells, rowsOf}
 use Rattle.book_rules.specs.History.Held.{none, holds}
-use Rattle.book_rules.proofs.Accepted.{entered, withdrawn, taken-back, supplied, identity-in}
+use Rattle.book_rules.proofs.Accepted.{entered, withdrawn, taken-back, supplied, identity-in, fit-length}
 use Rattle.book_rules.proofs.Blocks.{Place, Found, length-column, column-in, column-out, column-held}
 use Rattle.book_rules.proofs.Blocks.{column-kept, counts-at}
 use Rattle.book_rules.proofs.Blocks.{Place.last, Place.here, Place.there, Found.this, Found.later}
@@ -172,9 +172,7 @@ silent-none p cs = elsewhere-zeros cs p
 
 -- values that passed the test of their number and range
 given-cells : (p top : ℕ) (vs : List ℕ) → (eqb (length vs) p && allWithin top vs) ≡ true → PerPoint p top vs
-given-cells p top vs e =
-    let n = eqb (length vs) p in
-    record { wide = eqb-true (length vs) p (and-left n _ e); within = and-right n _ e }
+given-cells p top vs e = record { wide = fit-length p top vs e; within = and-right (eqb (length vs) p) _ e }
 
 filled-levels : (p : ℕ) (ls : List ℕ) → levelsFit p ls ≡ true → Filled p (holds ls)
 unfolding levelsOf markOf topLevel levelsFit

@@ -5,14 +5,14 @@ use movement::limits::MAX_IDENTITY;
 use movement::limits::MAX_LEVEL;
 use movement::limits::MAX_POINTS;
 use movement::limits::MAX_ROWS;
-use movement::rules::may_hold;
 ghost use mathlib.Core.Path.{_≡_};
-ghost use mathlib.Core.Bool.{_&&_, _||_};
+ghost use mathlib.Core.Bool.{true, cond};
 ghost use Prim.Native.Nat.{_*_};
 ghost use lib.ListN.{length};
-ghost use lib.Dec.{eqb, leb, ltb};
-ghost use Rattle.book_rules.specs.Columns.{shapeFits, rising, follows, headSound, topCount, topLevel, cellsSound};
-ghost use Rattle.book_rules.specs.Columns.{rowSound, rowsSound, bookBefore, sound};
+ghost use lib.Dec.{eqb};
+ghost use Rattle.refusal.specs.Range.{allWithin};
+ghost use Rattle.book_rules.specs.Columns.{shapeFits, rising, follows, headSound, topLevel, cellsSound, rowSound};
+ghost use Rattle.book_rules.specs.Columns.{rowsSound, bookBefore, sound};
 
 // Whether points and rows are in range and the columns fit, by their lengths.
 fn shape_fits(
@@ -97,63 +97,59 @@ fn head_sound(x: u32, g: u32, m: u32) -> bool
     m <= 1
 }
 
-// The highest level that a row with this mark may hold.
-fn top_level(m: u32) -> u32
-    ensures { λ r. ⌜ r ≡ topLevel m ⌝ }
+// The highest level where this says yes or no: a row's mark, or whether it counts at a point.
+fn top_level(says: u32) -> u32
+    ensures { λ r. ⌜ r ≡ topLevel says ⌝ }
 {
-    if m == 0 { 0 } else { MAX_LEVEL }
+    if says == 0 { 0 } else { MAX_LEVEL }
 }
 
-// The highest number that may say where a row of this identity counts.
-fn top_count(x: u32) -> u32
-    ensures { λ r. ⌜ r ≡ topCount x ⌝ }
-{
-    if x == 0 { 0 } else { MAX_COUNT }
-}
-
-// Whether what a row has at one point is in range, and its level zero where it doesn't count.
-fn cell_sound(count: u32, level: u32, most: u32, top: u32) -> bool
-    ensures { λ r. ⌜ r ≡ (leb count most && (leb level top && (ltb 0 count || eqb level 0))) ⌝ }
-{
-    if most < count {
-        return false;
-    }
-    if top < level {
-        return false;
-    }
-    may_hold(count, level)
-}
-
-// Whether what a row has at each point is sound. It reads all of it, since a row is short and mostly sound.
-fn cells_sound(x: u32, m: u32, counts: &[u32], levels: &[u32]) -> bool
+// Whether what rows have at each point would be sound in rows that are used and computed. It reads all of it, since a
+// book is mostly sound and a loop that never ends early is much quicker.
+fn cells_sound(counts: &[u32], levels: &[u32]) -> bool
     requires { ⌜ length (now levels) ≡ length (now counts) ⌝ }
-    ensures { λ r. ⌜ r ≡ cellsSound x m (now (counts .entry)) (now (levels .entry)) ⌝ }
+    ensures { λ r. ⌜ r ≡ cellsSound 1 1 (now (counts .entry)) (now (levels .entry)) ⌝ }
 {
-    let most = top_count(x);
-    let top = top_level(m);
-    let mut within = true;
+    let mut counted = true;
+    let mut held = true;
     let mut i = 0;
     while i < counts.len() {
-        if !cell_sound(counts[i], levels[i], most, top) {
-            within = false;
+        if MAX_COUNT < counts[i] {
+            counted = false;
+        }
+        if top_level(counts[i]) < levels[i] {
+            held = false;
         }
         i += 1;
     }
-    within
+    refusal::both(counted, held)
 }
 
-// Whether one row is sound by itself.
+// Whether all values are zero, where `says` is.
+fn zero_with(says: u32, values: &[u32]) -> bool
+    ensures { λ r. ⌜ r ≡ cond (eqb says 0) (allWithin 0 (now (values .entry))) true ⌝ }
+{
+    if says != 0 {
+        return true;
+    }
+    refusal::all_within(values, 0)
+}
+
+// Whether one row is sound by itself, where what it has at each point would be in a row that is used and computed.
 fn row_sound(x: u32, g: u32, m: u32, counts: &[u32], levels: &[u32]) -> bool
-    requires { ⌜ length (now levels) ≡ length (now counts) ⌝ }
+    requires { ⌜ cellsSound 1 1 (now counts) (now levels) ≡ true ⌝ }
     ensures { λ r. ⌜ r ≡ rowSound x g m (now (counts .entry)) (now (levels .entry)) ⌝ }
 {
-    if head_sound(x, g, m) {
-        return cells_sound(x, m, counts, levels);
+    if !head_sound(x, g, m) {
+        return false;
     }
-    false
+    if !zero_with(x, counts) {
+        return false;
+    }
+    zero_with(m, levels)
 }
 
-// Whether every row is sound by itself.
+// Whether every row is sound by itself, where what rows have at each point would be if all were used and computed.
 fn rows_sound(
     ids: &[u32],
     groups: &[u32],
@@ -166,6 +162,7 @@ fn rows_sound(
     requires { ⌜ length (now marks) ≡ length (now ids) ⌝ }
     requires { ⌜ length (now counts) ≡ length (now ids) * points ⌝ }
     requires { ⌜ length (now levels) ≡ length (now ids) * points ⌝ }
+    requires { ⌜ cellsSound 1 1 (now counts) (now levels) ≡ true ⌝ }
     ensures { λ r. ⌜ r
         ≡ rowsSound points (now (ids .entry)) (now (groups .entry)) (now (marks .entry)) (now (counts .entry))
         (now (levels .entry)) ⌝ }
@@ -211,6 +208,9 @@ pub fn is_sound(
         return false;
     }
     if !identities_rise(ids) {
+        return false;
+    }
+    if !cells_sound(counts, levels) {
         return false;
     }
     rows_sound(ids, groups, marks, counts, levels, points)

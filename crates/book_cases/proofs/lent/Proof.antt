@@ -8,7 +8,8 @@ use Rattle.book_cases.proofs.lent.Tie as tie
 
 pub lent-spec : {M : Type 1} → statement M
 lent-spec =
-    tie.close (tie.spec (λ c κs. search needs) (λ c κs. search needs) (λ c. search needs) (λ c. search needs)
+    tie.close (tie.spec (λ c κs. search needs) (λ c κs. search needs) (λ c κs. search needs) (λ c. search needs)
+    (λ c. search needs) (λ c. search needs) (λ c. search needs) (λ c. sym (length-take-le _ _ (omega arith)))
     (λ c. search needs) (λ c. sym (length-take-le _ _ (omega arith))) (λ c κs. search needs) (λ c. search needs)
     (λ c. sym (length-take-le _ _ (omega arith))) (λ c κs. search needs) (λ c. search needs) (λ c. search needs)
-    (λ c. search needs))
+    (λ c. search needs) (λ c. search needs))

@@ -8,14 +8,16 @@ use Rattle.load_cases.proofs.ask.Tie as tie
 
 pub ask-spec : {M : Type 1} → statement M
 ask-spec =
-    tie.close (tie.spec (λ c κs. search needs) (λ c κs. search needs) (λ c. search needs) (λ c. search needs)
-    (λ c. search needs) (λ c. search needs) (λ c. search needs)
+    tie.close (tie.spec (λ c κs. search needs) (λ c κs. search needs) (λ c κs. search needs) (λ c. search needs)
+    (λ c. search needs) (λ c. search needs) (λ c. search needs) (λ c. search needs) (λ c. search needs)
     (λ c. let start : tie.Start = search in sym (length-take-le _ (start .args .ids .now) (omega arith)))
     (λ c. search needs)
     (λ c. let start : tie.Start = search in sym (length-take-le _ (start .args .groups .now) (omega arith)))
     (λ c. search needs)
     (λ c. let start : tie.Start = search in sym (length-take-le _ (start .args .marks .now) (omega arith)))
     (λ c. search needs)
+    (λ c. let start : tie.Start = search in sym (length-take-le _ (start .args .counts .now) (omega arith)))
+    (λ c. search needs)
     (λ c. let start : tie.Start = search in sym (length-take-le _ (start .args .levels .now) (omega arith)))
     (λ c κs. search needs) (λ c. search needs) (λ c. search needs) (λ c. search needs) (λ c. search needs)
-    (λ c. search needs))
+    (λ c. search needs) (λ c. search needs))
