@@ -3,7 +3,7 @@ use mathlib.Core.{Path._≡_, Path.refl, Path.ap, Path.fun-ext, Path._∙_, Bool
 use mathlib.Core.List.{List, [], _∷_, _++_, append-nil}
 use Prim.Native.Nat.{ℕ, _+_, _<_}
 use native.Mathlib.{Nat.add-zero, Omega.arith}
-use lib.Dec.{eqb}
+use lib.{ListN.set, Dec.eqb}
 use borrow.Author.Tests.{eqb-true, eq-eqb, ne-eqb}
 use Rattle.movement.specs.Limits.{groupCount}
 use Rattle.load_rules.specs.declared.Group.{Group}
@@ -11,8 +11,8 @@ use Rattle.load_rules.specs.Shares.{Share, energyIn, rowShare}
 use Rattle.load_rules.specs.Shares.Share.{has, lacks}
 use Rattle.load_rules.specs.Tally.{groupWith, addsComputed, addsMissing, addsEnergy, sumOf, tally}
 use Rattle.load_rules.proofs.TallyLaws.{sum-append}
-use Rattle.load.specs.InnerSteps.{table, groupAt, withGroup, withRow}
-use Rattle.load.proofs.CellLaws.{at-table, put-table}
+use Rattle.load.specs.InnerSteps.{flat, flatAt, withRow}
+use Rattle.load.proofs.CellLaws.{at-flat, put-flat}
 
 -- A group with one row more, by its mark
 
@@ -78,12 +78,11 @@ module _ (ss : List Share) (g h : ℕ) where
       go false = more-computed (energyIn g l)
 
 -- one row more that counts
-pub row-table : (ss : List Share) (g m c l : ℕ) → g < groupCount → (c ≡ 0 → ⊥)
-    → withGroup (table (tally ss)) g (withRow (groupAt (table (tally ss)) g) g m l)
-    ≡ table (tally (ss ++ rowShare g m c l))
-row-table ss g m c l h n =
-    rw (at-table (tally ss) g h, put-table (tally ss) (withRow (tally ss g) g m l) g h)
-    (ap table (fun-ext (λ k. more-row ss g k m c l n)))
+pub row-flat : (ss : List Share) (g m c l : ℕ) → g < groupCount → (c ≡ 0 → ⊥)
+    → set (flat (tally ss)) g (withRow (flatAt (flat (tally ss)) g) g m l) ≡ flat (tally (ss ++ rowShare g m c l))
+row-flat ss g m c l h n =
+    rw (at-flat (tally ss) g h, put-flat (tally ss) (withRow (tally ss g) g m l) g h)
+    (ap flat (fun-ext (λ k. more-row ss g k m c l n)))
 
 -- and one that doesn't
 pub row-left-out : (ss : List Share) (g m c l : ℕ) → c ≡ 0 → ss ++ rowShare g m c l ≡ ss

@@ -3,7 +3,7 @@ use mathlib.Core.{Path._≡_, Path.sym, Path.ap, Bool.Bool, Bool.true, Bool.fals
 use mathlib.Core.List.{List, [], _∷_, _++_}
 use Prim.Native.Nat.{ℕ, zero, suc, _+_, _*_, _≤_, _<_}
 use native.Mathlib.{Nat.suc-mul, Nat.mul-le-mul-right, Nat.add-mul, Numerals.add-one, Omega.arith}
-use lib.{ListN.length, ListN.getD, ListN.length-append, Dec.eqb, Dec.lit≤}
+use lib.{ListN.length, ListN.getD, ListN.set, ListN.length-append, Dec.eqb, Dec.lit≤}
 use Rattle.level.specs.Limits.{maxWeighted, maxMovements, maxEnergy}
 use Rattle.level.proofs.EnergyLaws.{energy-le}
 use Rattle.movement.specs.{Limits.maxLevel, Limits.groupCount, Period.weightOf, Group.groupPeriod}
@@ -16,8 +16,8 @@ use Rattle.load_rules.specs.Shares.{Share, energyIn, rowShare, sharesTo}
 use Rattle.load_rules.specs.Shares.Share.{has, lacks}
 use Rattle.load_rules.specs.Tally.{addsComputed, addsMissing, addsEnergy, sumOf, tally}
 use Rattle.load_rules.proofs.{SumLaws.sum-ext, TallyLaws.AllGrouped, TallyLaws.grouped-append, TallyLaws.counted-le}
-use Rattle.load.specs.InnerSteps.{table, groupAt, withGroup, RoomForOne, Bounded, withRow}
-use Rattle.load.proofs.{CellLaws.at-table, MoreRows.row-table, MoreRows.row-left-out}
+use Rattle.load.specs.InnerSteps.{table, groupAt, flat, flatAt, RoomForOne, Bounded, withRow}
+use Rattle.load.proofs.{CellLaws.at-table, CellLaws.at-flat, MoreRows.row-flat, MoreRows.row-left-out}
 
 -- Bounds of V, U and S
 
@@ -92,7 +92,7 @@ pub record Row (p pt : ℕ) (b : Book) (i : ℕ) : Type 0 where
   pub in-levels : i * p + pt < length (b .levels)
   pub group< : getD (b .groups) i 0 < groupCount
   pub level≤ : getD (b .levels) (i * p + pt) 0 ≤ maxLevel
-  pub room : RoomForOne (groupAt (table (tally (sharesTo p pt b i))) (getD (b .groups) i 0))
+  pub room : RoomForOne (flatAt (flat (tally (sharesTo p pt b i))) (getD (b .groups) i 0))
 
 module _ (p pt : ℕ) (b : Book) (ok : sound p b ≡ true) (there : pt < p) where
   row-group : (i : ℕ) → i < length (b .identities) → getD (b .groups) i 0 < groupCount
@@ -138,13 +138,13 @@ module _ (p pt : ℕ) (b : Book) (ok : sound p b ≡ true) (there : pt < p) wher
 
   -- room for one row more
   row-room : (i : ℕ) → i < length (b .identities)
-      → RoomForOne (groupAt (table (tally (sharesTo p pt b i))) (getD (b .groups) i 0))
+      → RoomForOne (flatAt (flat (tally (sharesTo p pt b i))) (getD (b .groups) i 0))
   row-room i h =
       let g = getD (b .groups) i 0 in
       let ss = sharesTo p pt b i in
       let t = tally-le ss g in
       let e = energy-small ss g (shares-small i (omega arith)) in
-      rw (at-table (tally ss) g (row-group i h))
+      rw (at-flat (tally ss) g (row-group i h))
       (record {
         computed = omega (arith, t .0, shares-length i, rows-le);
         missing = omega (arith, t .1, shares-length i, rows-le);
@@ -166,15 +166,15 @@ module _ (p pt : ℕ) (b : Book) (ok : sound p b ≡ true) (there : pt < p) wher
       }
 
   -- one row more is tallied where it counts
-  pub row-next : (i : ℕ) → i < length (b .identities) → (cells : List (List (List Group))) (next : Group)
-      → cells ≡ table (tally (sharesTo p pt b i)) → (getD (b .counts) (i * p + pt) 0 ≡ 0 → ⊥)
-      → next ≡ withRow (groupAt cells (getD (b .groups) i 0)) (getD (b .groups) i 0) (getD (b .marks) i 0)
+  pub row-next : (i : ℕ) → i < length (b .identities) → (cells : List Group) (next : Group)
+      → cells ≡ flat (tally (sharesTo p pt b i)) → (getD (b .counts) (i * p + pt) 0 ≡ 0 → ⊥)
+      → next ≡ withRow (flatAt cells (getD (b .groups) i 0)) (getD (b .groups) i 0) (getD (b .marks) i 0)
       (getD (b .levels) (i * p + pt) 0)
-      → withGroup cells (getD (b .groups) i 0) next ≡ table (tally (sharesTo p pt b (i + 1)))
+      → set cells (getD (b .groups) i 0) next ≡ flat (tally (sharesTo p pt b (i + 1)))
   unfolding sharesTo
   row-next i h cells next e n w =
       rw (add-one, w, e)
-      (row-table (sharesTo p pt b i) (getD (b .groups) i 0) (getD (b .marks) i 0) (getD (b .counts) (i * p + pt) 0)
+      (row-flat (sharesTo p pt b i) (getD (b .groups) i 0) (getD (b .marks) i 0) (getD (b .counts) (i * p + pt) 0)
       (getD (b .levels) (i * p + pt) 0) (row-group i h) n)
 
   -- and left out where it doesn't

@@ -3,7 +3,7 @@
 use Prim.Native.Nat.{ℕ, _+_, _*_, _/_, _%_, _≤_, _<_}
 use mathlib.Core.Bool.{cond, _&&_}
 use mathlib.Core.List.{List, []}
-use lib.ListN.{getD, set}
+use lib.ListN.{getD}
 use lib.Dec.{eqb, ltb}
 use Rattle.level.specs.Tables.{IsTableA, ArePowers}
 use Rattle.level.specs.Limits.{maxMovements, maxEnergy, maxTotal}
@@ -49,13 +49,16 @@ pub record Scalable (e upper lower : ℕ) : Type 0 where
 unfoldable pub table : (ℕ → Group) → List (List (List Group))
 table f = listFrom (λ t. listFrom (λ k. listFrom (λ d. f (6 * t + 3 * k + d)) 0 3) 0 2) 0 3
 
--- what stands at group g, and the same with c there
+-- what stands at group g
 unfoldable pub groupAt : List (List (List Group)) → ℕ → Group
 groupAt cs g = getD (getD (getD cs (g / 6) []) (g % 6 / 3) []) (g % 3) (groupWith 0 0 0)
 
-unfoldable pub withGroup : List (List (List Group)) → ℕ → Group → List (List (List Group))
-withGroup cs g c =
-    set cs (g / 6) (set (getD cs (g / 6) []) (g % 6 / 3) (set (getD (getD cs (g / 6) []) (g % 6 / 3) []) (g % 3) c))
+-- the same groups side by side, by number
+unfoldable pub flat : (ℕ → Group) → List Group
+flat f = listFrom f 0 groupCount
+
+unfoldable pub flatAt : List Group → ℕ → Group
+flatAt cs g = getD cs g (groupWith 0 0 0)
 
 -- groups that movements within the bounds could give
 pub record Bounded (cs : List (List (List Group))) : Type 0 where

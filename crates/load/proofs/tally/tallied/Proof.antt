@@ -1,97 +1,28 @@
--- `load::tally::tallied` meets its contract: the invariant is the table of the first rows. A sound book says that the
--- next row fits. Assumes nothing.
-use mathlib.Core.Path.{_≡_, sym, ap, subst, _∙_}
-use mathlib.Core.Logic.{⊎-elim}
-use Prim.Native.Nat.{_-_, _≤_}
-use native.Mathlib.Omega.{arith}
-use lib.ListN.{length, getD}
+-- `load::tally::tallied` meets its contract: by that of `with_rows`, from one form of the groups to the other and back.
+-- Assumes nothing.
+use mathlib.Core.{Path._≡_, Path.ap, Path._∙_, List.[]}
 use borrow.Author.Needs.{needs}
-use Rattle.book_rules.specs.Columns.{Book, bookOf, bookNow}
-use Rattle.load_rules.specs.{Shares.sharesTo, Shares.bookShares, Tally.tally}
-use Rattle.load.specs.InnerSteps.{table, groupAt, withGroup, RoomForOne}
-use Rattle.load.proofs.RowLaws.{Row, row-at, row-next, row-skipped}
+use Rattle.load_rules.specs.Tally.{tally}
+use Rattle.load.specs.InnerSteps.{table, groupAt, flat, flatAt}
+use Rattle.load.proofs.CellLaws.{flat-table, table-flat}
 use Rattle.load.proofs.tally.tallied.Statement.{statement}
 use Rattle.load.proofs.tally.tallied.Tie as tie
 
-abbrev Inv-loop : tie.InvT-loop
-Inv-loop a powers ids groups marks counts levels points point cells₀ i₀ cells i =
-    (i ≤ length ids) × (cells ≡ table (tally (sharesTo points point (bookOf ids groups marks counts levels) i)))
-
-abbrev μ-loop : tie.MeasureT-loop
-μ-loop a powers ids groups marks counts levels points point cells₀ i₀ cells i = length ids - i
-
--- the function's entry, and the book there
-abbrev entry : tie.In-loop Inv-loop μ-loop → tie.Start Inv-loop μ-loop
-entry c = search
-
-abbrev book : tie.Start Inv-loop μ-loop → Book
-book s = bookNow (s .args .ids) (s .args .groups) (s .args .marks) (s .args .counts) (s .args .levels)
-
--- the row that a turn reads
-row : (c : tie.In-loop Inv-loop μ-loop)
-    → Row (entry c .args .points) (entry c .args .point) (book (entry c)) (c .before .loop .i)
-row c =
-    row-at (entry c .args .points) (entry c .args .point) (book (entry c)) (entry c .pre .1 .0) (entry c .pre .1 .1)
-    (c .before .loop .i) (c .loop-test .taken)
-
--- the turn in which a row that counts is read, and the one in which it is stored
-abbrev reading : tie.After-shared-slice-known7 Inv-loop μ-loop → tie.In-loop Inv-loop μ-loop
-reading c = c .before .before .before
-
-abbrev storing : tie.After-with-row Inv-loop μ-loop → tie.In-loop Inv-loop μ-loop
-storing c = reading (c .before .before .before .before)
-
-with-row-requires : tie.Need-with-row-requires Inv-loop μ-loop
-unfolding groupAt
-with-row-requires c κs =
-    let d : tie.In-loop Inv-loop μ-loop = search in
-    let g = getD (entry d .args .groups .now) (d .before .loop .i) 0 in (
+with-rows-requires : tie.Need-with-rows-requires
+with-rows-requires c κs =
+    let s : tie.Start = search in (
       (
-        subst (λ cs. RoomForOne (groupAt cs g)) (sym (d .before .loop .inv .1)) (row d .room),
-        row d .group<,
-        row d .level≤,
+        c .side-by-side .ensures ∙ ap (λ cs. flat (groupAt cs)) (s .pre .0 .0) ∙ flat-table (tally []),
+        s .pre .0 .1,
       ),
-      entry d .pre .0 .1,
+      s .pre .1,
     )
 
-loop-again : tie.Need-loop-again Inv-loop μ-loop
-unfolding groupAt withGroup
-loop-again c =
-    let d : tie.In-loop Inv-loop μ-loop = search in
-    let s = entry d in
-    let p = s .args .points in
-    let pt = s .args .point in
-    let i = d .before .loop .i in (
-      omega arith,
-      ⊎-elim
-          (λ w. w .6 ∙ row-next p pt (book s) (s .pre .1 .0) (s .pre .1 .1) i (d .loop-test .taken)
-          (d .before .loop .cells) (w .5 .result) (d .before .loop .inv .1) (w .0 .taken) (w .5 .ensures))
-          (λ w. w .1 ∙ d .before .loop .inv .1
-          ∙ ap (λ ss. table (tally ss)) (row-skipped p pt (book s) (s .pre .1 .0) (s .pre .1 .1) i (w .0 .left)))
-          (c .if1 .came),
-    )
-
-returns : tie.Need-returns Inv-loop μ-loop
-unfolding bookShares
+returns : tie.Need-returns
 returns c =
-    let s : tie.Start Inv-loop μ-loop = search in
-    let e : c .before .loop .i ≡ length (s .args .ids .now) = omega arith in
-    c .before .loop .inv .1 ∙ ap (λ n. table (tally (sharesTo (s .args .points) (s .args .point) (book s) n))) e
+    let rows : tie.After-with-rows = search in
+    c .arranged .ensures ∙ ap (λ cs. table (flatAt cs)) (rows .with-rows .ensures) ∙ table-flat _
 
 pub tallied-spec : {M : Type 1} → statement M
 tallied-spec =
-    tie.close (tie.spec Inv-loop μ-loop
-    (λ c. unfold sharesTo in (omega arith, let s : tie.Start Inv-loop μ-loop = search in s .pre .0 .0))
-    (λ c. omega (arith, row c .in-levels, entry c .good)) (λ c. omega (arith, row c .in-levels, entry c .good))
-    (λ c. omega (arith, row c .in-levels, entry c .good)) (λ c. row (c .before) .in-counts) (λ c. search needs)
-    (λ c. row (reading c) .in-groups) (λ c. omega (arith, row (reading c) .group<))
-    (λ c. omega (arith, row (reading c) .group<)) (λ c. omega (arith, row (reading c) .group<))
-    (λ c. omega (arith, row (reading c) .group<)) (λ c. omega (arith, row (reading c) .group<))
-    (λ c. omega (arith, row (reading c) .group<)) (λ c. omega (arith, row (reading c) .group<)) (λ c. search needs)
-    (λ c. row (reading (c .before .before)) .in-marks)
-    (λ c. let d = reading (c .before .before) in omega (arith, row d .in-levels, entry d .good))
-    (λ c. row (reading (c .before .before .before)) .in-levels) with-row-requires
-    (λ c. omega (arith, row (storing c) .group<)) (λ c. omega (arith, row (storing c) .group<))
-    (λ c. omega (arith, row (storing c) .group<)) (λ c. omega (arith, row (storing c) .group<))
-    (λ c. omega (arith, row (storing c) .group<)) (λ c. omega (arith, row (storing c) .group<))
-    (λ c. search needs) (λ c. search needs) loop-again returns)
+    tie.close (tie.spec (λ c κs. search needs) with-rows-requires (λ c κs. search needs) returns)
