@@ -60,22 +60,18 @@ held-end cs ls i h k = rw (within-end maxLevel ls i k) (elsewhere-end cs ls i h)
 
 pub row-light : (x g m : ℕ) (cs ls : List ℕ) → cellsSound 1 1 cs ls ≡ true
     → rowSound x g m cs ls
-    ≡ (headSound x g m && (cond (eqb x 0) (allWithin 0 cs) true && cond (eqb m 0) (allWithin 0 ls) true))
-unfolding rowSound cellsSound topCount topLevel
+    ≡ (headSound x g m && (cond (eqb x 0) (allWithin 0 cs) true && allWithin (topLevel m) ls))
+unfolding rowSound cellsSound topCount
 row-light x g m cs ls e =
     let counted = and-left (allWithin maxCount cs) _ e in
-    let rest = and-right (allWithin maxCount cs) _ e in
-    let held = and-left (allWithin maxLevel ls) _ rest in
-    let silent = and-right (allWithin maxLevel ls) _ rest in
-    ap (λ (b : Bool). headSound x g m && b) (by (eqb x 0) (eqb m 0) counted held silent)
+    let silent = and-right (allWithin (topLevel 1) ls) _ (and-right (allWithin maxCount cs) _ e) in
+    ap (λ (b : Bool). headSound x g m && b)
+    (rw (silent, and-true (allWithin (topLevel m) ls)) (by (eqb x 0) (allWithin (topLevel m) ls) counted))
   where
-    by : (s t : Bool) → allWithin maxCount cs ≡ true → allWithin maxLevel ls ≡ true → zeroElsewhere cs ls ≡ true
-        → (allWithin (cond s 0 maxCount) cs && (allWithin (cond t 0 maxLevel) ls && zeroElsewhere cs ls))
-        ≡ (cond s (allWithin 0 cs) true && cond t (allWithin 0 ls) true)
-    by true true a b z = rw z (ap (λ (k : Bool). allWithin 0 cs && k) (and-true (allWithin 0 ls)))
-    by true false a b z = rw (b, z) refl
-    by false true a b z = rw (a, z) (and-true (allWithin 0 ls))
-    by false false a b z = rw (a, b, z) refl
+    by : (s r : Bool) → allWithin maxCount cs ≡ true
+        → (allWithin (cond s 0 maxCount) cs && r) ≡ (cond s (allWithin 0 cs) true && r)
+    by true r a = refl
+    by false r a = rw a refl
 
 -- All rows
 

@@ -125,6 +125,21 @@ fn cells_sound(counts: &[u32], levels: &[u32]) -> bool
     refusal::both(counted, held)
 }
 
+// Whether no level is over `top`. It reads them all: to leave at once the rows that may have levels costs more.
+fn row_within(levels: &[u32], top: u32) -> bool
+    ensures { λ r. ⌜ r ≡ allWithin top (now (levels .entry)) ⌝ }
+{
+    let mut within = true;
+    let mut i = 0;
+    while i < levels.len() {
+        if top < levels[i] {
+            within = false;
+        }
+        i += 1;
+    }
+    within
+}
+
 // Whether all values are zero, where `says` is.
 fn zero_with(says: u32, values: &[u32]) -> bool
     ensures { λ r. ⌜ r ≡ cond (eqb says 0) (allWithin 0 (now (values .entry))) true ⌝ }
@@ -146,7 +161,7 @@ fn row_sound(x: u32, g: u32, m: u32, counts: &[u32], levels: &[u32]) -> bool
     if !zero_with(x, counts) {
         return false;
     }
-    zero_with(m, levels)
+    row_within(levels, top_level(m))
 }
 
 // Whether every row is sound by itself, where what rows have at each point would be if all were used and computed.

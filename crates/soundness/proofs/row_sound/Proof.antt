@@ -28,14 +28,16 @@ returns-3 c =
     let told : tie.After-head-sound = search in
     let zeros : tie.After-zero-with = search in
     let left1 : tie.Else1 = search in
-    c .zero-with2 .ensures
+    let left2 : tie.Else2 = search in
+    c .row-within .ensures
     ∙ rw (
       row-light _ _ _ _ _ (start .pre),
       passed (told .head-sound .ensures) (left1 .if1 .left),
-      passed (zeros .zero-with .ensures) (c .before .if2 .left),
+      passed (zeros .zero-with .ensures) (left2 .if2 .left),
+      ← c .before .top-level .ensures,
     )
 
 pub row-sound-spec : {M : Type 1} → statement M
 row-sound-spec =
     tie.close (tie.spec (λ c κs. search needs) returns (λ c κs. search needs) returns-2 (λ c κs. search needs)
-    returns-3)
+    (λ c κs. search needs) returns-3)
