@@ -3,7 +3,8 @@
 -- rows to the list of movements; `Finding` and `Listed`: how rows and the list are found; `Kept`: calls keep a book
 -- sound; `Rooms`: what a call's rows may rely on.
 -- Theorems: `History` (any calls on an empty book), `Chain` (calls that are really made), `SoundBook` (soundness in
--- the rules' words), `Order` (each refusal for its reason), `Lookup` and `Outcome` (what a call does, by look-up).
+-- the rules' words), `Order` (each refusal for its reason), `Lookup` and `Outcome` (what a call does, by look-up),
+-- `ByPlace` (look-up itself, value by value).
 pub mod Scans
 pub mod Cells
 pub mod Search
@@ -25,3 +26,4 @@ pub mod Order
 pub mod Listed
 pub mod Lookup
 pub mod Outcome
+pub mod ByPlace

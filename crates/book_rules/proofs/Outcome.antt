@@ -1,9 +1,9 @@
 -- Every outcome that a call's contract allows means what the rules say. Assumes nothing.
 use mathlib.Core.{Path._≡_, Path.refl, Path.sym, Path.ap, Path.subst, Path._∙_, Bool.Bool, Bool.true, Bool.false}
-use mathlib.Core.List.{List, [], _∷_}
+use mathlib.Core.{Logic.⊎-elim, List.List, List.[], List._∷_}
 use Prim.Native.Nat.{ℕ, _≤_, _<_}
 use native.Mathlib.Omega.{arith}
-use lib.{ListN.length, ListN.replicate, ListN.length-replicate, Dec.eqb, Dec.ltb}
+use lib.{ListN.length, ListN.replicate, ListN.length-replicate, ListN.getD, Dec.eqb, Dec.ltb}
 use borrow.Author.Tests.{le-leb, ltb-true, ltb-false, eqb-true, eqb-false}
 use Rattle.refusal.proofs.Ranges.{within-at}
 use Rattle.movement.specs.{Limits.maxPoints, Limits.maxRows, Limits.maxCount, Ranges.CountsInRange}
@@ -13,6 +13,7 @@ use Rattle.book_rules.specs.{History.sizesFit, Lookup.found, Lookup.rowH
 use Rattle.book_rules.specs.History.Held.{none, holds}
 use Rattle.book_rules.specs.Lookup.Row.{nowhere}
 use Rattle.book_rules.specs.Outcome.{CallHolds, FoundListed, EmptyHolds, MayCountNowhere, FoundAlike}
+use Rattle.book_rules.specs.{Outcome.OnlyElsewhere, Reasons.Levels, Calls.Call.supply}
 use Rattle.book_rules.proofs.Standing.{AllGood, Below, Rising, zeros-within}
 use Rattle.book_rules.proofs.{Reading.book-read, Kept.read-rows, History.told-all, History.history-sound}
 use Rattle.book_rules.proofs.{Accepted.after-refused, SoundBook.sound-exactly, Order.refusal-order}
@@ -55,6 +56,29 @@ may-count-nowhere p b x t k s m book f heavy range new room =
       yes-or-no = λ j h. within-at maxCount (replicate p 0) j (zeros-within maxCount p);
     } in
     enters-freely p b x t k s m (replicate p 0) book nowhere-at f heavy range new room
+
+pub only-elsewhere : (p : ℕ) (b : Book) (x : ℕ) → OnlyElsewhere p b x
+only-elsewhere p b x =
+    record {
+      everywhere = λ ls one e.
+          let first = refusal-order p b (supply x ls) in
+          let sound = first .otherwise (λ z. omega (arith, first .given z)) in
+          let identity = sound .otherwise (λ z. omega (arith, sound .given z)) in
+          let levels = identity .otherwise (λ z. omega (arith, identity .given z)) in
+          let stands = levels .otherwise (λ z. omega (arith, levels .given z)) in
+          let last = stands .otherwise (λ n. n (λ j h z. absurd (omega (arith, one j h)))) in
+          omega arith;
+      zeros = λ book range stood.
+          let zero-at : (j : ℕ) → getD (replicate p 0) j 0 ≤ 0 =
+          λ j. within-at 0 (replicate p 0) j (zeros-within 0 p) in
+          let all : Levels p (replicate p 0) = record {
+            number = length-replicate {A = ℕ} p 0;
+            range = λ j h. omega (arith, zero-at j);
+          } in
+          let first = refusal-order p b (supply x (replicate p 0)) .otherwise (λ n. n book) in
+          let levels = first .otherwise (⊎-elim (λ z. omega arith) (λ z. omega arith)) .otherwise (λ n. n all) in
+          levels .otherwise stood .otherwise (λ n. n (λ j h z. omega (arith, zero-at j)));
+    }
 
 -- Look-up says everything
 

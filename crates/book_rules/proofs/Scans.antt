@@ -1,17 +1,13 @@
 -- Laws for the loops that read a column from its front: what the whole says, said of what is still to be read. Assumes
 -- nothing.
 use mathlib.Core.{Path._≡_, Path.refl, Path.sym, Path.ap, Path._∙_, Bool.Bool, Bool.true, Bool.false, Bool._&&_}
-use mathlib.Core.Bool.{_||_}
 use mathlib.Core.List.{List, [], _∷_}
 use Prim.Native.Nat.{ℕ, _+_, _-_, _*_, _≤_, _<_}
 use native.Mathlib.{Nat.mul-le-mul, Nat.mul-le-mul-right, Nat.suc-mul, Numerals.add-one, Omega.arith}
 use lib.{ListN.length, ListN.take, ListN.drop, ListN.getD, ListN.drop-of-length-le, ListN.length-drop, Seq.drop-drop}
-use lib.Dec.{eqb, leb, ltb}
 use mir.{Syntax.w64, Val.Fits}
-use Rattle.refusal.specs.Range.{allWithin}
-use Rattle.refusal.proofs.Ranges.{drop-more, within-more, within-end}
-use Rattle.movement.specs.{Limits.maxRows, Limits.maxPoints, Rules.zeroElsewhere}
-use Rattle.movement.proofs.Elsewhere.{elsewhere-more, elsewhere-end}
+use Rattle.refusal.proofs.Ranges.{drop-more}
+use Rattle.movement.specs.Limits.{maxRows, maxPoints}
 use Rattle.book_rules.specs.Columns.{follows, followed, rising, rowSound, rowsSound}
 
 -- the identities rise so far
@@ -32,33 +28,6 @@ rise-short (x ∷ (y ∷ ys)) h = absurd (omega arith)
 
 pub rise-end : (xs : List ℕ) (i : ℕ) → length xs ≤ i + 1 → rising (drop i xs) ≡ true
 rise-end xs i h = rise-short (drop i xs) (omega (arith, length-drop i xs))
-
--- a row's values are sound so far: none that counts over `most`, no level over `top`, and zero where it doesn't count
-abbrev pub cellsWithin : (most top : ℕ) (cs ls : List ℕ) → Bool
-cellsWithin most top cs ls = allWithin most cs && (allWithin top ls && zeroElsewhere cs ls)
-
-regroup : (a b c d e f : Bool) → ((a && b) && ((c && d) && (e && f))) ≡ ((a && (c && e)) && (b && (d && f)))
-regroup false b c d e f = refl
-regroup true false false d e f = refl
-regroup true true false d e f = refl
-regroup true b true d true f = refl
-regroup true false true d false f = refl
-regroup true true true false false f = refl
-regroup true true true true false f = refl
-
-pub cells-more : (most top : ℕ) (cs ls : List ℕ) (i : ℕ) {t : Bool} → i < length cs → i < length ls
-    → t
-    ≡ (leb (getD cs i 0) most && (leb (getD ls i 0) top && (ltb 0 (getD cs i 0) || eqb (getD ls i 0) 0)))
-    → cellsWithin most top (drop i cs) (drop i ls) ≡ (t && cellsWithin most top (drop (i + 1) cs) (drop (i + 1) ls))
-cells-more most top cs ls i h k e =
-    rw (within-more most cs i h refl, within-more top ls i k refl, elsewhere-more cs ls i h k refl, e)
-    (regroup (leb (getD cs i 0) most) (allWithin most (drop (i + 1) cs)) (leb (getD ls i 0) top)
-    (allWithin top (drop (i + 1) ls)) (ltb 0 (getD cs i 0) || eqb (getD ls i 0) 0)
-    (zeroElsewhere (drop (i + 1) cs) (drop (i + 1) ls)))
-
-pub cells-end : (most top : ℕ) (cs ls : List ℕ) (i : ℕ) → length cs ≤ i → length ls ≤ i
-    → cellsWithin most top (drop i cs) (drop i ls) ≡ true
-cells-end most top cs ls i h k = rw (within-end most cs i h, within-end top ls i k) (elsewhere-end cs ls i h)
 
 -- the rows are sound so far: row i is its three values, and the part from i * p on of each column of p a row
 pub room : (p i at rows cells : ℕ) → at ≡ i * p → i < rows → cells ≡ rows * p → at + p ≤ cells

@@ -8,3 +8,4 @@ pub mod Lookup
 pub mod Order
 pub mod Outcome
 pub mod Chain
+pub mod ByPlace

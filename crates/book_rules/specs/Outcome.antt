@@ -2,14 +2,14 @@
 use Prim.Native.Nat.{ℕ, _≤_, _<_}
 use mathlib.Core.Path.{_≡_}
 use mathlib.Core.List.{List}
-use lib.ListN.{length, replicate}
+use lib.ListN.{length, getD, replicate}
 use Rattle.book_rules.specs.Columns.{Book}
 use Rattle.book_rules.specs.Calls.{Call, refusal}
-use Rattle.book_rules.specs.Calls.Call.{enter}
+use Rattle.book_rules.specs.Calls.Call.{enter, supply}
 use Rattle.book_rules.specs.History.{Made, movements, booked, emptyBook}
 use Rattle.book_rules.specs.Reasons.{Fields, Full}
 use Rattle.book_rules.specs.SoundBook.{SoundBook}
-use Rattle.book_rules.specs.Lookup.{found, listed, Does}
+use Rattle.book_rules.specs.Lookup.{found, countsFound, listed, Does}
 use Rattle.book_rules.specs.Lookup.Row.{nowhere}
 use Rattle.book_rules.specs.Order.{InOrder}
 
@@ -37,6 +37,14 @@ abbrev pub MayCountNowhere : (p : ℕ) (b : Book) → Type 0
 MayCountNowhere p b =
     (x t k s m : ℕ) → SoundBook p b → Fields t k s m → 150 < m → (1 ≤ x) × (x ≤ 99999)
     → found x p b ≡ nowhere → (Full b → ⊥) → refusal p b (enter x t k s m (replicate p 0)) ≡ 0
+
+-- what 19 leaves as it was: a movement that counts at every point is never refused it, and zeros are supplied to any
+-- movement that stands, wherever it counts
+pub record OnlyElsewhere (p : ℕ) (b : Book) (x : ℕ) : Type 0 where
+  pub everywhere : (ls : List ℕ) → ((j : ℕ) → j < p → getD (countsFound (found x p b)) j 0 ≡ 1)
+      → refusal p b (supply x ls) ≡ 19 → ⊥
+  pub zeros : SoundBook p b → (1 ≤ x) × (x ≤ 99999) → (found x p b ≡ nowhere → ⊥)
+      → refusal p b (supply x (replicate p 0)) ≡ 0
 
 -- look-up says everything: two sound books of as many rows in which each identity is found alike are one
 abbrev pub FoundAlike : (p : ℕ) (b b′ : Book) → Type 0

@@ -3,10 +3,10 @@ use mathlib.Core.Path.{_≡_, refl, sym, ap, _∙_}
 use mathlib.Core.List.{List, _∷_, _++_, append-nil, append-assoc}
 use Prim.Native.Nat.{ℕ, zero, suc, _+_, _-_, _≤_}
 use native.Mathlib.{Nat.le-of-eq, Omega.arith}
-use lib.ListN.{length, take, drop, replicate, length-drop, length-append, length-replicate, take-append-drop}
+use lib.ListN.{length, take, drop, replicate, length-drop, length-append, take-append-drop}
 use lib.ListN.{replicate-append-replicate}
 use lib.Seq.{take-at, drop-at, take-append-add, take-all, drop-length, drop-drop, length-take-le}
-use borrow.Rule.Slice.PartMut.{midOf, postOf, putMid, post-is, mid-len}
+use borrow.Rule.Slice.PartMut.{midOf, putMid, post-is, mid-len}
 use Rattle.room.specs.Room.{put}
 use Rattle.book_rules.specs.{Columns.opened, Columns.closed, InnerRows.ZeroFrom}
 

@@ -10,11 +10,11 @@ use Rattle.movement.specs.{Period.periodNumbered, Group.groupPeriod}
 use Rattle.book_rules.specs.Columns.{Book}
 use Rattle.book_rules.specs.History.{Movement, Made, emptyBook, booked, movements}
 use Rattle.load_rules.specs.declared.Group.{Group}
-use Rattle.load_rules.specs.{Shares.Share, Shares.sharesOf, Tally.tally, Factors.sumTo, Load.answer}
-use Rattle.load_rules.specs.Afresh.{computedIn, missingIn, energyOfGroup, loadAfter}
-use Rattle.load_rules.specs.Account.{groupsOf, accountOf, accountAfter}
+use Rattle.load_rules.specs.{Shares.Share, Shares.Everywhere, Shares.sharesOf, Tally.tally, Factors.sumTo, Load.answer}
+use Rattle.load_rules.specs.Afresh.{computedIn, missingIn, energyOfGroup, loadAfter, standingAt}
+use Rattle.load_rules.specs.Account.{groupsOf, accountOf, accountAfter, AccountTells}
 use Rattle.load_rules.proofs.{SumLaws.sum-ext, ListLaws.list-computed, ListLaws.list-missing, ListLaws.list-energy}
-use Rattle.load_rules.proofs.HistoryLaws.{history-shares}
+use Rattle.load_rules.proofs.{HistoryLaws.history-shares, Brings.each-brings}
 use Rattle.load_rules.proofs.Accounts.{account-group, account-whole, accounts-each}
 use Rattle.text.specs.Sheet.{ended, line}
 use Rattle.text.specs.{Line.linesOf, Field.fieldOf, Index.many, Number.showNumber, Letter.showLetter}
@@ -27,7 +27,7 @@ use Rattle.report_rules.proofs.WholeText.{last-ended}
 use Rattle.explain_text.specs.declared.amounts.Amounts.{Amounts}
 use Rattle.explain_text.specs.Text.{groupAmounts, allAmounts, periodText, factorText, groupFields, allFields, stands}
 use Rattle.explain_text.specs.Text.{linesAt, linesTo, headerLine, pointsText, explainText}
-use Rattle.explain_text.proofs.Told.{point-answered}
+use Rattle.report_text.proofs.Judging.{point-answered}
 use Rattle.explain_rules.specs.Says.{hasMovement, linesEach, placeOf, NineFields, FactorSays, NamesSay}
 use Rattle.explain_rules.specs.Says.{GroupSays, AllSay, PointSays, textAfter, ExplainSays, ExplainText}
 use Rattle.explain_rules.proofs.Fields.{group-commas, group-field, all-commas, all-field}
@@ -78,7 +78,7 @@ module _ (pt g : ℕ) (h : g < 18) (a : Amounts) where
 
 -- The whole text
 
-module _ (l : LimitsFile) (n : ℕ) (cs : List Made)
+module _ (l : LimitsFile) (n : ℕ) (cs : List Made) (everywhere : Everywhere (l .points) (movements (l .points) n cs))
     (reported : bookRefusal l (booked (emptyBook (l .points) n) cs) ≡ 0) where
   abbrev p : ℕ
   p = l .points
@@ -89,14 +89,25 @@ module _ (l : LimitsFile) (n : ℕ) (cs : List Made)
   abbrev ms : List Movement
   ms = movements (l .points) n cs
 
-  -- each point is answered, since the first one is
+  -- each point is answered, and counts all that stands
   answered : (pt : ℕ) → pt < p → loadAfter p n pt cs (l .days) .refused ≡ 0
-  unfolding bookRefusal
-  answered pt h = point-answered p pt b (l .days) reported h
+  answered pt h = point-answered p (l .days) b p pt reported h
+
+  standing-at : (pt : ℕ) → pt < p → standingAt p n pt cs ≡ ms
+  standing-at pt h = each-brings pt .everybody p ms h everywhere
+
+  tells : (pt : ℕ) → pt < p
+      → AccountTells (λ g. computedIn g ms) (λ g. missingIn g ms) (λ g. energyOfGroup pt g ms)
+      (loadAfter p n pt cs (l .days)) (accountAfter p n pt cs (l .days))
+  tells pt h =
+      subst (λ (ks : List Movement). AccountTells (λ g. computedIn g ks) (λ g. missingIn g ks)
+      (λ g. energyOfGroup pt g ks) (loadAfter p n pt cs (l .days)) (accountAfter p n pt cs (l .days)))
+      (standing-at pt h) (accounts-each p n pt cs (l .days) (answered pt h) .tells)
 
   -- V, U and S of a group
   group-is : (pt g : ℕ) → pt < p → groupsOf p pt b g ≡ tally (sharesOf pt ms) g
-  group-is pt g h = ap (λ (ss : List Share). tally ss g) (history-shares p pt n cs h)
+  group-is pt g h =
+      ap (λ (ss : List Share). tally ss g) (history-shares p pt n cs h ∙ ap (sharesOf pt) (standing-at pt h))
 
   v-is : (pt g : ℕ) → pt < p → groupsOf p pt b g .computed ≡ computedIn g ms
   v-is pt g h = ap (λ (c : Group). c .computed) (group-is pt g h) ∙ list-computed pt g ms
@@ -194,7 +205,7 @@ module _ (l : LimitsFile) (n : ℕ) (cs : List Made)
   all-say pt h =
       let f = groupsOf p pt b in
       let a = allAmounts f in
-      let each = accounts-each p n pt cs (l .days) (answered pt h) in
+      let standing = accounts-each p n pt cs (l .days) (answered pt h) .standing ∙ ap length (standing-at pt h) in
       let whole = account-whole f (l .days) in
       record {
         nine = record { commas = all-commas pt a; number = all-field pt a 0 (omega arith) };
@@ -205,19 +216,18 @@ module _ (l : LimitsFile) (n : ℕ) (cs : List Made)
         missing = all-field pt a 5 (omega arith) ∙ ap showNumber (sum-ext _ _ 18 (λ g k. u-is pt g h));
         factor =
             factor-says (a .upper) (a .lower) (all-field pt a 6 (omega arith))
-            (sym (whole 0) ∙ each .standing) (sym (whole 1) ∙ each .tells .lower);
-        energy = all-field pt a 7 (omega arith) ∙ ap showNumber (sym (whole 2) ∙ each .tells .summed);
-        counted = all-field pt a 8 (omega arith) ∙ ap showNumber (sym (whole 3) ∙ each .tells .total);
+            (sym (whole 0) ∙ standing) (sym (whole 1) ∙ tells pt h .lower);
+        energy = all-field pt a 7 (omega arith) ∙ ap showNumber (sym (whole 2) ∙ tells pt h .summed);
+        counted = all-field pt a 8 (omega arith) ∙ ap showNumber (sym (whole 3) ∙ tells pt h .total);
       }
 
   point-says : (pt : ℕ) → pt < p
       → PointSays pt ms (loadAfter p n pt cs (l .days) .total) (linesOf (textAfter l n cs))
   point-says pt h =
-      let tells = accounts-each p n pt cs (l .days) (answered pt h) .tells in
       record {
         gives = λ g. getD (numbers pt) (4 * g + 3) 0;
-        scaled = tells .scaled;
-        nothing = tells .nothing;
+        scaled = tells pt h .scaled;
+        nothing = tells pt h .nothing;
         groups = λ g k some. rw (group-line pt g h k some) (group-says pt g h k);
         all = rw (all-line pt h) (all-say pt h);
       }

@@ -8,6 +8,7 @@ use lib.ListN.{length, getD}
 use lib.Dec.{ltb}
 use Rattle.level.specs.Neighbours.{Quotient}
 use Rattle.book_rules.specs.History.{Movement, Made, emptyBook, booked, movements}
+use Rattle.load_rules.specs.Shares.{Everywhere}
 use Rattle.load_rules.specs.Factors.{sumTo}
 use Rattle.load_rules.specs.Afresh.{computedIn, missingIn, energyOfGroup, loadAfter}
 use Rattle.text.specs.Line.{linesOf}
@@ -112,8 +113,10 @@ pub record ExplainSays (l : LimitsFile) (n : ℕ) (cs : List Made) : Type 0 wher
   pub before : List ℕ
   pub ended : textAfter l n cs ≡ before ++ (13 ∷ 10 ∷ [])
 
--- a refusal of the whole book is the report's, to its last byte; any other book is explained
+-- a refusal of the whole book is the report's, to its last byte; any other book, where each movement counts at every
+-- point as a register's rows do, is explained
 pub record ExplainText (l : LimitsFile) (n : ℕ) (cs : List Made) : Type 0 where
   pub refused : (bookRefusal l (booked (emptyBook (l .points) n) cs) ≡ 0 → ⊥)
       → textAfter l n cs ≡ bookText l (booked (emptyBook (l .points) n) cs)
-  pub says : bookRefusal l (booked (emptyBook (l .points) n) cs) ≡ 0 → ExplainSays l n cs
+  pub says : Everywhere (l .points) (movements (l .points) n cs)
+      → bookRefusal l (booked (emptyBook (l .points) n) cs) ≡ 0 → ExplainSays l n cs

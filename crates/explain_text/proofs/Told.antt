@@ -110,10 +110,3 @@ module _ (p pt : ℕ) (b : Book) (days : ℕ) (answered : bookLoad p pt b days .
 pub account-long : (p pt : ℕ) (b : Book) (days : ℕ) → length (accountOf p pt b days) ≡ 78
 unfolding accountOf
 account-long p pt b days = length-account (groupsOf p pt b) days
-
--- every point is answered, since the first one is
-pub point-answered : (p pt : ℕ) (b : Book) (days : ℕ) → bookLoad p 0 b days .refused ≡ 0 → pt < p
-    → bookLoad p pt b days .refused ≡ 0
-point-answered p pt b days z h =
-    let k = book-refusals p 0 b days .load .answered .0 z in
-    book-refusals p pt b days .load .answered .1 ((k .0 .0, h), k .1)

@@ -1,9 +1,9 @@
 // The text of how each load comes about, put into a buffer that has room for the longest.
 use crate::lines::put_point;
 use load::account::account_at;
-use load::load_at;
 use register::limits_csv::LimitsFile;
 use report_text::core::Report;
+use report_text::core::book_refusal;
 use text::core::put_end;
 use text::core::put_refused;
 use text::core::put_text;
@@ -46,21 +46,23 @@ fn put_answered(
     ids: &[u32],
     groups: &[u32],
     marks: &[u32],
+    counts: &[u32],
     levels: &[u32],
     points: usize,
     point: usize,
     days: u32,
 ) -> usize
     requires { ⌜ (point < maxPoints) × (at + longestPoint ≤ length (now out)) ⌝ }
-    requires { ⌜ bookLoad points point (bookNow ids groups marks levels) days .refused ≡ 0 ⌝ }
+    requires { ⌜ bookLoad points point (bookNow ids groups marks counts levels) days .refused ≡ 0 ⌝ }
     ensures { λ r. ⌜ WroteWithin longestPoint (now (out .entry)) at
-        (ended (linesAt points point (bookBefore ids groups marks levels))) (now (out .exit)) r ⌝ }
+        (ended (linesAt points point (bookBefore ids groups marks counts levels))) (now (out .exit)) r ⌝ }
 {
     let mut numbers = [0u64; 78];
     account_at(
         ids,
         groups,
         marks,
+        counts,
         levels,
         points,
         point,
@@ -76,12 +78,13 @@ fn put_points(
     ids: &[u32],
     groups: &[u32],
     marks: &[u32],
+    counts: &[u32],
     levels: &[u32],
     limits: LimitsFile,
 ) -> usize
     requires { ⌜ LimitsFit limits × (longestText ≤ length (now out)) ⌝ }
-    requires { ⌜ bookRefusal limits (bookNow ids groups marks levels) ≡ 0 ⌝ }
-    ensures { λ r. ⌜ Wrote (now (out .entry)) 0 (pointsText limits (bookBefore ids groups marks levels))
+    requires { ⌜ bookRefusal limits (bookNow ids groups marks counts levels) ≡ 0 ⌝ }
+    ensures { λ r. ⌜ Wrote (now (out .entry)) 0 (pointsText limits (bookBefore ids groups marks counts levels))
         (now (out .exit)) r ⌝ }
 {
     let points = limits.points as usize;
@@ -89,7 +92,18 @@ fn put_points(
     let mut at = put_header(out);
     let mut point = 0;
     while point < points {
-        at = put_answered(out, at, ids, groups, marks, levels, points, point, days);
+        at = put_answered(
+            out,
+            at,
+            ids,
+            groups,
+            marks,
+            counts,
+            levels,
+            points,
+            point,
+            days,
+        );
         point += 1;
     }
     at
@@ -101,20 +115,20 @@ pub fn put_explained(
     ids: &[u32],
     groups: &[u32],
     marks: &[u32],
+    counts: &[u32],
     levels: &[u32],
     limits: LimitsFile,
 ) -> Report
     requires { ⌜ LimitsFit limits × (longestText ≤ length (now out)) ⌝ }
-    ensures { λ r. ⌜ Explained limits (bookBefore ids groups marks levels) (now (out .entry)) r
+    ensures { λ r. ⌜ Explained limits (bookBefore ids groups marks counts levels) (now (out .entry)) r
         (now (out .exit)) ⌝ }
 {
     let points = limits.points as usize;
-    let first = load_at(ids, groups, marks, levels, points, 0, limits.days);
-    let refused = first.refused;
+    let refused = book_refusal(ids, groups, marks, counts, levels, points, limits.days);
     if refused != 0 {
         let size = put_refused(out, refused, 0);
         return Report { size, refused };
     }
-    let size = put_points(out, ids, groups, marks, levels, limits);
+    let size = put_points(out, ids, groups, marks, counts, levels, limits);
     Report { size, refused }
 }

@@ -66,34 +66,46 @@ fn answer(kind: u32, text: &[u8], out: &mut [u8]) -> usize
     let mut ids = [0u32; BOOK_ROWS];
     let mut groups = [0u32; BOOK_ROWS];
     let mut marks = [0u32; BOOK_ROWS];
+    let mut counts = [0u32; BOOK_LEVELS];
     let mut levels = [0u32; BOOK_LEVELS];
     report(
         kind,
         &mut ids,
         &mut groups,
         &mut marks,
+        &mut counts,
         &mut levels,
         limits,
         out,
     )
 }
 
-// The report of a register, into these columns; of the levels only as many as the points need.
+// The report of a register, into these columns; of the last two only as many numbers as the points need.
 fn report(
     kind: u32,
     ids: &mut [u32],
     groups: &mut [u32],
     marks: &mut [u32],
+    counts: &mut [u32],
     levels: &mut [u32],
     limits: LimitsFile,
     out: &mut [u8],
 ) -> usize
-    requires { ⌜ bookNow ids groups marks levels ≡ emptyBook maxPoints bookRows ⌝ }
+    requires { ⌜ bookNow ids groups marks counts levels ≡ emptyBook maxPoints bookRows ⌝ }
     requires { ⌜ LimitsFit limits × (longestText ≤ length (now out)) ⌝ }
     ensures { λ r. ⌜ AnsweredIn (tellingOf kind) limits (now (out .exit)) r ⌝ }
 {
     let room = BOOK_ROWS * limits.points as usize;
-    report_in(kind, ids, groups, marks, &mut levels[..room], limits, out)
+    report_in(
+        kind,
+        ids,
+        groups,
+        marks,
+        &mut counts[..room],
+        &mut levels[..room],
+        limits,
+        out,
+    )
 }
 
 // The register is read into the book; then its report is written, or its refusal.
@@ -102,18 +114,30 @@ fn report_in(
     ids: &mut [u32],
     groups: &mut [u32],
     marks: &mut [u32],
+    counts: &mut [u32],
     levels: &mut [u32],
     limits: LimitsFile,
     out: &mut [u8],
 ) -> usize
-    requires { ⌜ bookNow ids groups marks levels ≡ emptyBook (limits .points) bookRows ⌝ }
+    requires { ⌜ bookNow ids groups marks counts levels ≡ emptyBook (limits .points) bookRows ⌝ }
     requires { ⌜ LimitsFit limits × (longestText ≤ length (now out)) ⌝ }
     ensures { λ r. ⌜ AnsweredIn (tellingOf kind) limits (now (out .exit)) r ⌝ }
 {
     let points = limits.points as usize;
     let mut bytes = io::large_buffer();
-    let read = feed::read_register(ids, groups, marks, levels, points, &mut bytes);
-    answer_read(kind, ids, groups, marks, levels, limits, &bytes, read, out)
+    let read = feed::read_register(ids, groups, marks, counts, levels, points, &mut bytes);
+    answer_read(
+        kind,
+        ids,
+        groups,
+        marks,
+        counts,
+        levels,
+        limits,
+        &bytes,
+        read,
+        out,
+    )
 }
 
 // The answer to a register that was read: its refusal, or the text of its book.
@@ -122,6 +146,7 @@ fn answer_read(
     ids: &[u32],
     groups: &[u32],
     marks: &[u32],
+    counts: &[u32],
     levels: &[u32],
     limits: LimitsFile,
     bytes: &[u8],
@@ -129,14 +154,14 @@ fn answer_read(
     out: &mut [u8],
 ) -> usize
     requires { ⌜ LimitsFit limits × (longestText ≤ length (now out)) ⌝ }
-    ensures { λ r. ⌜ Sized (tellingOf kind) limits (turnedTo read (bookBefore ids groups marks levels))
+    ensures { λ r. ⌜ Sized (tellingOf kind) limits (turnedTo read (bookBefore ids groups marks counts levels))
         (now (out .exit)) r ⌝ }
 {
     let refusal = read.refusal;
     if refusal != 0 {
         return refuse(bytes, read, limits, out);
     }
-    let report = put_told(kind, out, ids, groups, marks, levels, limits);
+    let report = put_told(kind, out, ids, groups, marks, counts, levels, limits);
     sentences::answer(report.refused, read.line, ids);
     report.size
 }
@@ -158,17 +183,18 @@ fn put_told(
     ids: &[u32],
     groups: &[u32],
     marks: &[u32],
+    counts: &[u32],
     levels: &[u32],
     limits: LimitsFile,
 ) -> Report
     requires { ⌜ LimitsFit limits × (longestText ≤ length (now out)) ⌝ }
-    ensures { λ r. ⌜ Told (tellingOf kind) limits (bookBefore ids groups marks levels) (now (out .entry)) r
+    ensures { λ r. ⌜ Told (tellingOf kind) limits (bookBefore ids groups marks counts levels) (now (out .entry)) r
         (now (out .exit)) ⌝ }
 {
     if kind == EXPLAIN {
-        return put_explained(out, ids, groups, marks, levels, limits);
+        return put_explained(out, ids, groups, marks, counts, levels, limits);
     }
-    put_report(out, ids, groups, marks, levels, limits)
+    put_report(out, ids, groups, marks, counts, levels, limits)
 }
 
 // The one write on standard output: no other text than the program's may be handed to it.

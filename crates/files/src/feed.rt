@@ -25,20 +25,22 @@ fn piece(
     ids: &mut [u32],
     groups: &mut [u32],
     marks: &mut [u32],
+    counts: &mut [u32],
     levels: &mut [u32],
     points: usize,
     bytes: &mut [u8],
     len: usize,
     line: u64,
 ) -> Turn
-    requires { ⌜ sound points (bookNow ids groups marks levels) ≡ true ⌝ }
+    requires { ⌜ sound points (bookNow ids groups marks counts levels) ≡ true ⌝ }
     requires { ⌜ len ≤ length (now bytes) ⌝ }
     requires { ⌜ line + len < 2 ^ 64 ⌝ }
-    ensures { λ r. ⌜ Pieced (registerStep points) longestRow (readingAt 0 line (bookBefore ids groups marks levels))
-        (take len (now (bytes .entry))) r (bookAfter ids groups marks levels) (now (bytes .exit))
-        × (sound points (bookAfter ids groups marks levels) ≡ true) ⌝ }
+    ensures { λ r. ⌜ Pieced (registerStep points) longestRow
+        (readingAt 0 line (bookBefore ids groups marks counts levels)) (take len (now (bytes .entry))) r
+        (bookAfter ids groups marks counts levels) (now (bytes .exit))
+        × (sound points (bookAfter ids groups marks counts levels) ≡ true) ⌝ }
 {
-    let p = take_piece(ids, groups, marks, levels, points, bytes, len, line);
+    let p = take_piece(ids, groups, marks, counts, levels, points, bytes, len, line);
     let refusal = p.refusal;
     if refusal != 0 {
         return Turn {
@@ -63,20 +65,21 @@ fn last(
     ids: &mut [u32],
     groups: &mut [u32],
     marks: &mut [u32],
+    counts: &mut [u32],
     levels: &mut [u32],
     points: usize,
     bytes: &[u8],
     line: u64,
 ) -> Turn
-    requires { ⌜ sound points (bookNow ids groups marks levels) ≡ true ⌝ }
+    requires { ⌜ sound points (bookNow ids groups marks counts levels) ≡ true ⌝ }
     requires { ⌜ Unended (now bytes) ⌝ }
     requires { ⌜ 1 ≤ line ⌝ }
     requires { ⌜ line + length (now bytes) < 2 ^ 64 ⌝ }
-    ensures { λ r. ⌜ Lasted (registerStep points) (readingAt 0 line (bookBefore ids groups marks levels))
-        (now (bytes .entry)) r (bookAfter ids groups marks levels)
-        × (sound points (bookAfter ids groups marks levels) ≡ true) ⌝ }
+    ensures { λ r. ⌜ Lasted (registerStep points) (readingAt 0 line (bookBefore ids groups marks counts levels))
+        (now (bytes .entry)) r (bookAfter ids groups marks counts levels)
+        × (sound points (bookAfter ids groups marks counts levels) ≡ true) ⌝ }
 {
-    let f = take_last(ids, groups, marks, levels, points, bytes, line);
+    let f = take_last(ids, groups, marks, counts, levels, points, bytes, line);
     Turn {
         at: 0,
         left: bytes.len(),
@@ -91,6 +94,7 @@ fn read_on(
     ids: &mut [u32],
     groups: &mut [u32],
     marks: &mut [u32],
+    counts: &mut [u32],
     levels: &mut [u32],
     points: usize,
     bytes: &mut [u8],
@@ -98,16 +102,35 @@ fn read_on(
     line: u64,
     taken: &mut u64,
 ) -> Turn
-    requires { ⌜ sound points (bookNow ids groups marks levels) ≡ true ⌝ }
+    requires { ⌜ sound points (bookNow ids groups marks counts levels) ≡ true ⌝ }
     requires { ⌜ Waiting longestRow (now bytes) left line (now taken) ⌝ }
     ensures { λ r. ⌜ Turned input (registerStep points) longestRow
-        (readingAt 0 line (bookBefore ids groups marks levels)) (take left (now (bytes .entry)))
-        (now (taken .entry)) r (bookAfter ids groups marks levels) (now (bytes .exit)) (now (taken .exit))
-        × (sound points (bookAfter ids groups marks levels) ≡ true) ⌝ }
+        (readingAt 0 line (bookBefore ids groups marks counts levels)) (take left (now (bytes .entry)))
+        (now (taken .entry)) r (bookAfter ids groups marks counts levels) (now (bytes .exit)) (now (taken .exit))
+        × (sound points (bookAfter ids groups marks counts levels) ≡ true) ⌝ }
 {
     match read_input(taken, &mut bytes[left..]) {
-        Arrived::Bytes(n) => piece(ids, groups, marks, levels, points, bytes, left + n, line),
-        Arrived::End => last(ids, groups, marks, levels, points, &bytes[..left], line),
+        Arrived::Bytes(n) => piece(
+            ids,
+            groups,
+            marks,
+            counts,
+            levels,
+            points,
+            bytes,
+            left + n,
+            line,
+        ),
+        Arrived::End => last(
+            ids,
+            groups,
+            marks,
+            counts,
+            levels,
+            points,
+            &bytes[..left],
+            line,
+        ),
         Arrived::Failed => failed(line),
     }
 }
@@ -117,14 +140,15 @@ pub(crate) fn read_register(
     ids: &mut [u32],
     groups: &mut [u32],
     marks: &mut [u32],
+    counts: &mut [u32],
     levels: &mut [u32],
     points: usize,
     bytes: &mut [u8],
 ) -> Turn
-    requires { ⌜ sound points (bookNow ids groups marks levels) ≡ true ⌝ }
+    requires { ⌜ sound points (bookNow ids groups marks counts levels) ≡ true ⌝ }
     requires { ⌜ longestLine < length (now bytes) ⌝ }
-    ensures { λ r. ⌜ Done input (registerStep points) longestRow (bookBefore ids groups marks levels) r
-        (bookAfter ids groups marks levels) ⌝ }
+    ensures { λ r. ⌜ Done input (registerStep points) longestRow (bookBefore ids groups marks counts levels) r
+        (bookAfter ids groups marks counts levels) ⌝ }
 {
     let mut taken = 0;
     let mut left = 0;
@@ -134,6 +158,7 @@ pub(crate) fn read_register(
             ids,
             groups,
             marks,
+            counts,
             levels,
             points,
             bytes,

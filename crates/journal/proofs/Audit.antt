@@ -15,9 +15,9 @@ use Rattle.book_rules.specs.Chain.{Chain}
 use Rattle.book_rules.specs.Chain.Chain.{done, called}
 use Rattle.book_rules.proofs.{History.history, Order.decides, Order.given-by, Order.sound-decides}
 use Rattle.room.specs.Room.{front}
-use Rattle.journal.specs.Journal.{widthOf, callAt, complete, callsOf, laidOut, callsFor, replayRefusal}
+use Rattle.journal.specs.Journal.{widthOf, callAt, complete, callsOf, laidOut, madeFor, callsFor, replayRefusal}
 use Rattle.journal.specs.{Journal.Replayed, Spelling.spelled, Spelling.journalOf, Spelling.Spelled}
-use Rattle.journal.specs.Replay.{ReplayHolds}
+use Rattle.journal.specs.Replay.{MakesEach, ReplayHolds}
 use Rattle.journal.proofs.Reading.{calls-more, laid-more, nothing-left}
 
 -- A call that is spelled is read back
@@ -64,6 +64,11 @@ calls-spelled c rest =
     calls-more (spelled c ++ rest) n (complete-spelled c rest)
     ∙ (λ i. call-spelled c rest i ∷ callsOf (rest-spelled c rest i))
 
+pub laid-spelled : (c : Call) (rest : List ℕ) → laidOut (spelled c ++ rest) ≡ laidOut rest
+laid-spelled c rest =
+    let n : 0 < length (spelled c ++ rest) = omega (arith, some-spelled c, length-append (spelled c) rest) in
+    laid-more (spelled c ++ rest) n (complete-spelled c rest) ∙ ap laidOut (rest-spelled c rest)
+
 -- the numbers of each call, one by one
 pub spelled-so : Spelled
 unfolding spelled
@@ -82,12 +87,8 @@ unfolding journalOf
 journal-calls [] = nothing-left [] (omega arith)
 journal-calls (c ∷ cs) =
     let rest = journalOf cs in
-    let j = spelled c ++ rest in
-    let n : 0 < length j = omega (arith, some-spelled c, length-append (spelled c) rest) in
-    let ih = journal-calls cs in (
-      laid-more j n (complete-spelled c rest) ∙ ap laidOut (rest-spelled c rest) ∙ ih .0,
-      calls-spelled c rest ∙ ap (λ (ds : List Call). c ∷ ds) (ih .1),
-    )
+    let ih = journal-calls cs in
+    (laid-spelled c rest ∙ ih .0, calls-spelled c rest ∙ ap (λ (ds : List Call). c ∷ ds) (ih .1))
 
 -- A replay
 
@@ -96,6 +97,14 @@ made-chain : (b : Book) (cs : List Made) → Chain b cs (answered b cs) (booked 
 unfolding booked answered
 made-chain b [] = done
 made-chain b (c ∷ cs) = called (record { answer = refl; book = refl }) (made-chain (after (c .points) b (c .call)) cs)
+
+pub makes-each : (p : ℕ) → MakesEach p
+unfolding madeFor
+makes-each p =
+    record {
+      nothing = ap (madeFor p) (nothing-left [] (omega arith) .1);
+      next = λ j rest c e. ap (madeFor p) e;
+    }
 
 pub replay-made : {p r : ℕ} {b b′ : Book} {j room room′ : List ℕ} → Replayed p b j room r b′ room′
     → ReplayHolds p b j room r b′ room′

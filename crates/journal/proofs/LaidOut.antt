@@ -1,16 +1,18 @@
 -- A journal on its layout is calls spelled one after the other, and no number more. Assumes nothing.
 use mathlib.Core.Path.{_≡_, refl, sym, ap, _∙_}
+use mathlib.Core.Logic.{_⊎_, inl, inr, ⊎-elim}
 use mathlib.Core.{Bool.Bool, Bool.true, Bool.false, Bool.cond, Bool._||_, List.List, List.[], List._∷_, List._++_}
 use Prim.Native.Nat.{ℕ, zero, suc, _+_, _≤_, _<_}
 use native.Mathlib.Omega.{arith}
 use lib.ListN.{length, take, drop, getD, length-drop, take-append-drop}
 use lib.{Seq.length-take-le, Seq.drop-drop, Dec.eqb}
-use borrow.Author.Tests.{eqb-true}
+use borrow.Author.Tests.{eqb-true, ne-eqb}
 use Rattle.book_rules.specs.Calls.Call.{enter, supply, takeBack, withdraw}
 use Rattle.journal.specs.Journal.{widthOf, callAt, callsOf, laidOut}
-use Rattle.journal.specs.Spelling.{spelled, journalOf, LaidExactly}
+use Rattle.journal.specs.Spelling.{spelled, journalOf, LaidExactly, Laid}
 use Rattle.journal.proofs.Reading.{complete-width, calls-more, laid-more, laid-complete, nothing-left}
-use Rattle.journal.proofs.Audit.{journal-calls}
+use Rattle.journal.proofs.Reading.{laid-cut, tail-is}
+use Rattle.journal.proofs.Audit.{laid-spelled, journal-calls}
 
 -- The numbers of a call in front of the others
 
@@ -103,3 +105,40 @@ spelled-from (suc most) = one-more most (spelled-from most)
 pub laid-exactly : (j : List ℕ) → LaidExactly j
 laid-exactly j =
     record { on = λ e. sym (spelled-from (length j) j (omega arith) e); only = λ cs e. rw e (journal-calls cs) }
+
+-- The same, number by number
+
+cut : (j : List ℕ) → 0 < length j → (widthOf j < 1) ⊎ (length j < widthOf j) → laidOut j ≡ false
+cut j h k =
+    laid-cut j 0 (widthOf j) (ap widthOf (sym (tail-is j 0))) h (⊎-elim (λ z. inl z) (λ z. inr (omega arith)) k)
+
+unknown : (n : ℕ) (rest : List ℕ) → (n ≡ 0) ⊎ (4 < n) → laidOut (n ∷ rest) ≡ false
+unfolding widthOf
+unknown n rest h =
+    let not-one : (k : ℕ) → 1 ≤ k → k ≤ 4 → eqb n k ≡ false =
+    λ k l m. ne-eqb n k (λ z. ⊎-elim (λ y. omega arith) (λ y. omega arith) h) in
+    let none : widthOf (n ∷ rest) ≡ 0 = rw (
+      not-one 1 (omega arith) (omega arith),
+      not-one 2 (omega arith) (omega arith),
+      not-one 3 (omega arith) (omega arith),
+      not-one 4 (omega arith) (omega arith),
+    ) refl in
+    cut (n ∷ rest) (omega arith) (inl (omega arith))
+
+pub laid : Laid
+unfolding widthOf spelled
+laid =
+    record {
+      nothing = nothing-left [] (omega arith) .0;
+      enter= = λ x t k s m cs rest. laid-spelled (enter x t k s m cs) rest;
+      supply= = λ x ls rest. laid-spelled (supply x ls) rest;
+      take-back= = λ x rest. laid-spelled (takeBack x) rest;
+      withdraw= = λ x rest. laid-spelled (withdraw x) rest;
+      unknown = unknown;
+      enter-short = λ rest h. cut (1 ∷ rest) (omega arith) (inr (omega arith));
+      enter-cut = λ x t k s m n rest h. cut (1 ∷ x ∷ t ∷ k ∷ s ∷ m ∷ n ∷ rest) (omega arith) (inr (omega arith));
+      supply-short = λ rest h. cut (2 ∷ rest) (omega arith) (inr (omega arith));
+      supply-cut = λ x n rest h. cut (2 ∷ x ∷ n ∷ rest) (omega arith) (inr (omega arith));
+      take-back-short = cut (3 ∷ []) (omega arith) (inr (omega arith));
+      withdraw-short = cut (4 ∷ []) (omega arith) (inr (omega arith));
+    }

@@ -180,7 +180,7 @@ weight-numbered (suc zero) h = refl
 weight-numbered (suc (suc zero)) h = refl
 weight-numbered (suc (suc (suc n))) h = absurd (omega arith)
 
-group-weight : (g : ℕ) → weightOf (groupPeriod g) ≡ 500 * (g % 3)
+pub group-weight : (g : ℕ) → weightOf (groupPeriod g) ≡ 500 * (g % 3)
 unfolding groupPeriod
 group-weight g = weight-numbered (g % 3) (omega arith)
 

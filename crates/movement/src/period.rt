@@ -1,6 +1,6 @@
 // The period of the day that a movement falls in: 0 day, 1 evening, 2 night.
 ghost use mathlib.Core.Path.{_≡_};
-ghost use Rattle.movement.specs.Period.{periodOf, periodNumber, periodNumbered, weightOf};
+ghost use Rattle.movement.specs.Period.{periodOf, periodNumber};
 
 pub enum Period {
     Day,
@@ -32,18 +32,6 @@ impl Period {
         Period::Night
     }
 
-    pub(crate) fn numbered(n: u32) -> Period
-        ensures { λ r. ⌜ r ≡ periodNumbered n ⌝ }
-    {
-        if n == 0 {
-            return Period::Day;
-        }
-        if n == 1 {
-            return Period::Evening;
-        }
-        Period::Night
-    }
-
     pub(crate) fn number(self) -> u32
         ensures { λ r. ⌜ r ≡ periodNumber self ⌝ }
     {
@@ -51,17 +39,6 @@ impl Period {
             Period::Day => 0,
             Period::Evening => 1,
             Period::Night => 2,
-        }
-    }
-
-    // What a period adds to a level, in hundredths of a dB.
-    pub(crate) fn weight(self) -> u32
-        ensures { λ r. ⌜ r ≡ weightOf self ⌝ }
-    {
-        match self {
-            Period::Day => 0,
-            Period::Evening => 500,
-            Period::Night => 1_000,
         }
     }
 }

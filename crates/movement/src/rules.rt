@@ -83,7 +83,7 @@ pub fn counts_fit(given: &[u32], points: usize) -> bool
 }
 
 // Whether a level may stand at a point: it is zero where the movement doesn't count.
-pub fn may_hold(count: u32, level: u32) -> bool
+fn may_hold(count: u32, level: u32) -> bool
     ensures { λ r. ⌜ r ≡ (ltb 0 count || eqb level 0) ⌝ }
 {
     if 0 < count {

@@ -3,12 +3,13 @@ use Rattle.book_rules.proofs.Accepted.{neither-refused}
 use mathlib.Core.{Path._≡_, Path.refl, Bool.Bool, Bool.true, Bool.false, Bool.not, Bool._&&_, List.List}
 use Prim.Native.Nat.{ℕ, _≤_}
 use native.Mathlib.Omega.{arith}
-use lib.{ListN.length, Dec.eqb, Dec.ltb}
+use lib.{ListN.length, ListN.replicate, ListN.length-replicate, ListN.getD-replicate, Dec.eqb, Dec.ltb}
 use borrow.Author.Tests.{le-ltb, ltb-false}
 use Rattle.refusal.specs.Refuse.{refuse}
 use Rattle.refusal.proofs.Laws.{refuse-none}
 use Rattle.text.proofs.Digits.{either}
-use Rattle.movement.specs.Rules.{fieldsFit, counts, movementRefusal, identityFits}
+use Rattle.movement.specs.Rules.{fieldsFit, counts, movementRefusal, identityFits, countsFit}
+use Rattle.movement.proofs.Ranges.{ranges-hold}
 use Rattle.book_rules.specs.Columns.{Book, sound, stands}
 use Rattle.book_rules.specs.Calls.{refusedOr, enterRefusal, soundRefusal, refusal}
 use Rattle.book_rules.specs.Calls.Call.{enter}
@@ -25,13 +26,15 @@ moved-none t k s m z =
     refuse-none 2 (counts m) 0 (omega arith) (refuse-none 1 (fieldsFit t k s m) (refuse 2 (counts m) 0)
     (omega arith) z .1) .0
 
-pub enter-none : (p n : ℕ) (ms : List Movement) (x t k s m : ℕ)
-    → listRefusal p n ms (made p (enter x t k s m)) ≡ 0
+pub enter-none : (p n : ℕ) (ms : List Movement) (x t k s m : ℕ) (cs : List ℕ)
+    → listRefusal p n ms (made p (enter x t k s m cs)) ≡ 0
     → Entering m x ms
 unfolding listRefusal standingRefusal
-enter-none p n ms x t k s m z =
+enter-none p n ms x t k s m cs z =
     let rest = refuse 3 (identityFits x) (refuse 4 (not (standing x ms)) (refuse 6 (ltb (length ms) n) 0)) in
-    let a = refuse-none 9 (eqb p p && sizesFit p n) (refusedOr (movementRefusal t k s m) rest) (omega arith) z .1 in
+    let first = refusedOr (movementRefusal t k s m) rest in
+    let size = refuse-none 9 (eqb p p && sizesFit p n) (refuse 9 (countsFit p cs) first) (omega arith) z .1 in
+    let a = refuse-none 9 (countsFit p cs) first (omega arith) size .1 in
     let b = neither-refused (movementRefusal t k s m) rest a in
     let c =
     refuse-none 3 (identityFits x) (refuse 4 (not (standing x ms)) (refuse 6 (ltb (length ms) n) 0)) (omega arith)
@@ -65,21 +68,34 @@ two-moved : (t k s m : ℕ) → TooLight t k s m → movementRefusal t k s m ≡
 unfolding movementRefusal counts
 two-moved t k s m l = rw (l .rule-1, le-ltb 150 m (l .light)) refl
 
-pub enter-two : (p : ℕ) (b : Book) (x t k s m : ℕ) → refusal p b (enter x t k s m) ≡ 2 → TooLight t k s m
+pub enter-two : (p : ℕ) (b : Book) (x t k s m : ℕ) (cs : List ℕ) → refusal p b (enter x t k s m cs) ≡ 2
+    → TooLight t k s m
 unfolding refusal soundRefusal enterRefusal
-enter-two p b x t k s m e =
+enter-two p b x t k s m cs e =
     let r = movementRefusal t k s m in
     let ids = b .identities in
-    let a = refuse-is 9 2 (sound p b) (enterRefusal ids x t k s m) e (λ q. absurd (omega arith)) .1 in
     let six = refuse 6 (stands 0 ids) 0 in
     let four = refuse 4 (not (stands x ids)) six in
+    let first = refusedOr r (refuse 3 (identityFits x) four) in
+    let whole = refuse-is 9 2 (sound p b) (refuse 9 (countsFit p cs) first) e (λ q. absurd (omega arith)) .1 in
+    let a = refuse-is 9 2 (countsFit p cs) first whole (λ q. absurd (omega arith)) .1 in
     either (eqb r 0)
     (λ yes. let c = refuse-is 3 2 (identityFits x) four (rw yes at a) (λ q. absurd (omega arith)) .1 in
     let d = refuse-is 4 2 (not (stands x ids)) six c (λ q. absurd (omega arith)) .1 in
     let f = refuse-is 6 2 (stands 0 ids) 0 d (λ q. absurd (omega arith)) .1 in absurd (omega arith))
     (λ no. moved-two t k s m (rw no at a))
 
-pub two-enter : (p : ℕ) (b : Book) (x t k s m : ℕ) → sound p b ≡ true → TooLight t k s m
-    → refusal p b (enter x t k s m) ≡ 2
+pub two-enter : (p : ℕ) (b : Book) (x t k s m : ℕ) (cs : List ℕ) → sound p b ≡ true → countsFit p cs ≡ true
+    → TooLight t k s m
+    → refusal p b (enter x t k s m cs) ≡ 2
 unfolding refusal soundRefusal enterRefusal
-two-enter p b x t k s m ok l = rw (ok, two-moved t k s m l) refl
+two-enter p b x t k s m cs ok fit l = rw (ok, fit, two-moved t k s m l) refl
+
+-- a row says yes at every point
+pub all-fit : (p : ℕ) → countsFit p (replicate p 1) ≡ true
+all-fit p =
+    let long : length {A = ℕ} (replicate p 1) ≡ p = length-replicate p 1 in
+    ranges-hold .counts= p (replicate p 1) .1 (record {
+      one-a-point = long;
+      yes-or-no = λ i h. omega (arith, getD-replicate {A = ℕ} p i 1 0 (omega (arith, long, h)));
+    })

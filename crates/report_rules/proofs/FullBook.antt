@@ -15,7 +15,7 @@ use Rattle.report_steps.specs.{Intake.entering, Reading.registered, Booking.reg
 use Rattle.report_steps.proofs.Bookings.{register-booked}
 use Rattle.report_rules.specs.{Report.bookRows, Flights.bookIn, Flights.standingIn}
 use Rattle.report_rules.specs.FullBook.{Fresh, TwoThousand}
-use Rattle.report_rules.proofs.{Flights.all-stand, Refusing.row-refused}
+use Rattle.report_rules.proofs.{Entering.all-fit, Flights.all-stand, Refusing.row-refused}
 
 module _ (p : ℕ) (register : List ℕ) (some : 1 ≤ p) (few : p ≤ 8)
     (accepted : registered p (emptyBook p bookRows) register .refusal ≡ 0) where
@@ -23,21 +23,21 @@ module _ (p : ℕ) (register : List ℕ) (some : 1 ≤ p) (few : p ≤ 8)
   cs = registerCalls p (emptyBook p bookRows) register
 
   -- *enter* is refused by the list of flights
-  listed : (row : List ℕ) → refusal p (bookIn p register) (entering (layoutOf p row)) ≡ listRefusal p bookRows
-      (standingIn p register) (made p (entering (layoutOf p row)))
+  listed : (row : List ℕ) → refusal p (bookIn p register) (entering p (layoutOf p row)) ≡ listRefusal p bookRows
+      (standingIn p register) (made p (entering p (layoutOf p row)))
   listed row =
-      ap (λ (b : Book). refusal p b (entering (layoutOf p row))) (register-booked p (emptyBook p bookRows) register)
-      ∙ history-refusal p bookRows cs (made p (entering (layoutOf p row)))
+      ap (λ (b : Book). refusal p b (entering p (layoutOf p row))) (register-booked p (emptyBook p bookRows) register)
+      ∙ history-refusal p bookRows cs (made p (entering p (layoutOf p row)))
 
   -- where nothing else refuses it, by whether there is room
   by-room : (row : List ℕ) → Fresh p register row → (b : Bool) → ltb (length (standingIn p register)) 2000 ≡ b
-      → listRefusal p bookRows (standingIn p register) (made p (entering (layoutOf p row))) ≡ cond b 0 6
+      → listRefusal p bookRows (standingIn p register) (made p (entering p (layoutOf p row))) ≡ cond b 0 6
   unfolding listRefusal standingRefusal sizesFit
   by-room row f b e =
       let x = layoutOf p row .fields in
       let moved = ranges-hold .accepted (x .ty) (x .kind) (x .time) (x .mass) .1 (f .range, f .heavy) in
       let named = ranges-hold .identity (x .identity) .1 (f .identity) in
-      rw (eq-eqb p p refl, le-leb 1 p some, le-leb p maxPoints few, moved, named, f .new, e) refl
+      rw (eq-eqb p p refl, le-leb 1 p some, le-leb p maxPoints few, all-fit p, moved, named, f .new, e) refl
 
   pub two-thousand : TwoThousand p register
   two-thousand =

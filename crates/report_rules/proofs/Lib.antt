@@ -4,6 +4,8 @@ pub mod Listed
 pub mod Entering
 pub mod Rows
 pub mod Flights
+pub mod Elsewhere
+pub mod AllCount
 pub mod Printed
 pub mod Counting
 pub mod Says
@@ -18,3 +20,5 @@ pub mod FullBook
 pub mod Accepted
 pub mod Failing
 pub mod Running
+pub mod RegisterExact
+pub mod RowJudged

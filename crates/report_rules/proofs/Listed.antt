@@ -21,16 +21,18 @@ many-added test m (a ∷ ms) =
     (λ no. rw no (omega (arith, many-added test m ms)))
 
 -- a movement that is new, and then holds h
-pub many-held : (test : Movement → Bool) (x g : ℕ) (h : Held) (ms : List Movement) → standing x ms ≡ false
-    → howMany test (holding x h (added (movement x g none) ms)) ≡ cond (test (movement x g h)) 1 0 + howMany test ms
+pub many-held : (test : Movement → Bool) (x g : ℕ) (cs : List ℕ) (h : Held) (ms : List Movement)
+    → standing x ms ≡ false
+    → howMany test (holding x h (added (movement x g cs none) ms))
+    ≡ cond (test (movement x g cs h)) 1 0 + howMany test ms
 unfolding howMany added holding standing
-many-held test x g h [] new = rw (eq-eqb x x refl) refl
-many-held test x g h (a ∷ ms) new =
+many-held test x g cs h [] new = rw (eq-eqb x x refl) refl
+many-held test x g cs h (a ∷ ms) new =
     either (leb x (a .identity))
     (λ yes. rw (yes, eq-eqb x x refl) refl)
     (λ no. either (eqb (a .identity) x)
     (λ same. let f : true ≡ false = rw same at new in let never : _≡_ {A = ℕ} 0 1 = cc in absurd (omega arith))
-    (λ other. rw (no, other) (omega (arith, many-held test x g h ms (rw other at new)))))
+    (λ other. rw (no, other) (omega (arith, many-held test x g cs h ms (rw other at new)))))
 
 -- calls, and then calls
 pub accepted-then : (p n : ℕ) (ms : List Movement) (cs ds : List Made)

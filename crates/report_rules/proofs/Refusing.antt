@@ -13,11 +13,10 @@ use Rattle.register.specs.{Header.registerHeader, LimitsFile.limitsOf, Row.layo
 use Rattle.report_steps.specs.Intake.{takenNumber, entering, supplying, suppliedTaken, enteredTaken, layoutTaken}
 use Rattle.report_steps.specs.Intake.{rowTaken}
 use Rattle.report_steps.specs.Reading.{pointsRefusal, lineRefusal, headerPoints, registerStep, registered}
-use Rattle.stream.specs.Refused.{TextRefused}
 use Rattle.stream.proofs.Firsts.{text-refused}
 use Rattle.report_text.specs.Text.{bookRefusal, bookText}
 use Rattle.report_rules.specs.{Report.bookRows, Report.reportOf, Flights.bookIn}
-use Rattle.report_rules.specs.Refused.{ReportRefused, HeaderExactly, RowRefused}
+use Rattle.report_rules.specs.Refused.{ReportRefused, RegisterRefused, HeaderExactly, RowRefused}
 use Rattle.report_rules.proofs.Answers.{reading-refused, reading-reported, register-text, report-refused}
 use Rattle.report_rules.proofs.{Answers.report-accepted, Headers.header-is, Headers.is-header}
 
@@ -31,7 +30,8 @@ unfolding bookText
 book-refused limits register fine accepted ne =
     let l = limitsOf limits in
     let s = registered (l .points) (emptyBook (l .points) bookRows) register in
-    report-accepted bookText limits register fine ∙ sym (register-text bookText l register s refl) ∙ reading-reported bookText l s accepted
+    report-accepted bookText limits register fine ∙ sym (register-text bookText l register s refl)
+    ∙ reading-reported bookText l s accepted
     ∙ rw (ne-eqb (bookRefusal l (s .held)) 0 ne) refl
 
 pub refused-report : (limits register : List ℕ) → ReportRefused limits register
@@ -39,17 +39,20 @@ refused-report limits register =
     let l = limitsOf limits in
     let s = registered (l .points) (emptyBook (l .points) bookRows) register in
     record {
-      by-limits = λ ne. refuses (reportOf limits register) (l .refusal) (l .line) (report-refused bookText limits register ne);
+      by-limits = λ ne. refuses (reportOf limits register) (l .refusal) (l .line)
+          (report-refused bookText limits register ne);
       by-register = λ fine ne. refuses (reportOf limits register) (s .refusal) (s .line)
-          (report-accepted bookText limits register fine ∙ sym (register-text bookText l register s refl) ∙ reading-refused bookText l s ne);
+          (report-accepted bookText limits register fine ∙ sym (register-text bookText l register s refl)
+          ∙ reading-refused bookText l s ne);
       by-book = λ fine accepted ne. refuses (reportOf limits register) (bookRefusal l (s .held)) 0
           (book-refused limits register fine accepted ne);
     }
 
 -- The first refusal of a register counts
 
-pub register-refused : (p : ℕ) (b : Book) (register : List ℕ) → TextRefused (registerStep p) b register
-register-refused p b register = text-refused (registerStep p) b register
+pub register-refused : (p : ℕ) (b : Book) (register : List ℕ) → RegisterRefused p b register
+register-refused p b register =
+    let k = text-refused (registerStep p) b register in record { empty = k .empty; first = k .first }
 
 -- What refuses a line
 
@@ -73,15 +76,15 @@ header-exactly p b line =
       otherwise = points-other p (headerPoints line);
     }
 
-supplied-number : (s : ℕ) → takenNumber (suppliedTaken s) ≡ s
+pub supplied-number : (s : ℕ) → takenNumber (suppliedTaken s) ≡ s
 supplied-number s = either (eqb s 0) (λ yes. rw yes (sym (eqb-true s 0 yes))) (λ no. rw no refl)
 
 pub row-refused : (p n : ℕ) (b : Book) (row : List ℕ) → (n ≡ 1 → ⊥) → RowRefused p n b row
 unfolding lineRefusal rowTaken layoutTaken enteredTaken
 row-refused p n b row more =
     let l = layoutOf p row in
-    let r = refusal p b (entering l) in
-    let s = refusal p (after p b (entering l)) (supplying p l) in
+    let r = refusal p b (entering p l) in
+    let s = refusal p (after p b (entering p l)) (supplying p l) in
     let two = ne-eqb n 1 more in
     record {
       off = λ ne. rw (two, ne-eqb (l .refusal) 0 ne) refl;

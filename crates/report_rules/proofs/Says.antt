@@ -9,8 +9,8 @@ use borrow.Author.Tests.{lt-ltb, le-ltb}
 use Rattle.level.specs.declared.Level.{Level}
 use Rattle.level.specs.declared.Level.the-variants.{BelowZero, At}
 use Rattle.level.specs.Level.{levelGiven, levelValue, verdictOf}
-use Rattle.book_rules.specs.{Columns.Book, History.Made, History.emptyBook, History.booked}
-use Rattle.load_rules.specs.{Load.bookLoad, Afresh.CountsEach}
+use Rattle.book_rules.specs.{Columns.Book, History.Movement, History.Made, History.emptyBook, History.booked}
+use Rattle.load_rules.specs.{Load.bookLoad, Afresh.CountsEach, Afresh.loadAfter}
 use Rattle.load_rules.proofs.CountedOnce.{counted-once}
 use Rattle.text.specs.{Line.linesOf, Field.countOf, Field.fieldOf, Index.listing, Number.showNumber, Number.showLevel}
 use Rattle.text.specs.Spelled.{bytes}
@@ -22,11 +22,12 @@ use Rattle.report_steps.proofs.Bookings.{register-booked}
 use Rattle.report_text.specs.Text.{headerLine, levelText, verdictText, pointFields, pointLine}
 use Rattle.report_text.specs.Text.{pointsText, bookRefusal, bookText}
 use Rattle.report_text.specs.Totals as totals
+use Rattle.report_text.proofs.Judging.{point-answered}
 use Rattle.report_rules.specs.Report.{bookRows, reportOf}
 use Rattle.report_rules.specs.Flights.{rowsIn, flightsIn, howMany, computed, bookIn, standingIn, printed}
 use Rattle.report_rules.specs.Flights.{levelAt, ReportSays}
 use Rattle.report_rules.proofs.Answers.{reading-reported, register-text, report-accepted}
-use Rattle.report_rules.proofs.Flights.{all-stand}
+use Rattle.report_rules.proofs.{Flights.all-stand, AllCount.all-count}
 use Rattle.text.proofs.Sheets.{lines-ended}
 use Rattle.report_rules.proofs.Printed.{header-unbroken, field-at, line-unbroken, listing-at}
 use Rattle.report_rules.proofs.Counting.{computed-printed, missing-printed, both}
@@ -99,25 +100,22 @@ module _ (limits register : List ℕ) (fine : limitsOf limits .refusal ≡ 0)
   lines-are : linesOf (reportOf limits register) ≡ headerLine ∷ listing (pointLine l b) p
   lines-are = ap linesOf text-is ∙ points-lines l b
 
-  -- each point is answered, since the first one is
+  -- each point is answered, and counts all that stands
   made : b ≡ booked (emptyBook p bookRows) cs
   made = register-booked p (emptyBook p bookRows) register
 
   answered : (point : ℕ) → point < p → bookLoad p point (booked (emptyBook p bookRows) cs) (l .days) .refused
       ≡ 0
-  unfolding bookRefusal
-  answered point h =
-      let first : bookLoad p 0 (booked (emptyBook p bookRows) cs) (l .days) .refused ≡ 0 = rw made at reported in
-      let k = counted-once p 0 bookRows cs (l .days) .refusals .answered .0 first in
-      counted-once p point bookRows cs (l .days) .refusals .answered .1
-      (record { points = k .0 .points; rows = k .0 .rows; there = h }, k .1)
+  answered point h = rw made at (point-answered p (l .days) b p point reported h)
 
   counts : (point : ℕ) → point < p
       → CountsEach (bookLoad p point b (l .days)) point (standingIn p register) (l .days)
   counts point h =
       subst (λ (k : Book). CountsEach (bookLoad p point k (l .days)) point (standingIn p register) (l .days))
       (sym made)
-      (counted-once p point bookRows cs (l .days) .counts (answered point h))
+      (subst (λ (ms : List Movement). CountsEach (loadAfter p bookRows point cs (l .days)) point ms (l .days))
+      (all-count p register .all point h)
+      (counted-once p point bookRows cs (l .days) .counts (answered point h)))
 
   field : (point k : ℕ) → point < p → k < 6
       → printed (reportOf limits register) point k

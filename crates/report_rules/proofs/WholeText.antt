@@ -2,7 +2,7 @@
 -- Assumes nothing.
 use mathlib.Core.{Path._≡_, Path.refl, Path.sym, Path.ap, Path.subst, Path._∙_, Bool.cond, Bool._&&_}
 use mathlib.Core.{Logic._⊎_, Logic.⊎-elim, List.List, List.[], List._∷_, List._++_, List.append-assoc}
-use Prim.Native.Nat.{ℕ, zero, suc, _+_, _≤_}
+use Prim.Native.Nat.{ℕ, zero, suc, _+_, _≤_, _<_}
 use native.Mathlib.Omega.{arith}
 use lib.{Dec.leb, ListN.length, ListN.getD}
 use borrow.Author.Tests.{leb-true}
@@ -20,6 +20,7 @@ use Rattle.book_rules.specs.History.{Held, Movement, hasLevels, Made, emptyBook
 use Rattle.book_rules.specs.History.Held.{none, holds}
 use Rattle.load_rules.specs.Load.{bookLoad}
 use Rattle.load_rules.specs.Refusals.{InRange, DaysInRange, NoneHeld, NoneComputed, LoadNumbers}
+use Rattle.load_rules.specs.Afresh.{loadAfter}
 use Rattle.load_rules.proofs.CountedOnce.{counted-once}
 use Rattle.register.specs.{Cell.cellsOf, Row.eightFrom, Header.headerOf, Header.limitsHeader}
 use Rattle.register.specs.declared.cell.Table.the-variants as table
@@ -29,11 +30,12 @@ use Rattle.report_steps.specs.Booking.{registerCalls}
 use Rattle.report_steps.proofs.Bookings.{register-booked}
 use Rattle.report_text.specs.Text.{headerLine, pointFields, pointLine, pointsText}
 use Rattle.report_text.specs.Text.{bookRefusal, bookText}
+use Rattle.report_text.proofs.Judging.{none-judged, one-refused, all-answered}
 use Rattle.report_rules.specs.Report.{bookRows, reportOf}
 use Rattle.report_rules.specs.Flights.{howMany, computed, bookIn, standingIn}
 use Rattle.report_rules.specs.WholeText.{crlf, refusalBytes, readIn, flights, Whole, WholeText}
 use Rattle.report_rules.proofs.Answers.{reading-refused, reading-reported, register-text, report-refused}
-use Rattle.report_rules.proofs.{Answers.report-accepted, LimitsFits.limits-fit}
+use Rattle.report_rules.proofs.{Answers.report-accepted, LimitsFits.limits-fit, AllCount.all-count}
 use Rattle.report_rules.proofs.{Printed.fields-free, Printed.listing-at, Flights.all-stand}
 use Rattle.report_rules.proofs.Says.{book-points, points-lines, report-says}
 
@@ -139,25 +141,30 @@ module _ (limits register : List ℕ) (fine : limitsOf limits .refusal ≡ 0)
   made : b ≡ booked (emptyBook p bookRows) cs
   made = register-booked p (emptyBook p bookRows) register
 
-  numbers : LoadNumbers (InRange p bookRows 0) (DaysInRange (l .days)) (NoneComputed (standingIn p register))
-      (bookRefusal l b)
-  unfolding bookRefusal
-  numbers =
-      subst (λ (k : Book). LoadNumbers (InRange p bookRows 0) (DaysInRange (l .days))
-      (NoneComputed (standingIn p register)) (bookLoad p 0 k (l .days) .refused))
-      (sym made) (counted-once p 0 bookRows cs (l .days) .refusals)
+  -- at each point all flights count, so that its refusal is that of the whole book
+  numbers : (point : ℕ) → point < p
+      → LoadNumbers (InRange p bookRows point) (DaysInRange (l .days)) (NoneComputed (standingIn p register))
+      (bookLoad p point b (l .days) .refused)
+  numbers point h =
+      subst (λ (k : Book). LoadNumbers (InRange p bookRows point) (DaysInRange (l .days))
+      (NoneComputed (standingIn p register)) (bookLoad p point k (l .days) .refused)) (sym made)
+      (subst (λ (ms : List Movement). LoadNumbers (InRange p bookRows point) (DaysInRange (l .days))
+      (NoneComputed ms) (loadAfter p bookRows point cs (l .days) .refused)) (all-count p register .all point h)
+      (counted-once p point bookRows cs (l .days) .refusals))
 
-  in-range : InRange p bookRows 0
-  in-range =
+  in-range : (point : ℕ) → point < p → InRange p bookRows point
+  in-range point h =
       let fit = limits-fit limits fine in
-      record { points = (fit .some, fit .few); rows = (omega arith, omega arith); there = omega (arith, fit .some) }
+      record { points = (fit .some, fit .few); rows = (omega arith, omega arith); there = h }
 
   ten-given : 1 ≤ length (flights limits register) → howMany computed (flights limits register) ≡ 0
       → bookRefusal l b ≡ 10
   ten-given some z =
       let stand = all-stand p register accepted in
-      numbers .ten .1 (
-        in-range,
+      let first : 0 < p = omega (arith, limits-fit limits fine .some) in
+      let ten : bookLoad p 0 b (l .days) .refused ≡ 10 =
+      numbers 0 first .ten .1 (
+        in-range 0 first,
         (
           limits-days limits fine,
           record {
@@ -165,14 +172,16 @@ module _ (limits register : List ℕ) (fine : limitsOf limits .refusal ≡ 0)
             none-held = none-held (standingIn p register) (stand .each computed ∙ z);
           },
         ),
-      )
+      ) in
+      one-refused p (l .days) b 0 p (none-judged p (l .days) b) (λ e. absurd (omega (arith, ten, e))) first ∙ ten
 
   none-given : (length (flights limits register) ≡ 0) ⊎ (1 ≤ howMany computed (flights limits register))
       → bookRefusal l b ≡ 0
   none-given either-way =
       let stand = all-stand p register accepted in
-      numbers .answered .1 (
-        in-range,
+      all-answered p (l .days) b p
+      (λ point h. numbers point h .answered .1 (
+        in-range point h,
         (
           limits-days limits fine,
           λ n. ⊎-elim
@@ -180,11 +189,12 @@ module _ (limits register : List ℕ) (fine : limitsOf limits .refusal ≡ 0)
               (λ some. absurd (omega (arith, held-many (standingIn p register) (n .none-held), stand .each computed)))
               either-way,
         ),
-      )
+      ))
 
   book-text : reportOf limits register ≡ bookText l b
   book-text =
-      report-accepted bookText limits register fine ∙ sym (register-text bookText l register (readIn limits register) refl)
+      report-accepted bookText limits register fine
+      ∙ sym (register-text bookText l register (readIn limits register) refl)
       ∙ reading-reported bookText l (readIn limits register) accepted
 
   ten-text : bookRefusal l b ≡ 10 → bookText l b ≡ refusedText 10 0
@@ -230,7 +240,8 @@ whole-text limits register =
     let s = readIn limits register in
     record {
       by-limits = λ ne. report-refused bookText limits register ne ∙ refusal-bytes (l .refusal) (l .line);
-      by-register = λ fine ne. report-accepted bookText limits register fine ∙ sym (register-text bookText l register s refl)
+      by-register = λ fine ne. report-accepted bookText limits register fine
+          ∙ sym (register-text bookText l register s refl)
           ∙ reading-refused bookText l s ne ∙ refusal-bytes (s .refusal) (s .line);
       ten = λ fine accepted some z. ten-whole limits register fine accepted some z;
       points = λ fine accepted either-way.

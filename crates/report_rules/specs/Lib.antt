@@ -1,5 +1,6 @@
 pub mod Report
 pub mod Flights
+pub mod AllCount
 pub mod Spelled
 pub mod Refused
 pub mod LimitsSpelled
@@ -10,3 +11,5 @@ pub mod FullBook
 pub mod Accepted
 pub mod Failed
 pub mod Told
+pub mod RegisterExact
+pub mod RowJudged

@@ -4,16 +4,18 @@ use Prim.Native.Nat.{ℕ, _+_, _*_, _≤_}
 use mathlib.Core.Path.{_≡_}
 use mathlib.Core.Logic.{_↔_}
 use mathlib.Core.List.{List}
-use lib.ListN.{take}
+use lib.ListN.{length, take}
 use Rattle.book_rules.specs.Columns.{Book}
 use Rattle.book_rules.specs.Calls.{refusal, after}
 use Rattle.book_rules.specs.History.{emptyBook}
+use Rattle.text.specs.Line.{linesOf}
 use Rattle.text.specs.Sheet.{Refuses}
 use Rattle.text.specs.Spelled.{bytes}
 use Rattle.register.specs.LimitsFile.{limitsOf}
 use Rattle.register.specs.Row.{layoutOf}
 use Rattle.report_steps.specs.Intake.{entering, supplying}
-use Rattle.report_steps.specs.Reading.{lineRefusal, registered}
+use Rattle.stream.specs.Refused.{FirstRefused}
+use Rattle.report_steps.specs.Reading.{lineRefusal, registerStep, registered}
 use Rattle.report_text.specs.Text.{bookRefusal}
 use Rattle.report_rules.specs.Report.{bookRows, reportOf}
 use Rattle.report_rules.specs.Flights.{bookIn}
@@ -30,7 +32,13 @@ pub record ReportRefused (limits register : List ℕ) : Type 0 where
       → (bookRefusal (limitsOf limits) (bookIn p register) ≡ 0 → ⊥)
       → Refuses (reportOf limits register) (bookRefusal (limitsOf limits) (bookIn p register)) 0
 
--- The first refusal of a register counts: `TextRefused (registerStep p) b register` of crate stream
+-- The first refusal of a register counts, at its own line; one with no line has no header: 16 at its line 1. Said of
+-- `registered`, the reading that the report answers
+pub record RegisterRefused (p : ℕ) (b : Book) (register : List ℕ) : Type 0 where
+  pub empty : length (linesOf register) ≡ 0
+      → (registered p b register .refusal ≡ 16) × (registered p b register .line ≡ 1)
+  pub first : 1 ≤ length (linesOf register) → (registered p b register .refusal ≡ 0 → ⊥)
+      → FirstRefused (registerStep p) b register (registered p b register .refusal) (registered p b register .line)
 
 -- What refuses a line
 
@@ -44,13 +52,13 @@ pub record HeaderExactly (p : ℕ) (b : Book) (line : List ℕ) : Type 0 where
 -- any other line is a row: 16, then *enter*, whose 2 passes it over, then *supply* where its levels are not blank
 pub record RowRefused (p n : ℕ) (b : Book) (row : List ℕ) : Type 0 where
   pub off : (layoutOf p row .refusal ≡ 0 → ⊥) → lineRefusal p n b row ≡ 16
-  pub passed : layoutOf p row .refusal ≡ 0 → refusal p b (entering (layoutOf p row)) ≡ 2
+  pub passed : layoutOf p row .refusal ≡ 0 → refusal p b (entering p (layoutOf p row)) ≡ 2
       → lineRefusal p n b row ≡ 0
-  pub entered : layoutOf p row .refusal ≡ 0 → (refusal p b (entering (layoutOf p row)) ≡ 0 → ⊥)
-      → (refusal p b (entering (layoutOf p row)) ≡ 2 → ⊥)
-      → lineRefusal p n b row ≡ refusal p b (entering (layoutOf p row))
-  pub blank : layoutOf p row .refusal ≡ 0 → refusal p b (entering (layoutOf p row)) ≡ 0
+  pub entered : layoutOf p row .refusal ≡ 0 → (refusal p b (entering p (layoutOf p row)) ≡ 0 → ⊥)
+      → (refusal p b (entering p (layoutOf p row)) ≡ 2 → ⊥)
+      → lineRefusal p n b row ≡ refusal p b (entering p (layoutOf p row))
+  pub blank : layoutOf p row .refusal ≡ 0 → refusal p b (entering p (layoutOf p row)) ≡ 0
       → layoutOf p row .fields .computed ≡ 0 → lineRefusal p n b row ≡ 0
-  pub supplied : layoutOf p row .refusal ≡ 0 → refusal p b (entering (layoutOf p row)) ≡ 0
+  pub supplied : layoutOf p row .refusal ≡ 0 → refusal p b (entering p (layoutOf p row)) ≡ 0
       → (layoutOf p row .fields .computed ≡ 0 → ⊥)
-      → lineRefusal p n b row ≡ refusal p (after p b (entering (layoutOf p row))) (supplying p (layoutOf p row))
+      → lineRefusal p n b row ≡ refusal p (after p b (entering p (layoutOf p row))) (supplying p (layoutOf p row))

@@ -23,12 +23,12 @@ booked-then b [] ds = refl
 booked-then b (c ∷ cs) ds = booked-then (after (c .points) b (c .call)) cs ds
 
 layout-booked : (p : ℕ) (b : Book) (l : Layout)
-    → layoutAfter p b l (refusal p b (entering l)) ≡ booked b (layoutCalls p b l)
+    → layoutAfter p b l (refusal p b (entering p l)) ≡ booked b (layoutCalls p b l)
 unfolding layoutAfter enteredAfter layoutCalls booked
 layout-booked p b l =
-    either (eqb (refusal p b (entering l)) 0)
+    either (eqb (refusal p b (entering p l)) 0)
     (λ yes. either (eqb (l .fields .computed) 0) (λ blank. rw (yes, blank) refl) (λ given. rw (yes, given) refl))
-    (λ no. rw no (sym (after-refused p b (entering l) (eqb-false (refusal p b (entering l)) 0 no))))
+    (λ no. rw no (sym (after-refused p b (entering p l) (eqb-false (refusal p b (entering p l)) 0 no))))
 
 pub row-booked : (p : ℕ) (b : Book) (line : List ℕ) → rowAfter p b line ≡ booked b (rowCalls p b line)
 unfolding rowAfter rowCalls booked
@@ -40,7 +40,7 @@ line-booked : (p n : ℕ) (b : Book) (line : List ℕ)
 unfolding lineAfter booked
 line-booked p n b line = either (eqb n 1) (λ yes. rw yes refl) (λ no. rw no (row-booked p b line))
 
-read-booked : (p : ℕ) (s : Reading) (l : List ℕ)
+pub read-booked : (p : ℕ) (s : Reading) (l : List ℕ)
     → lineRead (registerStep p) s l .held ≡ booked (s .held) (cond (eqb (s .line) 1) [] (rowCalls p (s .held) l))
 unfolding lineRead
 read-booked p s l = line-booked p (s .line) (s .held) l

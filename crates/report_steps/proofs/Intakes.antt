@@ -1,9 +1,10 @@
 -- A row that is taken, case by case: from what the layout reads and what the two calls promise to what the row's
 -- definition says. Assumes nothing.
-use mathlib.Core.{Path._≡_, Path.refl, Path.ap, Path._∙_, Bool.Bool, Bool.true, Bool.false, Bool.cond, List.List}
-use Prim.Native.Nat.{ℕ}
+use mathlib.Core.{Path._≡_, Path.refl, Path.ap, Path._∙_, Bool.Bool, Bool.true, Bool.false, Bool.cond}
+use mathlib.Core.List.{List, _∷_}
+use Prim.Native.Nat.{ℕ, zero, suc, _≤_}
 use native.Mathlib.Omega.{arith}
-use lib.{ListN.take, Dec.eqb}
+use lib.{ListN.take, ListN.replicate, Dec.eqb}
 use borrow.Author.Tests.{eq-eqb, ne-eqb}
 use Rattle.book_rules.specs.{Columns.Book, Columns.sound, Calls.Call, Calls.Called, Calls.refusal, Calls.after}
 use Rattle.book_rules.proofs.{Accepted.after-refused, Kept.after-sound}
@@ -14,6 +15,18 @@ use Rattle.report_steps.specs.declared.Taken.the-variants.{Entered, Pass
 use Rattle.report_steps.specs.Intake.{entering, supplying, enteredTaken, enteredAfter}
 use Rattle.report_steps.specs.Intake.{layoutTaken, layoutAfter, rowTaken, rowAfter}
 use Rattle.report_steps.specs.InnerTaken.{RowTaken, LevelsTaken}
+
+-- fewer of the same
+pub take-same : (v n m : ℕ) → n ≤ m → _≡_ {A = List ℕ} (take n (replicate m v)) (replicate n v)
+take-same v zero m h = refl
+take-same v (suc n) zero h = absurd (omega arith)
+take-same v (suc n) (suc m) h = ap (λ (t : List ℕ). v ∷ t) (take-same v n m (omega arith))
+
+-- *enter* with as many of eight times yes as there are points
+pub everywhere : {p x t k s m r : ℕ} {b b′ : Book} → p ≤ 8
+    → Called p b (Call.enter x t k s m (take p (replicate 8 1))) r b′
+    → Called p b (Call.enter x t k s m (replicate p 1)) r b′
+everywhere {p} h k = rw (take-same 1 p 8 h) at k
 
 -- *supply* of a row's levels, refused or accepted
 pub levels-refused : {p x r : ℕ} {b b′ : Book} {given : List ℕ}
@@ -39,10 +52,10 @@ row-off line {p} {b} {l} e ne =
     record { answer = rw (← e, off) refl; book = rw (← e, off) refl }
 
 module _ (line : List ℕ) {p r : ℕ} {b b₁ : Book} {l : Layout} (e : l ≡ layoutOf p line) (z : l .refusal ≡ 0)
-    (k : Called p b (entering l) r b₁) where
+    (k : Called p b (entering p l) r b₁) where
   -- *enter* refuses, so the book stays as it was
   same : (r ≡ 0 → ⊥) → b₁ ≡ b
-  same ne = k .book ∙ after-refused p b (entering l) (λ q. ne (k .answer ∙ q))
+  same ne = k .book ∙ after-refused p b (entering p l) (λ q. ne (k .answer ∙ q))
 
   pub row-passed : r ≡ 2 → RowTaken p b line PassedOver b₁
   unfolding rowTaken rowAfter layoutTaken layoutAfter
@@ -64,21 +77,21 @@ module _ (line : List ℕ) {p r : ℕ} {b b₁ : Book} {l : Layout} (e : l ≡ l
   -- *enter* accepts: the row's levels are blank, or *supply* follows
   pub row-entered : r ≡ 0 → l .fields .computed ≡ 0 → RowTaken p b line Entered b₁
   unfolding rowTaken rowAfter layoutTaken layoutAfter enteredTaken enteredAfter
-  row-entered zero blank =
+  row-entered in-book blank =
       record {
-        answer = rw (← e, eq-eqb (l .refusal) 0 z, ← k .answer, zero, eq-eqb (l .fields .computed) 0 blank) refl;
-        book = rw (← e, eq-eqb (l .refusal) 0 z, ← k .answer, zero, eq-eqb (l .fields .computed) 0 blank) (k .book);
+        answer = rw (← e, eq-eqb (l .refusal) 0 z, ← k .answer, in-book, eq-eqb (l .fields .computed) 0 blank) refl;
+        book = rw (← e, eq-eqb (l .refusal) 0 z, ← k .answer, in-book, eq-eqb (l .fields .computed) 0 blank) (k .book);
       }
 
   pub row-supplied : {t : Taken} {b₂ : Book} → r ≡ 0 → (l .fields .computed ≡ 0 → ⊥)
       → LevelsTaken p b₁ (l .fields .identity) (l .levels) t b₂
       → RowTaken p b line t b₂
   unfolding rowTaken rowAfter layoutTaken layoutAfter enteredTaken enteredAfter
-  row-supplied zero given s =
+  row-supplied in-book given s =
       let some = ne-eqb (l .fields .computed) 0 given in
       record {
-        answer = rw (← e, eq-eqb (l .refusal) 0 z, ← k .answer, zero, some, ← k .book) (s .answer);
-        book = rw (← e, eq-eqb (l .refusal) 0 z, ← k .answer, zero, some, ← k .book) (s .book);
+        answer = rw (← e, eq-eqb (l .refusal) 0 z, ← k .answer, in-book, some, ← k .book) (s .answer);
+        book = rw (← e, eq-eqb (l .refusal) 0 z, ← k .answer, in-book, some, ← k .book) (s .book);
       }
 
 -- a row keeps a sound book sound
@@ -88,18 +101,18 @@ pub row-sound : {p : ℕ} {b b′ : Book} {r : Taken} (line : List ℕ) → soun
 unfolding rowAfter layoutAfter enteredAfter
 row-sound {p} {b} {b′} {r} line s k =
     ap (sound p) (k .book)
-    ∙ go (eqb (l .refusal) 0) (eqb (refusal p b (entering l)) 0) (eqb (l .fields .computed) 0)
+    ∙ go (eqb (l .refusal) 0) (eqb (refusal p b (entering p l)) 0) (eqb (l .fields .computed) 0)
   where
     l : Layout
     l = layoutOf p line
 
-    entered : sound p (after p b (entering l)) ≡ true
-    entered = after-sound p p b (entering l) s (λ _. refl)
+    entered : sound p (after p b (entering p l)) ≡ true
+    entered = after-sound p p b (entering p l) s (λ _. refl)
 
     go : (x y z : Bool)
-        → sound p (cond x (cond y (cond z (after p b (entering l))
-        (after p (after p b (entering l)) (supplying p l))) b) b) ≡ true
+        → sound p (cond x (cond y (cond z (after p b (entering p l))
+        (after p (after p b (entering p l)) (supplying p l))) b) b) ≡ true
     go false y z = s
     go true false z = s
     go true true true = entered
-    go true true false = after-sound p p (after p b (entering l)) (supplying p l) entered (λ _. refl)
+    go true true false = after-sound p p (after p b (entering p l)) (supplying p l) entered (λ _. refl)

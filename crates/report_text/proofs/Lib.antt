@@ -1,3 +1,4 @@
 pub mod Lines
 pub mod Levels
+pub mod Judging
 pub mod Points

@@ -1,5 +1,5 @@
 -- The lines of the points, one after another, behind the header. Assumes nothing.
-use mathlib.Core.{Path._≡_, Path.ap, Bool.cond, List.List, List._++_}
+use mathlib.Core.{Path._≡_, Bool.cond, List.List, List._++_}
 use Prim.Native.Nat.{ℕ, _+_, _≤_}
 use native.Mathlib.Omega.{arith}
 use lib.{Dec.eqb, ListN.length, ListN.getD, ListN.length-append}
@@ -72,9 +72,3 @@ text-refused l b told {s} {e} {r} {n} q ne w = rw (← q, ne-eqb n 0 ne) w
 pub text-points : (l : LimitsFile) (b : Book) {told s e : List ℕ} {r n : ℕ} → n ≡ bookRefusal l b → n ≡ 0
     → Wrote s 0 told e r → Wrote s 0 (byRefusal l b told) e r
 text-points l b q z w = rw (← q, z) w
-
--- the first load's refusal is the book's
-pub refusal-is : (l : LimitsFile) (b : Book) {load : Load} → load ≡ bookLoad (l .points) 0 b (l .days)
-    → load .refused ≡ bookRefusal l b
-unfolding bookRefusal
-refusal-is l b q = ap (λ (a : Load). a .refused) q

@@ -1,5 +1,5 @@
 -- The report as text, from the limits and a book: RULES, "Files and the report program". Assumes nothing.
-use Prim.Native.Nat.{ℕ, _+_}
+use Prim.Native.Nat.{ℕ, zero, suc, _+_}
 use mathlib.Core.Bool.{cond}
 use mathlib.Core.List.{List, [], _∷_}
 use lib.ListN.{getD}
@@ -10,6 +10,7 @@ use Rattle.level.specs.declared.Verdict.{Verdict}
 use Rattle.level.specs.declared.Verdict.the-variants.{Within, Over}
 use Rattle.level.specs.Level.{verdictOf}
 use Rattle.book_rules.specs.Columns.{Book}
+use Rattle.book_rules.specs.Calls.{refusedOr}
 use Rattle.load_rules.specs.declared.Load.{Load}
 use Rattle.load_rules.specs.Load.{bookLoad}
 use Rattle.text.specs.Number.{showNumber, showLevel}
@@ -49,9 +50,14 @@ headerLine = bytes "point,level,limit,verdict,computed,missing"
 unfoldable pub pointsText : LimitsFile → Book → List ℕ
 pointsText l b = ended (headerLine ∷ listing (pointLine l b) (l .points))
 
--- the refusal of the whole book, 0 for none: every movement counts at every point, so it is that of the first point
-unfoldable pub bookRefusal : LimitsFile → Book → ℕ
-bookRefusal l b = bookLoad (l .points) 0 b (l .days) .refused
+-- the refusal of the points below n: that of the first one that is refused, 0 where each is answered
+unfoldable pub refusedTo : (points days : ℕ) → Book → ℕ → ℕ
+refusedTo p days b zero = 0
+refusedTo p days b (suc n) = refusedOr (refusedTo p days b n) (bookLoad p n b days .refused)
+
+-- the refusal of the whole book, 0 for none: each of its points is judged
+abbrev pub bookRefusal : LimitsFile → Book → ℕ
+bookRefusal l b = refusedTo (l .points) (l .days) b (l .points)
 
 -- the report of a book; a refusal of the whole book has line 0
 unfoldable pub bookText : LimitsFile → Book → List ℕ

@@ -14,6 +14,7 @@ use text::core::put_field;
 use text::core::put_refused;
 use text::core::put_text;
 use text::core::put_word;
+ghost use mathlib.Core.Path.{_≡_};
 ghost use mathlib.Core.List.{_∷_, _++_};
 ghost use Prim.Native.Nat.{_+_, _≤_, _<_};
 ghost use lib.ListN.{length};
@@ -26,7 +27,7 @@ ghost use Rattle.text.specs.Spelled.{crlf};
 ghost use Rattle.text.specs.Number.{showNumber, showLevel};
 ghost use Rattle.report_text.specs.Totals.{allComputed, allMissing};
 ghost use Rattle.report_text.specs.Text.{levelText, verdictText, pointFields};
-ghost use Rattle.report_text.specs.Text.{headerLine, pointsText};
+ghost use Rattle.report_text.specs.Text.{headerLine, pointsText, refusedTo};
 ghost use Rattle.report_text.specs.InnerRoom.{longestWord, longestJudged, longestTotals};
 ghost use Rattle.report_text.specs.InnerRoom.{longestPoint, headerSize, longestReport};
 ghost use Rattle.report_text.specs.InnerRoom.{LimitsFit, Reported};
@@ -126,11 +127,12 @@ fn put_points(
     ids: &[u32],
     groups: &[u32],
     marks: &[u32],
+    counts: &[u32],
     levels: &[u32],
     limits: LimitsFile,
 ) -> usize
     requires { ⌜ LimitsFit limits × (longestReport ≤ length (now out)) ⌝ }
-    ensures { λ r. ⌜ Wrote (now (out .entry)) 0 (pointsText limits (bookBefore ids groups marks levels))
+    ensures { λ r. ⌜ Wrote (now (out .entry)) 0 (pointsText limits (bookBefore ids groups marks counts levels))
         (now (out .exit)) r ⌝ }
 {
     let points = limits.points as usize;
@@ -139,11 +141,35 @@ fn put_points(
     let mut at = put_header(out);
     let mut point = 0;
     while point < points {
-        let load = load_at(ids, groups, marks, levels, points, point, days);
+        let load = load_at(ids, groups, marks, counts, levels, points, point, days);
         at = put_point(out, at, point, load, limit[point]);
         point += 1;
     }
     at
+}
+
+// The refusal of the whole book: that of the first point that is refused, 0 where each is answered.
+pub fn book_refusal(
+    ids: &[u32],
+    groups: &[u32],
+    marks: &[u32],
+    counts: &[u32],
+    levels: &[u32],
+    points: usize,
+    days: u32,
+) -> u32
+    ensures { λ r. ⌜ r ≡ refusedTo points days (bookBefore ids groups marks counts levels) points ⌝ }
+{
+    let mut point = 0;
+    while point < points {
+        let load = load_at(ids, groups, marks, counts, levels, points, point, days);
+        let refused = load.refused;
+        if refused != 0 {
+            return refused;
+        }
+        point += 1;
+    }
+    0
 }
 
 // The report of a book, at the front of a buffer.
@@ -152,20 +178,20 @@ pub fn put_report(
     ids: &[u32],
     groups: &[u32],
     marks: &[u32],
+    counts: &[u32],
     levels: &[u32],
     limits: LimitsFile,
 ) -> Report
     requires { ⌜ LimitsFit limits × (longestReport ≤ length (now out)) ⌝ }
-    ensures { λ r. ⌜ Reported limits (bookBefore ids groups marks levels) (now (out .entry)) r
+    ensures { λ r. ⌜ Reported limits (bookBefore ids groups marks counts levels) (now (out .entry)) r
         (now (out .exit)) ⌝ }
 {
     let points = limits.points as usize;
-    let first = load_at(ids, groups, marks, levels, points, 0, limits.days);
-    let refused = first.refused;
+    let refused = book_refusal(ids, groups, marks, counts, levels, points, limits.days);
     if refused != 0 {
         let size = put_refused(out, refused, 0);
         return Report { size, refused };
     }
-    let size = put_points(out, ids, groups, marks, levels, limits);
+    let size = put_points(out, ids, groups, marks, counts, levels, limits);
     Report { size, refused }
 }

@@ -158,3 +158,45 @@ module _ {A : Type 0} (step : Step A) where
       let f = text-refused a bytes .first (k .some) ne in
       let z : s .refusal ≡ 0 = f .number= ∙ rw (f .line=) (k .each (f .before) (f .reached)) in
       absurd (ne z))
+
+  -- The other way too: a line that is refused on what the lines before it leave, none of which is refused, is told
+
+  told-from : (s : Reading A) (ls : List (List ℕ)) (n : ℕ) → s .refusal ≡ 0 → n < length ls
+      → linesRead step s (take n ls) .refusal ≡ 0
+      → (step .refusal (s .line + n) (linesRead step s (take n ls) .held) (getD ls n []) ≡ 0 → ⊥)
+      → (linesRead step s ls .refusal
+      ≡ step .refusal (s .line + n) (linesRead step s (take n ls) .held) (getD ls n []))
+      × (linesRead step s ls .line ≡ s .line + n)
+  unfolding linesRead
+  told-from s [] n z h fine ne = absurd (omega arith)
+  told-from s (l ∷ ls) zero z h fine ne =
+      let stays = stuck step (lineRead step s l) ls (λ q. ne (sym (read-number s l) ∙ q)) in
+      let stop = line-stops s l (λ q. ne (sym (read-number s l) ∙ q)) in
+      rw (eq-eqb (s .refusal) 0 z, stays) (read-number s l, omega (arith, stop))
+  told-from s (l ∷ ls) (suc m) z h fine ne =
+      let go = eq-eqb (s .refusal) 0 z in
+      let on : linesRead step (lineRead step s l) (take m ls) .refusal ≡ 0 = rw go at fine in
+      let f = line-fine step s l (take m ls) on in
+      let e : s .line + suc m ≡ lineRead step s l .line + m = omega (arith, f .1) in
+      let none : lineRead step s l .refusal ≡ 0 = read-number s l ∙ zeroth (f .0) in
+      rw (go, e) (told-from (lineRead step s l) ls m none (omega arith) on (rw (go, e) at ne))
+    where
+      zeroth : step .refusal (s .line) (s .held) l ≡ 0 → step .refusal (s .line + 0) (s .held) l ≡ 0
+      zeroth q = let e : s .line + 0 ≡ s .line = omega arith in rw e q
+
+  pub first-told : (a : A) (bytes : List ℕ) (number line : ℕ) → FirstRefused step a bytes number line
+      → (number ≡ 0 → ⊥)
+      → (wholeRead step a bytes .refusal ≡ number) × (wholeRead step a bytes .line ≡ line)
+  unfolding wholeRead
+  first-told a bytes number line f ne =
+      let ls = linesOf bytes in
+      let s = linesRead step (opening a) ls in
+      let e : line ≡ 1 + f .before = omega (arith, f .line=) in
+      let same : number ≡ step .refusal (1 + f .before) (heldAfter step a bytes (f .before)) (getD ls (f .before) []) =
+      f .number= ∙ ap (λ (n : ℕ). step .refusal n (heldAfter step a bytes (f .before)) (getD ls (f .before) [])) e in
+      let k = told-from (opening a) ls (f .before) refl (f .reached) (f .fine) (λ q. ne (same ∙ q)) in
+      let is : s .refusal ≡ number = k .0 ∙ sym same in
+      let c = closing-refused s (λ q. ne (sym is ∙ q)) in (
+        ap (λ (q : Reading A). q .refusal) c ∙ is,
+        ap (λ (q : Reading A). q .line) c ∙ k .1 ∙ sym e,
+      )

@@ -1,6 +1,6 @@
 -- The cases marked P hold. Assumes nothing.
 use mathlib.Core.Path.{_≡_, refl, sym, ap, _∙_}
-use mathlib.Core.{Logic._⊎_, Logic.inl, Logic.inr, Logic.⊎-elim, List.[]}
+use mathlib.Core.{Logic._⊎_, Logic.inl, Logic.inr, Logic.⊎-elim, List.List, List.[]}
 use Prim.Native.Nat.{ℕ, zero, suc, _+_, _*_, _/_, _%_, _^_, _≤_, _<_}
 use native.Mathlib.Omega.{arith}
 use lib.Dec.{lit<, lit≤}
@@ -8,6 +8,8 @@ use borrow.Author.Tests.{lt-ltb, le-leb, eq-eqb, ne-eqb}
 use Rattle.movement.specs.Limits.{kindCount, secondsADay, maxIdentity, maxPoints, maxRows}
 use Rattle.movement.specs.{Period.periodNumber, Period.periodNumbered, Group.groupPeriod}
 use Rattle.movement.specs.Rules.{fieldsFit, counts, movementRefusal, identityFits}
+use Rattle.movement.specs.Ranges.{CountsInRange}
+use Rattle.movement.proofs.Ranges.{ranges-hold}
 use Rattle.book_rules.specs.Calls.{refusedOr, refusal}
 use Rattle.book_rules.specs.Calls.Call.{enter}
 use Rattle.book_rules.specs.History.{made, emptyBook, booked, movements, accepted, listOf, listRefusal}
@@ -37,14 +39,14 @@ loaded-as t k number h =
 
 in-day : (s : ℕ) → 25200 ≤ s → s < 68400 → InPeriod s 0
 in-day s h k = record {
-  stored = λ p x t i m b b′ q. call-does (enter x t i s m) q .day h k;
+  stored = λ p x t i m cs b b′ q. call-does (enter x t i s m cs) q .day h k;
   loaded =
       λ t i. loaded-as t i 0 (omega arith);
 }
 
 in-evening : (s : ℕ) → 68400 ≤ s → s < 82800 → InPeriod s 1
 in-evening s h k = record {
-  stored = λ p x t i m b b′ q. call-does (enter x t i s m) q .evening h k;
+  stored = λ p x t i m cs b b′ q. call-does (enter x t i s m cs) q .evening h k;
   loaded =
       λ t i. loaded-as t i 1 (omega arith);
 }
@@ -52,24 +54,25 @@ in-evening s h k = record {
 in-night : (s : ℕ) → (82800 ≤ s) ⊎ (s < 25200) → InPeriod s 2
 in-night s h =
     record {
-      stored = λ p x t i m b b′ q.
-          let e = call-does (enter x t i s m) q in ⊎-elim (e .late) (e .early) h;
+      stored = λ p x t i m cs b b′ q.
+          let e = call-does (enter x t i s m cs) q in ⊎-elim (e .late) (e .early) h;
       loaded = λ t i. loaded-as t i 2 (omega arith);
     }
 
 -- an *enter* on an empty book is refused as its movement is
-enter-empty : (p n x t k s m : ℕ) → (1 ≤ p) × (p ≤ 8) → (1 ≤ n) × (n ≤ 50000)
-    → (1 ≤ x) × (x ≤ 99999)
-    → refusal p (emptyBook p n) (enter x t k s m) ≡ movementRefusal t k s m
+enter-empty : (p n x t k s m : ℕ) (cs : List ℕ) → (1 ≤ p) × (p ≤ 8) → (1 ≤ n) × (n ≤ 50000)
+    → (1 ≤ x) × (x ≤ 99999) → CountsInRange p cs
+    → refusal p (emptyBook p n) (enter x t k s m cs) ≡ movementRefusal t k s m
 unfolding identityFits booked movements accepted listOf listRefusal standingRefusal sizesFit standing
-enter-empty p n x t k s m hp hn hx =
-    history-refusal p n [] (made p (enter x t k s m))
+enter-empty p n x t k s m cs hp hn hx hc =
+    history-refusal p n [] (made p (enter x t k s m cs))
     ∙ rw (
       eq-eqb p p refl,
       le-leb 1 p (hp .0),
       le-leb p maxPoints (hp .1),
       le-leb 1 n (hn .0),
       le-leb n maxRows (hn .1),
+      ranges-hold .counts= p cs .1 hc,
       le-leb 1 x (hx .0),
       le-leb x maxIdentity (hx .1),
     )
@@ -82,8 +85,8 @@ enter-empty p n x t k s m hp hn hx =
 -- a refusal of type and mass is the same for every kind and second in range
 of-mass : (type kg answer : ℕ) → movementRefusal type 0 0 kg ≡ answer → EnterAnswered type kg answer
 unfolding movementRefusal fieldsFit
-of-mass type kg answer e p n x k s hp hn hx hk hs =
-    enter-empty p n x type k s kg hp hn hx
+of-mass type kg answer e p n x k s cs hp hn hx hc hk hs =
+    enter-empty p n x type k s kg cs hp hn hx hc
     ∙ rw (lt-ltb k kindCount (omega arith), lt-ltb s secondsADay (omega arith)) e
 
 -- A(0) and A(500)

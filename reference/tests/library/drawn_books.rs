@@ -252,45 +252,44 @@ pub fn spoil(random: &mut Random, book: &mut Book) {
     }
 }
 
-/// Spoils the yes and no of a book with a row, or a level beside them, in one place; the rest stays right.
+/// Ways to spoil the yes and no of a book, or a level beside them, in one place; the rest stays right.
+type Spoil = fn(&mut Random, &mut Book);
+const WAYS: [(&str, Spoil); 8] = [
+    ("a number too many", |random, book| book.counts.push(random.within(0, 1))),
+    ("a number too few", |_, book| book.counts.truncate(book.counts.len() - 1)),
+    ("a number over 1", |random, book| *a_count(random, book) = random.pick(&[2, 3, u32::MAX])),
+    ("yes for no or no for yes", |random, book| *a_count(random, book) ^= 1),
+    ("those of another number of points", |_, book| {
+        book.counts.resize(book.identities.len() * (book.points as usize % 8 + 1), 0);
+    }),
+    ("another number of points, which the levels fit", |_, book| {
+        book.points = book.points % 8 + 1;
+        book.levels.resize(book.identities.len() * book.points as usize, 0);
+    }),
+    ("a level where its row doesn't count", |random, book| {
+        let elsewhere = |&cell: &usize| book.marks[cell / book.points as usize] == 1 && book.counts[cell] == 0;
+        let cells: Vec<usize> = (0..book.counts.len()).filter(elsewhere).collect();
+        if !cells.is_empty() {
+            book.levels[random.pick(&cells)] = random.within(1, 12_000);
+        }
+    }),
+    ("a yes in an unused row", |random, book| {
+        let used = book.identities.iter().filter(|&&identity| identity > 0).count() * book.points as usize;
+        if used < book.counts.len() {
+            let cell = random.within(used as u32, book.counts.len() as u32 - 1) as usize;
+            book.counts[cell] = 1;
+        }
+    }),
+];
+
+fn a_count<'a>(random: &mut Random, book: &'a mut Book) -> &'a mut u32 {
+    let cell = random.within(0, book.counts.len() as u32 - 1) as usize;
+    &mut book.counts[cell]
+}
+
+/// Spoils a sound book with a row in one of these ways, where there is such a place.
 pub fn spoil_counting(random: &mut Random, book: &mut Book) {
-    let cells = book.counts.len() as u32;
-    let cell = random.within(0, cells - 1) as usize;
-    let elsewhere = (0..cells as usize).find(|&at| book.marks[at / book.points as usize] == 1 && book.counts[at] == 0);
-    let what = match (random.within(0, 8), elsewhere) {
-        (0, _) => {
-            book.counts.push(random.within(0, 1));
-            "a number too many"
-        }
-        (1, _) => {
-            book.counts.pop();
-            "a number too few"
-        }
-        (2, _) => {
-            book.counts[cell] = random.pick(&[2, 3, u32::MAX]);
-            "a number over 1"
-        }
-        (3, _) => {
-            book.counts.resize(book.identities.len() * (book.points as usize % 8 + 1), 0);
-            "those of another number of points"
-        }
-        (4, _) => {
-            book.points = book.points % 8 + 1;
-            book.levels.resize(book.identities.len() * book.points as usize, 0);
-            "another number of points, which the levels fit"
-        }
-        (5, Some(elsewhere)) => {
-            book.levels[elsewhere] = random.within(1, 12_000);
-            "a level where its row doesn't count"
-        }
-        (6, _) if book.identities.last() == Some(&0) => {
-            book.counts[cells as usize - 1] = 1;
-            "a yes in an unused row"
-        }
-        _ => {
-            book.counts[cell] ^= 1;
-            "yes for no or no for yes"
-        }
-    };
-    saw("spoilt", what);
+    let (before, (what, spoil)) = (book.clone(), random.pick(&WAYS));
+    spoil(random, book);
+    saw("spoilt", if *book == before { "not at all" } else { what });
 }

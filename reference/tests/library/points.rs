@@ -76,6 +76,17 @@ fn calls_counting_somewhere() {
     });
 }
 
+const SPOILT: &[&str] = &[
+    "a number too many",
+    "a number too few",
+    "a number over 1",
+    "yes for no or no for yes",
+    "those of another number of points",
+    "another number of points, which the levels fit",
+    "a level where its row doesn't count",
+    "a yes in an unused row",
+];
+
 #[test]
 fn columns_of_yes_and_no_spoilt() {
     const CALLS: &[&str] = &["0", "9"];
@@ -88,20 +99,7 @@ fn columns_of_yes_and_no_spoilt() {
         ("load", 500, CALLS),
         ("account", 500, CALLS),
         ("verdict", 500, CALLS),
-        (
-            "spoilt",
-            500,
-            &[
-                "a number too many",
-                "a number too few",
-                "a number over 1",
-                "those of another number of points",
-                "another number of points, which the levels fit",
-                "a level where its row doesn't count",
-                "a yes in an unused row",
-                "yes for no or no for yes",
-            ],
-        ),
+        ("spoilt", 400, SPOILT),
     ];
     compared_rounds("columns_of_yes_and_no_spoilt", 20_000, TELLING, |library, random| {
         let (rows, points) = (random.within(1, 6), random.within(1, 8));

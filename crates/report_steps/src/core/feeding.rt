@@ -42,19 +42,20 @@ pub fn take_line(
     ids: &mut [u32],
     groups: &mut [u32],
     marks: &mut [u32],
+    counts: &mut [u32],
     levels: &mut [u32],
     points: usize,
     line: &[u8],
     number: u64,
 ) -> u32
-    requires { ⌜ sound points (bookNow ids groups marks levels) ≡ true ⌝ }
-    ensures { λ r. ⌜ LineTaken (registerStep points) number (bookBefore ids groups marks levels) (now (line .entry)) r
-        (bookAfter ids groups marks levels) ⌝ }
+    requires { ⌜ sound points (bookNow ids groups marks counts levels) ≡ true ⌝ }
+    ensures { λ r. ⌜ LineTaken (registerStep points) number (bookBefore ids groups marks counts levels)
+        (now (line .entry)) r (bookAfter ids groups marks counts levels) ⌝ }
 {
     if number == 1 {
         return header_refusal(line, points);
     }
-    take_row(ids, groups, marks, levels, points, line).number()
+    take_row(ids, groups, marks, counts, levels, points, line).number()
 }
 
 // Takes every line that the bytes end, up to the first that is refused.
@@ -62,22 +63,32 @@ pub fn take_lines(
     ids: &mut [u32],
     groups: &mut [u32],
     marks: &mut [u32],
+    counts: &mut [u32],
     levels: &mut [u32],
     points: usize,
     bytes: &[u8],
     line: u64,
 ) -> Feed
-    requires { ⌜ sound points (bookNow ids groups marks levels) ≡ true ⌝ }
+    requires { ⌜ sound points (bookNow ids groups marks counts levels) ≡ true ⌝ }
     requires { ⌜ line + length (now bytes) < 2 ^ 64 ⌝ }
-    ensures { λ r. ⌜ LinesTaken (registerStep points) (readingAt 0 line (bookBefore ids groups marks levels))
-        (now (bytes .entry)) (r .at) (readingAt (r .refusal) (r .line) (bookAfter ids groups marks levels))
-        × (sound points (bookAfter ids groups marks levels) ≡ true) ⌝ }
+    ensures { λ r. ⌜ LinesTaken (registerStep points) (readingAt 0 line (bookBefore ids groups marks counts levels))
+        (now (bytes .entry)) (r .at) (readingAt (r .refusal) (r .line) (bookAfter ids groups marks counts levels))
+        × (sound points (bookAfter ids groups marks counts levels) ≡ true) ⌝ }
 {
     let mut at = 0;
     let mut number = line;
     let mut end = line_end(bytes, 0);
     while 2 <= bytes.len() - end {
-        let refusal = take_line(ids, groups, marks, levels, points, &bytes[at..end], number);
+        let refusal = take_line(
+            ids,
+            groups,
+            marks,
+            counts,
+            levels,
+            points,
+            &bytes[at..end],
+            number,
+        );
         if refusal != 0 {
             return Feed {
                 at,
@@ -101,18 +112,19 @@ pub fn take_last(
     ids: &mut [u32],
     groups: &mut [u32],
     marks: &mut [u32],
+    counts: &mut [u32],
     levels: &mut [u32],
     points: usize,
     bytes: &[u8],
     line: u64,
 ) -> Feed
-    requires { ⌜ sound points (bookNow ids groups marks levels) ≡ true ⌝ }
+    requires { ⌜ sound points (bookNow ids groups marks counts levels) ≡ true ⌝ }
     requires { ⌜ Unended (now bytes) ⌝ }
     requires { ⌜ 1 ≤ line ⌝ }
     requires { ⌜ line + length (now bytes) < 2 ^ 64 ⌝ }
-    ensures { λ r. ⌜ LastTaken (registerStep points) (readingAt 0 line (bookBefore ids groups marks levels))
-        (now (bytes .entry)) (readingAt (r .refusal) (r .line) (bookAfter ids groups marks levels))
-        × (sound points (bookAfter ids groups marks levels) ≡ true) ⌝ }
+    ensures { λ r. ⌜ LastTaken (registerStep points) (readingAt 0 line (bookBefore ids groups marks counts levels))
+        (now (bytes .entry)) (readingAt (r .refusal) (r .line) (bookAfter ids groups marks counts levels))
+        × (sound points (bookAfter ids groups marks counts levels) ≡ true) ⌝ }
 {
     if bytes.len() == 0 {
         if line == 1 {
@@ -128,7 +140,7 @@ pub fn take_last(
             refusal: 0,
         };
     }
-    let refusal = take_line(ids, groups, marks, levels, points, bytes, line);
+    let refusal = take_line(ids, groups, marks, counts, levels, points, bytes, line);
     if refusal != 0 {
         return Feed {
             at: 0,
@@ -148,20 +160,31 @@ pub fn take_piece(
     ids: &mut [u32],
     groups: &mut [u32],
     marks: &mut [u32],
+    counts: &mut [u32],
     levels: &mut [u32],
     points: usize,
     bytes: &mut [u8],
     len: usize,
     line: u64,
 ) -> Piece
-    requires { ⌜ sound points (bookNow ids groups marks levels) ≡ true ⌝ }
+    requires { ⌜ sound points (bookNow ids groups marks counts levels) ≡ true ⌝ }
     requires { ⌜ len ≤ length (now bytes) ⌝ }
     requires { ⌜ line + len < 2 ^ 64 ⌝ }
-    ensures { λ r. ⌜ PieceTaken (registerStep points) longestRow (readingAt 0 line (bookBefore ids groups marks levels))
-        (take len (now (bytes .entry))) (readingAt (r .refusal) (r .line) (bookAfter ids groups marks levels))
-        (take (r .left) (now (bytes .exit))) × (sound points (bookAfter ids groups marks levels) ≡ true) ⌝ }
+    ensures { λ r. ⌜ PieceTaken (registerStep points) longestRow
+        (readingAt 0 line (bookBefore ids groups marks counts levels)) (take len (now (bytes .entry)))
+        (readingAt (r .refusal) (r .line) (bookAfter ids groups marks counts levels))
+        (take (r .left) (now (bytes .exit))) × (sound points (bookAfter ids groups marks counts levels) ≡ true) ⌝ }
 {
-    let feed = take_lines(ids, groups, marks, levels, points, &bytes[..len], line);
+    let feed = take_lines(
+        ids,
+        groups,
+        marks,
+        counts,
+        levels,
+        points,
+        &bytes[..len],
+        line,
+    );
     let at = feed.at;
     let left = len - at;
     let refusal = feed.refusal;

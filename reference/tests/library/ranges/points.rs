@@ -1,11 +1,12 @@
 //! Yes and no, one a point: what *enter* and the column take, where levels may be, and how rows keep them.
 
 use super::books::{a_book, every_call};
-use crate::compared::{change, Book, Change};
+use crate::compared::{change, load, Book, Change};
 use crate::drawn_books::spell;
 use crate::library::Library;
 use crate::rounds::{directed, Telling};
 use reference::book::Columns;
+use reference::calls::LOAD_NUMBERS;
 use reference::movement::Movement;
 
 const LARGE: Movement = Movement { aircraft: 0, kind: 0, time: 25_200, mass: 70_000 };
@@ -75,6 +76,35 @@ fn three_ways(rows: usize) -> Book {
     book
 }
 
+/// Levels supplied to an identity of such a book, and what *supply* answers.
+const LEVELS: [(u32, &[u32], u32); 24] = [
+    (1, &[12_000, 0], 0),
+    (1, &[0, 0], 0),
+    (1, &[0, 1], 19),
+    (1, &[12_000, 12_000], 19),
+    (1, &[0, 12_001], 7),
+    (1, &[12_001, 1], 7),
+    (1, &[0, 1, 0], 7),
+    (1, &[1], 7),
+    (9, &[0, 1], 0),
+    (9, &[1, 0], 19),
+    (9, &[12_001, 0], 7),
+    (4, &[0, 0], 0),
+    (4, &[1, 0], 19),
+    (4, &[0, 1], 19),
+    (4, &[0, 12_001], 7),
+    // Nobody stands there, next to rows that don't count at one point or at both.
+    (2, &[1, 1], 5),
+    (5, &[1, 1], 5),
+    (8, &[0, 0], 5),
+    (10, &[1, 1], 5),
+    (99_999, &[1, 1], 5),
+    (2, &[12_001, 1], 7),
+    (0, &[1, 1], 3),
+    (0, &[12_001, 1], 3),
+    (100_000, &[1, 1], 3),
+];
+
 #[test]
 fn ranges_of_levels_elsewhere() {
     const TELLING: Telling = &[("supply", 3, &["0", "3", "5", "7", "19"])];
@@ -86,33 +116,7 @@ fn ranges_of_levels_elsewhere() {
         }
         assert_eq!((&computed.marks[..3], &computed.levels[..6]), (&[1; 3][..], &[6_000, 0, 0, 0, 0, 6_000][..]));
         let full = three_ways(3);
-        for (identity, given, expected) in [
-            (1, &[12_000, 0][..], 0),
-            (1, &[0, 0], 0),
-            (1, &[0, 1], 19),
-            (1, &[12_000, 12_000], 19),
-            (1, &[0, 12_001], 7),
-            (1, &[12_001, 1], 7),
-            (1, &[0, 1, 0], 7),
-            (1, &[1], 7),
-            (9, &[0, 1], 0),
-            (9, &[1, 0], 19),
-            (9, &[12_001, 0], 7),
-            (4, &[0, 0], 0),
-            (4, &[1, 0], 19),
-            (4, &[0, 1], 19),
-            (4, &[0, 12_001], 7),
-            // Nobody stands there, next to rows that don't count at one point or at both.
-            (2, &[1, 1], 5),
-            (5, &[1, 1], 5),
-            (8, &[0, 0], 5),
-            (10, &[1, 1], 5),
-            (99_999, &[1, 1], 5),
-            (2, &[12_001, 1], 7),
-            (0, &[1, 1], 3),
-            (0, &[12_001, 1], 3),
-            (100_000, &[1, 1], 3),
-        ] {
+        for (identity, given, expected) in LEVELS {
             for book in [&three_ways(5), &computed, &full] {
                 let (answer, after) = made(&library, book, &supply(identity, given));
                 assert_eq!(answer, expected, "{given:?} for {identity}");
@@ -122,43 +126,44 @@ fn ranges_of_levels_elsewhere() {
     });
 }
 
-/// A column of yes and no that doesn't fit, a number over 1, a yes in an unused row, a level beside a no.
+/// What is done to a book of two points, and whether it is unsound then: columns that don't fit, a number over 1, a yes
+/// in an unused row, a level beside a no.
+const COLUMNS: [(&str, bool, fn(&mut Book)); 20] = [
+    ("as it is", false, |_| {}),
+    ("a no", false, |book| book.counts[2] = 0),
+    ("a movement that counts nowhere", false, |book| book.counts[2..4].fill(0)),
+    ("a no beside a level of zero", false, |book| (book.counts[1], book.levels[1]) = (0, 0)),
+    ("computed and nowhere", false, |book| {
+        book.marks[1] = 1;
+        book.counts[..2].fill(0);
+        book.levels[..2].fill(0);
+    }),
+    ("nobody anywhere", false, |book| {
+        book.counts.fill(0);
+        book.levels.fill(0);
+    }),
+    ("a no beside a level", true, |book| book.counts[1] = 0),
+    ("a no beside the first level", true, |book| book.counts[0] = 0),
+    ("a no beside a level of 1", true, |book| (book.counts[1], book.levels[1]) = (0, 1)),
+    ("a no too many", true, |book| book.counts.push(0)),
+    ("a yes too many", true, |book| book.counts.push(1)),
+    ("one too few", true, |book| book.counts.truncate(7)),
+    ("a row too few", true, |book| book.counts.truncate(6)),
+    ("none at all", true, |book| book.counts.clear()),
+    ("those of one point", true, |book| book.counts.truncate(4)),
+    ("those of three points", true, |book| book.counts.resize(12, 0)),
+    ("a 2", true, |book| book.counts[2] = 2),
+    ("a number far over 1", true, |book| book.counts[0] = u32::MAX),
+    ("a yes in the first unused row", true, |book| book.counts[4] = 1),
+    ("a yes in the last unused row", true, |book| book.counts[7] = 1),
+];
+
 #[test]
 fn ranges_of_the_column() {
     const TELLING: Telling = &[("enter", 6, &["0", "9"]), ("load", 6, &["0", "9"]), ("replay", 6, &["0", "9"])];
     directed("ranges_of_the_column", TELLING, || {
         let library = Library::from_environment();
-        type Spoil = fn(&mut Book);
-        let cases: [(&str, bool, Spoil); 20] = [
-            ("as it is", false, |_| {}),
-            ("a no", false, |book| book.counts[2] = 0),
-            ("a movement that counts nowhere", false, |book| book.counts[2..4].fill(0)),
-            ("a no beside a level of zero", false, |book| (book.counts[1], book.levels[1]) = (0, 0)),
-            ("computed and nowhere", false, |book| {
-                book.marks[1] = 1;
-                book.counts[..2].fill(0);
-                book.levels[..2].fill(0);
-            }),
-            ("nobody anywhere", false, |book| {
-                book.counts.fill(0);
-                book.levels.fill(0);
-            }),
-            ("a no beside a level", true, |book| book.counts[1] = 0),
-            ("a no beside the first level", true, |book| book.counts[0] = 0),
-            ("a no beside a level of 1", true, |book| (book.counts[1], book.levels[1]) = (0, 1)),
-            ("a no too many", true, |book| book.counts.push(0)),
-            ("a yes too many", true, |book| book.counts.push(1)),
-            ("one too few", true, |book| book.counts.truncate(7)),
-            ("a row too few", true, |book| book.counts.truncate(6)),
-            ("none at all", true, |book| book.counts.clear()),
-            ("those of one point", true, |book| book.counts.truncate(4)),
-            ("those of three points", true, |book| book.counts.resize(12, 0)),
-            ("a 2", true, |book| book.counts[2] = 2),
-            ("a number far over 1", true, |book| book.counts[0] = u32::MAX),
-            ("a yes in the first unused row", true, |book| book.counts[4] = 1),
-            ("a yes in the last unused row", true, |book| book.counts[7] = 1),
-        ];
-        for (what, refused, spoil) in cases {
+        for (what, refused, spoil) in COLUMNS {
             let mut book = a_book(4, 2);
             spoil(&mut book);
             every_call(&library, &book, refused, what);
@@ -169,6 +174,41 @@ fn ranges_of_the_column() {
             book.counts.resize(counts, 0);
             book.levels.resize(levels, 0);
             every_call(&library, &book, true, &format!("{points} points, {counts} and {levels} numbers"));
+        }
+    });
+}
+
+/// A book whose movements are all computed and count at every other point; the last third of its rows is unused.
+fn every_other(rows: usize, points: u32) -> Book {
+    let mut book = Columns::new(rows, points);
+    let used = rows.div_ceil(3) * 2;
+    for row in 0..used.min(rows) {
+        (book.identities[row], book.marks[row]) = (row as u32 + 1, 1);
+        for cell in row * points as usize..(row + 1) * points as usize {
+            (book.counts[cell], book.levels[cell]) = if (row + cell) % 2 == 0 { (1, 5_000) } else { (0, 0) };
+        }
+    }
+    book
+}
+
+/// Each cell of such books by itself, whatever stands in the others.
+#[test]
+fn every_cell_of_a_book() {
+    const TELLING: Telling = &[("load", 1_000, &["0", "9"])];
+    directed("every_cell_of_a_book", TELLING, || {
+        let library = Library::from_environment();
+        for (rows, points) in [1, 9, 32].into_iter().flat_map(|rows| (1..=8).map(move |points| (rows, points))) {
+            let book = every_other(rows, points);
+            for cell in 0..book.counts.len() {
+                let used = book.identities[cell / points as usize] > 0;
+                for (count, level) in [(0, 0), (1, 0), (2, 0), (0, 1), (1, 12_000), (1, 12_001), (u32::MAX, 5_000)] {
+                    let mut other = book.clone();
+                    (other.counts[cell], other.levels[cell]) = (count, level);
+                    let sound = if used { count <= 1 && level <= 12_000 * count } else { count == 0 && level == 0 };
+                    let answer = load(&library, &other, cell as u32 % points, 1, &[0; LOAD_NUMBERS]).0;
+                    assert_eq!(answer, if sound { 0 } else { 9 }, "{count} and {level} in cell {cell} of {book:?}");
+                }
+            }
         }
     });
 }

@@ -1,6 +1,6 @@
 -- `book::core::enter` meets its contract: it is refused as `enter_refusal` says, or the row goes in at its place.
 -- Assumes nothing.
-use mathlib.Core.Path.{_≡_, refl, sym, _∙_}
+use mathlib.Core.Path.{_≡_, sym, _∙_}
 use native.Mathlib.Omega.{arith}
 use denote.Ref.{now}
 use borrow.Author.Needs.{needs}

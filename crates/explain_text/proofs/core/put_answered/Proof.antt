@@ -11,7 +11,7 @@ use Rattle.explain_text.proofs.core.put_answered.Statement.{statement}
 use Rattle.explain_text.proofs.core.put_answered.Tie as tie
 
 abbrev book : tie.Start → Book
-book s = bookNow (s .args .ids) (s .args .groups) (s .args .marks) (s .args .levels)
+book s = bookNow (s .args .ids) (s .args .groups) (s .args .marks) (s .args .counts) (s .args .levels)
 
 put-point-requires : tie.Need-put-point-requires
 put-point-requires c κs =

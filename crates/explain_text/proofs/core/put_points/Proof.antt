@@ -5,36 +5,37 @@ use Prim.Native.Nat.{_+_, _-_, _*_, _≤_, _<_}
 use native.Mathlib.Omega.{arith}
 use lib.ListN.{length}
 use Rattle.book_rules.specs.Columns.{Book, bookOf}
-use Rattle.report_text.specs.Text.{bookRefusal}
 use Rattle.text.specs.Sheet.{ended}
 use Rattle.text.specs.InnerWithin.{WroteWithin}
 use Rattle.text.proofs.Within.{within-none, within-more, within-then, within-is}
 use Rattle.explain_text.specs.{Text.linesTo, InnerRoom.longestPoint}
-use Rattle.explain_text.proofs.{Told.point-answered, Points.points-none, Points.points-more, Points.points-all}
+use Rattle.report_text.proofs.Judging.{point-answered}
+use Rattle.explain_text.proofs.Points.{points-none, points-more, points-all}
 use borrow.Author.Needs.{needs}
 use Rattle.explain_text.proofs.core.put_points.Statement.{statement}
 use Rattle.explain_text.proofs.core.put_points.Tie as tie
 
 abbrev Inv-loop : tie.InvT-loop
-Inv-loop out₀ ids groups marks levels points days at₀ point₀ out at point =
-    WroteWithin (longestPoint * point) out₀ at₀ (ended (linesTo points (bookOf ids groups marks levels) point))
+Inv-loop out₀ ids groups marks counts levels points days at₀ point₀ out at point =
+    WroteWithin (longestPoint * point) out₀ at₀ (ended (linesTo points (bookOf ids groups marks counts levels) point))
     out at
     × (point ≤ points) × (length out ≡ length out₀)
 
 abbrev μ-loop : tie.MeasureT-loop
-μ-loop out₀ ids groups marks levels points days at₀ point₀ out at point = points - point
+μ-loop out₀ ids groups marks counts levels points days at₀ point₀ out at point = points - point
 
 abbrev book : tie.Start Inv-loop μ-loop → Book
-book s = bookOf (s .args .ids .now) (s .args .groups .now) (s .args .marks .now) (s .args .levels .now)
+book s =
+    let a = s .args in bookOf (a .ids .now) (a .groups .now) (a .marks .now) (a .counts .now) (a .levels .now)
 
 put-answered-requires : tie.Need-put-answered-requires Inv-loop μ-loop
-unfolding bookRefusal
 put-answered-requires c κs =
     let s : tie.Start Inv-loop μ-loop = search in
     let head : tie.After-put-header Inv-loop μ-loop = search in
     let l : tie.At-loop Inv-loop μ-loop = search in
     let turn : tie.In-loop Inv-loop μ-loop = search in
-    let few : l .loop .point < s .args .limits .points = turn .loop-test .taken in
+    let limits = s .args .limits in
+    let few : l .loop .point < limits .points = turn .loop-test .taken in
     let room = s .pre .0 in (
       (
         omega (arith, few, room .0 .few),
@@ -49,7 +50,7 @@ put-answered-requires c κs =
           head .put-header .kept .0,
         ),
       ),
-      point-answered (s .args .limits .points) (l .loop .point) (book s) (s .args .limits .days) (s .pre .1) few,
+      point-answered (limits .points) (limits .days) (book s) (limits .points) (l .loop .point) (s .pre .1) few,
     )
 
 loop-again : tie.Need-loop-again Inv-loop μ-loop

@@ -20,26 +20,23 @@ returns c =
 report-requires : tie.Need-report-requires
 unfolding emptyBook
 report-requires c κs =
-    let levels = c .before in
-    let test = levels .before .before .before .before in
-    let read = test .before in
-    let s = read .before .before .before in
+    let test : tie.Else1 = search in
+    let read : tie.After-read-limits = search in
+    let s : tie.Start = search in
     let q = read .read-limits .ensures in
     (refl, (rw q (limits-fit (s .args .text .now) (rw q at (test .if1 .left))), s .pre .1))
 
 returns-2 : tie.Need-returns-2
 returns-2 c =
-    let columns = c .before .before in
-    let done = columns .before .before .before .before in
-    let levels = done .before .before in
-    let test = levels .before .before .before .before in
-    let read = test .before in
-    let s = read .before .before .before in
-    limits-accepted (tellingOf (s .args .kind)) (s .args .text .now) (s .pre .0) (read .read-limits .ensures) (test .if1 .left)
-    (done .report .ensures)
+    let done : tie.After-report = search in
+    let test : tie.Else1 = search in
+    let read : tie.After-read-limits = search in
+    let s : tie.Start = search in
+    limits-accepted (tellingOf (s .args .kind)) (s .args .text .now) (s .pre .0) (read .read-limits .ensures)
+    (test .if1 .left) (done .report .ensures)
 
 pub answer-spec : {M : Type 1} → statement M
 answer-spec =
     tie.close (tie.spec (λ c κs. search needs) (λ c. search needs) (λ c κs. search needs) (λ c. search needs)
     (λ c κs. search needs) (λ c. search needs) returns (λ c. search needs) (λ c. search needs)
-    (λ c. search needs) (λ c. search needs) report-requires (λ c. search needs) returns-2)
+    (λ c. search needs) (λ c. search needs) (λ c. search needs) report-requires (λ c. search needs) returns-2)

@@ -7,7 +7,8 @@ use Rattle.files.proofs.core.answer_read.Statement.{statement}
 use Rattle.files.proofs.core.answer_read.Tie as tie
 
 abbrev book : tie.Start → Book
-book s = bookOf (s .args .ids .now) (s .args .groups .now) (s .args .marks .now) (s .args .levels .now)
+book s =
+    let a = s .args in bookOf (a .ids .now) (a .groups .now) (a .marks .now) (a .counts .now) (a .levels .now)
 
 returns : tie.Need-returns
 returns c =

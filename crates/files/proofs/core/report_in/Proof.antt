@@ -1,5 +1,5 @@
--- `files::core::report_in` meets its contract: the register is read into the book, and the answer is that of its reading.
--- Assumes nothing.
+-- `files::core::report_in` meets its contract: the register is read into the book, and the answer is that of its
+-- reading. Assumes nothing.
 use native.Mathlib.Omega.{arith}
 use Rattle.report_rules.proofs.Answers.{empty-sound}
 use Rattle.files.proofs.Texts.{answered}
@@ -21,6 +21,9 @@ read-register-requires c κs =
       omega (arith, large .large-buffer .ensures),
     )
 
+answer-read-requires : tie.Need-answer-read-requires
+answer-read-requires c κs = let read : tie.After-read-register = search in start read .pre .1
+
 returns : tie.Need-returns
 returns c =
     let read : tie.After-read-register = search in
@@ -32,5 +35,5 @@ returns c =
 pub report-in-spec : {M : Type 1} → statement M
 report-in-spec =
     tie.close (tie.spec (λ c. search needs) (λ c κs. search needs) (λ c. search needs) read-register-requires
-    (λ c. search needs) (λ c κs. search needs) (λ c. search needs) (λ c. search needs) (λ c. search needs)
-    (λ c. search needs) (λ c. search needs) returns)
+    (λ c. search needs) answer-read-requires (λ c. search needs) (λ c. search needs) (λ c. search needs)
+    (λ c. search needs) (λ c. search needs) (λ c. search needs) returns)

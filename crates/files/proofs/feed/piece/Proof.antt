@@ -35,5 +35,5 @@ going c =
 pub piece-spec : {M : Type 1} → statement M
 piece-spec =
     tie.close (tie.spec (λ c κs. search needs) (λ c. search needs) (λ c. search needs) (λ c. search needs)
-    (λ c. search needs) (λ c. search needs) stopped (λ c. search needs) (λ c. search needs) (λ c. search needs)
-    (λ c. search needs) (λ c. search needs) going)
+    (λ c. search needs) (λ c. search needs) (λ c. search needs) stopped (λ c. search needs) (λ c. search needs)
+    (λ c. search needs) (λ c. search needs) (λ c. search needs) (λ c. search needs) going)

@@ -12,9 +12,15 @@ use borrow.Author.Needs.{needs}
 use Rattle.files.proofs.feed.read_on.Statement.{statement}
 use Rattle.files.proofs.feed.read_on.Tie as tie
 
--- where the function starts, and the buffer once the read is done
+-- places on the way: the start, the read, and the bytes that came; and the buffer once the read is done
 abbrev start : tie.After-read-input → tie.Start
-start w = let lent = w .before .before .before .before in lent .before .before .before .before
+start w = search
+
+abbrev read : tie.After-n → tie.After-read-input
+read c = search
+
+abbrev arrived : tie.After-piece → tie.After-n
+arrived c = search
 
 abbrev buffer : tie.After-read-input → List ℕ
 buffer w =
@@ -82,15 +88,15 @@ last-requires c κs =
 
 piece : tie.Need-returns
 piece c =
-    let w : tie.After-read-input = search in
-    let came : tie.After-n = search in
     let pieced : tie.After-piece = search in
+    let came = arrived pieced in
+    let w = read came in
     let s = start w in
     let a = s .args in
     let n = came .n .given .0 .0 in
     let e = came .n .given .1 in
     let gave = gave-as (w .read-input .ensures) (Bytes n) e in
-    let long : length (pieced .piece .last .1 .1 .1 .1 .1 .0) ≡ length (a .bytes .now) = search needs in
+    let long : length (pieced .piece .last .1 .1 .1 .1 .1 .1 .0) ≡ length (a .bytes .now) = search needs in
     let k = pieced .piece .ensures in (
       turn-piece (take (a .left) (a .bytes .now)) (take n (w .read-input .last .1 .0)) (k .0)
           (front-behind (a .left) (length (a .bytes .now) - a .left) n (a .bytes .now) (w .read-input .last .1 .0)
@@ -128,5 +134,6 @@ read-on-spec =
     tie.close (tie.spec (λ c. search needs) (λ c. search needs) (λ c. search needs) (λ c κs. search needs)
     (λ c. search needs) add-piece piece-requires (λ c. search needs) (λ c. search needs) slice-aggregate-last
     last-requires (λ c. search needs) (λ c κs. search needs) (λ c. search needs) (λ c. search needs)
-    (λ c. search needs) (λ c. search needs) (λ c. search needs) piece (λ c. search needs) (λ c. search needs)
-    (λ c. search needs) (λ c. search needs) (λ c. search needs) last (λ c. search needs) failed)
+    (λ c. search needs) (λ c. search needs) (λ c. search needs) (λ c. search needs) piece (λ c. search needs)
+    (λ c. search needs) (λ c. search needs) (λ c. search needs) (λ c. search needs) (λ c. search needs) last
+    (λ c. search needs) failed)

@@ -15,16 +15,16 @@ use Rattle.files.proofs.feed.read_register.Statement.{statement}
 use Rattle.files.proofs.feed.read_register.Tie as tie
 
 abbrev Inv-loop : tie.InvT-loop
-Inv-loop ids₀ groups₀ marks₀ levels₀ points bytes₀ taken₀ left₀ line₀ ids groups marks levels bytes
+Inv-loop ids₀ groups₀ marks₀ counts₀ levels₀ points bytes₀ taken₀ left₀ line₀ ids groups marks counts levels bytes
     taken left line =
-    (Come input (registerStep points) longestRow (bookOf ids₀ groups₀ marks₀ levels₀) bytes left line taken
-    (bookOf ids groups marks levels))
-    × (sound points (bookOf ids groups marks levels) ≡ true) × (length ids ≡ length ids₀)
-    × (length groups ≡ length groups₀) × (length marks ≡ length marks₀) × (length levels ≡ length levels₀)
-    × (length bytes ≡ length bytes₀)
+    (Come input (registerStep points) longestRow (bookOf ids₀ groups₀ marks₀ counts₀ levels₀) bytes left line taken
+    (bookOf ids groups marks counts levels))
+    × (sound points (bookOf ids groups marks counts levels) ≡ true) × (length ids ≡ length ids₀)
+    × (length groups ≡ length groups₀) × (length marks ≡ length marks₀) × (length counts ≡ length counts₀)
+    × (length levels ≡ length levels₀) × (length bytes ≡ length bytes₀)
 
 abbrev μ-loop : tie.MeasureT-loop
-μ-loop ids₀ groups₀ marks₀ levels₀ points bytes₀ taken₀ left₀ line₀ ids groups marks levels bytes
+μ-loop ids₀ groups₀ marks₀ counts₀ levels₀ points bytes₀ taken₀ left₀ line₀ ids groups marks counts levels bytes
     taken left line =
     2 ^ 64 - taken
 
@@ -32,8 +32,8 @@ loop-holds : tie.Need-loop-holds Inv-loop μ-loop
 loop-holds c =
     let s : tie.Start Inv-loop μ-loop = search in
     let a = s .args in
-    let b = bookOf (a .ids .now) (a .groups .now) (a .marks .now) (a .levels .now) in
-    (come-none b (a .bytes .now) (s .pre .1), s .pre .0, refl, refl, refl, refl, refl)
+    let b = bookOf (a .ids .now) (a .groups .now) (a .marks .now) (a .counts .now) (a .levels .now) in
+    (come-none b (a .bytes .now) (s .pre .1), s .pre .0, refl, refl, refl, refl, refl, refl)
 
 done : tie.Need-returns Inv-loop μ-loop
 done c =
@@ -55,11 +55,11 @@ loop-again c =
     let read : tie.After-read-on Inv-loop μ-loop = search in
     let d = read .read-on .ensures in
     let next = come-next (l .loop .inv .0) (d .0) (c .if1 .left) in
-    (next, d .1, search needs, search needs, search needs, search needs, search needs)
+    (next, d .1, search needs, search needs, search needs, search needs, search needs, search needs)
 
 pub read-register-spec : {M : Type 1} → statement M
 read-register-spec =
     tie.close (tie.spec Inv-loop μ-loop loop-holds
     (λ c κs. let l : tie.At-loop Inv-loop μ-loop = search in (l .loop .inv .1, l .loop .inv .0 .waits))
-    (λ c. search needs) (λ c. search needs) (λ c. search needs) (λ c. search needs) (λ c. search needs) done
-    loop-less loop-again)
+    (λ c. search needs) (λ c. search needs) (λ c. search needs) (λ c. search needs) (λ c. search needs)
+    (λ c. search needs) done loop-less loop-again)

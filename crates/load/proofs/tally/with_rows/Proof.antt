@@ -1,5 +1,5 @@
--- `load::tally::with_rows` meets its contract: the invariant is the groups of the first rows. A sound book says that the
--- next row fits. Assumes nothing.
+-- `load::tally::with_rows` meets its contract: the invariant is the groups of the first rows. A sound book says that
+-- the next row fits. Assumes nothing.
 use mathlib.Core.Path.{_≡_, sym, ap, subst, _∙_}
 use mathlib.Core.Logic.{⊎-elim}
 use Prim.Native.Nat.{_-_, _≤_}
@@ -77,10 +77,14 @@ with-rows-spec =
     (λ c. unfold sharesTo in (omega arith, let s : tie.Start Inv-loop μ-loop = search in s .pre .0 .0))
     (λ c. omega (arith, row c .in-levels, entry c .good)) (λ c. omega (arith, row c .in-levels, entry c .good))
     (λ c. omega (arith, row c .in-levels, entry c .good)) (λ c. row (c .before) .in-counts) (λ c. search needs)
-    (λ c. let d : tie.In-loop Inv-loop μ-loop = search in row d .in-groups) (λ c. let d : tie.In-loop Inv-loop μ-loop = search in omega (arith, row d .group<))
-    (λ c. let d : tie.In-loop Inv-loop μ-loop = search in omega (arith, row d .group<)) (λ c. let d : tie.In-loop Inv-loop μ-loop = search in omega (arith, row d .group<))
-    (λ c. search needs) (λ c. let d : tie.In-loop Inv-loop μ-loop = search in row d .in-marks)
+    (λ c. let d : tie.In-loop Inv-loop μ-loop = search in row d .in-groups)
+    (λ c. let d : tie.In-loop Inv-loop μ-loop = search in omega (arith, row d .group<))
+    (λ c. let d : tie.In-loop Inv-loop μ-loop = search in omega (arith, row d .group<))
+    (λ c. let d : tie.In-loop Inv-loop μ-loop = search in omega (arith, row d .group<))
+    (λ c. search needs)
+    (λ c. let d : tie.In-loop Inv-loop μ-loop = search in row d .in-marks)
     (λ c. let d : tie.In-loop Inv-loop μ-loop = search in omega (arith, row d .in-levels, entry d .good))
     (λ c. let d : tie.In-loop Inv-loop μ-loop = search in row d .in-levels) with-row-requires
-    (λ c. let d : tie.In-loop Inv-loop μ-loop = search in omega (arith, row d .group<)) (λ c. let d : tie.In-loop Inv-loop μ-loop = search in omega (arith, row d .group<))
+    (λ c. let d : tie.In-loop Inv-loop μ-loop = search in omega (arith, row d .group<))
+    (λ c. let d : tie.In-loop Inv-loop μ-loop = search in omega (arith, row d .group<))
     (λ c. search needs) (λ c. search needs) loop-again returns)

@@ -9,14 +9,12 @@ use Rattle.report_steps.proofs.core.take_levels.Tie as tie
 
 refused : tie.Need-returns
 refused c =
-    let levels = c .before in
-    let supply = levels .before .before .before .before in
+    let supply : tie.After-supply = search in
     levels-refused (supply .supply .ensures) (c .if1 .taken)
 
 entered : tie.Need-returns-2
 entered c =
-    let levels = c .before in
-    let supply = levels .before .before .before .before in
+    let supply : tie.After-supply = search in
     levels-entered (supply .supply .ensures) (c .if1 .left)
 
 pub take-levels-spec : {M : Type 1} → statement M

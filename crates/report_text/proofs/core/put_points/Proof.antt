@@ -13,26 +13,21 @@ use Rattle.report_text.proofs.core.put_points.Statement.{statement}
 use Rattle.report_text.proofs.core.put_points.Tie as tie
 
 abbrev Inv-loop : tie.InvT-loop
-Inv-loop out₀ ids groups marks levels points days limit at₀ point₀ out at point =
-    Passed points days limit (bookOf ids groups marks levels) point out₀ at₀ out at
+Inv-loop out₀ ids groups marks counts levels points days limit at₀ point₀ out at point =
+    Passed points days limit (bookOf ids groups marks counts levels) point out₀ at₀ out at
     × (point ≤ points) × (at ≤ at₀ + longestPoint * point) × (length out ≡ length out₀)
 
 abbrev μ-loop : tie.MeasureT-loop
-μ-loop out₀ ids groups marks levels points days limit at₀ point₀ out at point = points - point
-
--- where the function starts, from the header on
-abbrev start : tie.After-put-header Inv-loop μ-loop → tie.Start Inv-loop μ-loop
-start c =
-    let limits = c .before .before .before .before in
-    let columns = limits .before .before .before in columns .before .before
+μ-loop out₀ ids groups marks counts levels points days limit at₀ point₀ out at point = points - point
 
 put-point-requires : tie.Need-put-point-requires Inv-loop μ-loop
 put-point-requires c κs =
-    let loaded = c .before in
-    let l = loaded .before .before in
-    let head = l .before .before .before in
-    let s = start head in
-    let few : l .loop .point < s .args .limits .points = loaded .before .loop-test .taken in (
+    let s : tie.Start Inv-loop μ-loop = search in
+    let head : tie.After-put-header Inv-loop μ-loop = search in
+    let l : tie.At-loop Inv-loop μ-loop = search in
+    let turn : tie.In-loop Inv-loop μ-loop = search in
+    let loaded : tie.After-load-at Inv-loop μ-loop = search in
+    let few : l .loop .point < s .args .limits .points = turn .loop-test .taken in (
       omega (arith, few, s .pre .0 .few),
       rw (loaded .load-at .ensures) (load-level _ _ _ _),
       s .pre .0 .low (l .loop .point),
@@ -41,12 +36,13 @@ put-point-requires c κs =
 
 loop-again : tie.Need-loop-again Inv-loop μ-loop
 loop-again c =
-    let written = c .before .before in
-    let loaded = written .before .before in
-    let l = loaded .before .before in
-    let head = l .before .before .before in
-    let s = start head in
-    let few : l .loop .point < s .args .limits .points = loaded .before .loop-test .taken in
+    let s : tie.Start Inv-loop μ-loop = search in
+    let head : tie.After-put-header Inv-loop μ-loop = search in
+    let l : tie.At-loop Inv-loop μ-loop = search in
+    let turn : tie.In-loop Inv-loop μ-loop = search in
+    let loaded : tie.After-load-at Inv-loop μ-loop = search in
+    let written : tie.After-put-point Inv-loop μ-loop = search in
+    let few : l .loop .point < s .args .limits .points = turn .loop-test .taken in
     let room : l .loop .at + longestPoint ≤ length (head .put-header .last .0) =
     omega (arith, l .loop .inv, few, s .pre, head .put-header .ensures .within, head .put-header .kept .0) in (
       points-more (l .loop .inv .0) (written .put-point .ensures) (loaded .load-at .ensures) room,
@@ -57,13 +53,13 @@ loop-again c =
 
 returns : tie.Need-returns Inv-loop μ-loop
 returns c =
-    let l = c .before in
-    let head = l .before .before .before in
-    let s = start head in
+    let s : tie.Start Inv-loop μ-loop = search in
+    let head : tie.After-put-header Inv-loop μ-loop = search in
+    let l : tie.At-loop Inv-loop μ-loop = search in
     let q : l .loop .point ≡ s .args .limits .points = omega (arith, l .loop .inv, c .loop-test .left) in
     let a = s .args in
-    points-all (a .limits) (bookOf (a .ids .now) (a .groups .now) (a .marks .now) (a .levels .now))
-    (head .put-header .ensures .wrote) (l .loop .inv .0) q
+    let b = bookOf (a .ids .now) (a .groups .now) (a .marks .now) (a .counts .now) (a .levels .now) in
+    points-all (a .limits) b (head .put-header .ensures .wrote) (l .loop .inv .0) q
     (omega (arith, l .loop .inv, s .pre, s .pre .0 .few, head .put-header .ensures .within, head .put-header .kept .0))
 
 pub put-points-spec : {M : Type 1} → statement M

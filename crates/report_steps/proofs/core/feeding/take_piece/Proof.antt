@@ -11,15 +11,9 @@ use borrow.Author.Needs.{needs}
 use Rattle.report_steps.proofs.core.feeding.take_piece.Statement.{statement}
 use Rattle.report_steps.proofs.core.feeding.take_piece.Tie as tie
 
--- places on the way: the start, and the lines that were taken once their columns are back
+-- where the function starts, from the lines that were taken
 abbrev start : tie.After-take-lines → tie.Start
-start c =
-    let lent = c .before .before .before in
-    let levels = lent .before .before .before .before in
-    levels .before .before .before .before
-
-abbrev taken : tie.After-slice-known9 → tie.After-take-lines
-taken c = let groups = c .before .before .before .before in groups .before .before .before .before
+start c = search
 
 -- the bytes that are taken, and what is left of them
 whole : (c : tie.Start) → length (take (c .args .len) (c .args .bytes .now)) ≡ c .args .len
@@ -35,55 +29,50 @@ begins : (c : tie.After-take-lines) → c .take-lines .result .at ≤ start c .a
 begins c = rw (whole (start c)) at (c .take-lines .ensures .0 .within)
 
 slice-aggregate : tie.Need-slice-aggregate-take-lines
-slice-aggregate c =
-    let lent = c .before .before in
-    let levels = lent .before .before .before .before in
-    sym (whole (levels .before .before .before .before))
+slice-aggregate c = let s : tie.Start = search in sym (whole s)
 
 take-lines-requires : tie.Need-take-lines-requires
-take-lines-requires c κs =
-    let lent = c .before .before in
-    let levels = lent .before .before .before .before in
-    let s = levels .before .before .before .before in
-    (s .pre .0, rw (whole s) (s .pre .1 .1))
+take-lines-requires c κs = let s : tie.Start = search in (s .pre .0, rw (whole s) (s .pre .1 .1))
 
 refused : tie.Need-returns
 refused c =
-    let k = taken (c .before) .take-lines .ensures in
+    let lines : tie.After-take-lines = search in
+    let k = lines .take-lines .ensures in
     (piece-refused longestRow _ (k .0) (c .if1 .taken), k .1)
 
 long : tie.Need-returns-2
 long c =
-    let fine = c .before in
-    let lines = taken (fine .before) in
+    let fine : tie.Else1 = search in
+    let lines : tie.After-take-lines = search in
     let k = lines .take-lines .ensures in
     let longest = longest-register (start lines .args .points) in
     (piece-long longestRow _ (k .0) longest (fine .if1 .left) (rw (left-of lines) (c .if2 .taken)), k .1)
 
 to-front-requires : tie.Need-to-front-requires
 to-front-requires c κs =
-    let fine = c .before .before in
-    let lines = taken (fine .before) in
+    let lines : tie.After-take-lines = search in
     omega (arith, begins lines, start lines .pre .1 .0)
 
 left : tie.Need-returns-3
 left c =
-    let moved = c .before .before in
-    let short = moved .before .before in
-    let fine = short .before in
-    let lines = taken (fine .before) in
+    let moved : tie.After-to-front = search in
+    let short : tie.Else2 = search in
+    let fine : tie.Else1 = search in
+    let lines : tie.After-take-lines = search in
     let s = start lines in
     let at = lines .take-lines .result .at in
     let k = lines .take-lines .ensures in (
       piece-left longestRow _ (k .0) (fine .if1 .left) (rw (left-of lines) (short .if2 .left))
-          (moved .to-front .ensures ∙ sym (waiting (s .args .bytes .now) at (s .args .len) (begins lines) (s .pre .1 .0))),
+          (moved .to-front .ensures
+          ∙ sym (waiting (s .args .bytes .now) at (s .args .len) (begins lines) (s .pre .1 .0))),
       k .1,
     )
 
 pub take-piece-spec : {M : Type 1} → statement M
 take-piece-spec =
-    tie.close (tie.spec (λ c. search needs) slice-aggregate take-lines-requires (λ c. begins (taken c))
-    (λ c. search needs) (λ c. search needs) (λ c. search needs) (λ c. search needs) (λ c. search needs)
-    refused (λ c. search needs)
-    (λ c. search needs) (λ c. search needs) (λ c. search needs) (λ c. search needs) long to-front-requires
-    (λ c. search needs) (λ c. search needs) (λ c. search needs) (λ c. search needs) (λ c. search needs) left)
+    tie.close (tie.spec (λ c. search needs) slice-aggregate take-lines-requires
+    (λ c. let lines : tie.After-take-lines = search in begins lines) (λ c. search needs) (λ c. search needs)
+    (λ c. search needs) (λ c. search needs) (λ c. search needs) (λ c. search needs) refused (λ c. search needs)
+    (λ c. search needs) (λ c. search needs) (λ c. search needs) (λ c. search needs) (λ c. search needs) long
+    to-front-requires (λ c. search needs) (λ c. search needs) (λ c. search needs) (λ c. search needs)
+    (λ c. search needs) (λ c. search needs) left)
