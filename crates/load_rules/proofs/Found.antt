@@ -1,7 +1,7 @@
 -- A load counts what look-up finds in the rows: each identity that stands and counts at the point, once. Assumes
 -- nothing.
 use mathlib.Core.{Path._≡_, Path.refl, Path.sym, Path.ap, Path.subst, Path.fun-ext, Path._∙_, Bool.Bool, Bool.true}
-use mathlib.Core.{Bool.false, Bool.cond, Bool._&&_, List.List, List.[], List._∷_}
+use mathlib.Core.{Bool.false, Bool.cond, Bool._&&_, Bool._||_, List.List, List.[], List._∷_}
 use Prim.Native.Nat.{ℕ, suc, _+_, _*_, _-_, _%_, _≤_, _<_}
 use native.Mathlib.Omega.{arith}
 use lib.{ListN.length, ListN.getD, Dec.eqb, Dec.ltb}
@@ -9,7 +9,7 @@ use borrow.Author.Tests.{eqb-true, eqb-false, eq-eqb, ne-eqb}
 use Rattle.refusal.proofs.Ranges.{within-at}
 use Rattle.level.specs.Energy.{energyOf}
 use Rattle.book_rules.specs.Columns.{Book, sound}
-use Rattle.book_rules.specs.History.{Held, Movement, movement, rowsOf}
+use Rattle.book_rules.specs.History.{Held, Movement, movement, hasLevels, rowsOf}
 use Rattle.book_rules.specs.History.Held.{none, holds}
 use Rattle.book_rules.specs.Lookup.{Row, found, rowHeld, listed}
 use Rattle.book_rules.specs.Lookup.Row.{nowhere, row}
@@ -22,7 +22,7 @@ use Rattle.load_rules.specs.Tally.{groupWith, tally}
 use Rattle.load_rules.specs.Factors.{sumTo}
 use Rattle.load_rules.specs.{Load.answer, Load.bookLoad}
 use Rattle.load_rules.proofs.TallyLaws.{AllGrouped}
-use Rattle.load_rules.specs.Afresh.{computedIn, missingIn, energyOfGroup, CountsEach, Brought}
+use Rattle.load_rules.specs.Afresh.{someComputed, computedIn, missingIn, energyOfGroup, CountsEach, Brought}
 use Rattle.load_rules.specs.Found.{oneThere, markedThere, energyThere, overAll, FoundCounted, FoundAccount}
 use Rattle.load_rules.proofs.SumLaws.{sum-add, sum-zero, sum-ext, sums-each}
 use Rattle.load_rules.proofs.Counting.{counting-none, counting-kept, counting-left-out, counting-le}
@@ -144,6 +144,18 @@ counting-found p pt (a ∷ ms) s = go (eqb (getD (a .counts) pt 0) 1) refl (a .h
     go c e none i = rw e (omega (arith, length-all c e))
     go c e (holds ls) i = rw e (omega (arith, length-all c e))
 
+-- one computed in a group is one of all
+one-computed : (g : ℕ) (ms : List Movement) → 1 ≤ computedIn g ms → someComputed ms ≡ true
+unfolding computedIn someComputed
+one-computed g [] h = absurd (omega arith)
+one-computed g (m ∷ ms) h = go (hasLevels (m .held)) (eqb (m .group) g) h (one-computed g ms)
+  where
+    go : (t e : Bool) → 1 ≤ cond (e && t) 1 0 + computedIn g ms → (1 ≤ computedIn g ms → someComputed ms ≡ true)
+        → (t || someComputed ms) ≡ true
+    go true e l r = refl
+    go false true l r = r (omega arith)
+    go false false l r = r (omega arith)
+
 -- An answered load of any book, and its account
 
 module _ (p pt : ℕ) (b : Book) (ok : (sound p b ≡ true) × (pt < p)) where
@@ -218,13 +230,17 @@ module _ (p pt : ℕ) (b : Book) (ok : (sound p b ≡ true) × (pt < p)) where
   unfolding here answer oneThere
   counted days z =
       let e = each-counted days z in
+      let number = counting-found p pt all good ∙ by-look-up (oneThere pt) refl in
       record {
         size = ap (λ (l : Load). length (l .counts)) (e .0);
         computed = λ g h. e .1 .computed g h ∙ v-found g;
         missing = λ g h. e .1 .missing g h ∙ u-found g;
-        standing = e .1 .standing ∙ counting-found p pt all good ∙ by-look-up (oneThere pt) refl;
+        standing = e .1 .standing ∙ number;
         total = rw (← fun-ext s-found) (e .1 .formulas);
         level = e .1 .level;
+        weighed = λ g h some.
+            rw (← number) (e .1 .weighed (one-computed g here (omega (arith, e .1 .computed g h))));
+        nobody = λ none-there. e .1 .no-movement (number ∙ none-there);
       }
 
 module _ (p pt : ℕ) (b : Book) (days : ℕ) (z : bookLoad p pt b days .refused ≡ 0) where

@@ -1,19 +1,19 @@
 -- What a load counts, by look-up in the rows of any book and without a list of movements: RULES, "Energy and load".
 -- Assumes nothing.
-use Prim.Native.Nat.{ℕ, suc, _+_, _*_, _%_, _<_}
+use Prim.Native.Nat.{ℕ, suc, _+_, _*_, _%_, _≤_, _<_}
 use mathlib.Core.Path.{_≡_}
 use mathlib.Core.Bool.{cond, _&&_}
 use lib.ListN.{length, getD}
 use lib.Dec.{eqb}
 use Rattle.level.specs.Energy.{energyOf, meanOf}
-use Rattle.level.specs.Level.{levelOf}
+use Rattle.level.specs.Level.{levelOf, levelGiven}
 use Rattle.book_rules.specs.Columns.{Book}
 use Rattle.book_rules.specs.Lookup.{Row, found}
 use Rattle.book_rules.specs.Lookup.Row.{nowhere, row}
 use Rattle.load_rules.specs.declared.Load.{Load}
-use Rattle.load_rules.specs.Factors.{sumTo}
+use Rattle.load_rules.specs.Factors.{wholeFraction, Equal, sumTo}
 use Rattle.load_rules.specs.{Load.bookLoad, Account.accountOf, Account.AccountTells}
-use Rattle.load_rules.specs.Afresh.{countsAt, TotalHolds}
+use Rattle.load_rules.specs.Afresh.{countsAt, weightTo, TotalHolds}
 
 -- 1 where what is found stands and counts at point pt
 unfoldable pub oneThere : (point : ℕ) → Row → ℕ
@@ -49,6 +49,11 @@ pub record FoundCounted (a : Load) (p pt : ℕ) (b : Book) (days : ℕ) : Type 0
   pub total : TotalHolds (λ g. countsAt a g .computed) (λ g. countsAt a g .missing)
       (λ g. overAll p b (energyThere pt g)) (a .total)
   pub level : a .level ≡ levelOf (meanOf (a .total) days)
+  -- where one of them is computed, the computed ones times both factors add up to all of them
+  pub weighed : (g : ℕ) → g < 18 → 1 ≤ countsAt a g .computed
+      → Equal (weightTo (countsAt a) 18) (wholeFraction (overAll p b (oneThere pt)))
+  -- and where nobody counts the total is 0 and the level below zero
+  pub nobody : overAll p b (oneThere pt) ≡ 0 → (a .total ≡ 0) × (levelGiven (a .level) ≡ 0)
 
 -- and its account, number by number: V, U and S of each group are those of the movements found
 abbrev pub FoundAccount : (p pt : ℕ) (b : Book) (days : ℕ) → Type 0
