@@ -142,7 +142,7 @@ fn refusal(n: u32) -> Load
     }
 }
 
-// The load of groups that were tallied: refusal 10 where movements stand and none is computed.
+// The load of groups that were tallied: refusal 10 where movements count at the point and none of them is computed.
 fn answer_from(groups: Groups, days: u32) -> Load
     requires { ⌜ Bounded groups ⌝ }
     requires { ⌜ daysFit days ≡ true ⌝ }

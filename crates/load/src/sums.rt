@@ -77,7 +77,7 @@ pub(crate) fn summed(groups: Groups) -> Sums
     s
 }
 
-// Whether movements stand and none is computed.
+// Whether the groups have movements and none of them is computed.
 pub(crate) fn none_computed(s: Sums) -> bool
     ensures { λ r. ⌜ r ≡ (eqb (s .known) 0 && ltb 0 (s .unknown)) ⌝ }
 {

@@ -123,7 +123,7 @@ pub record CountsEach (a : Load) (pt : ℕ) (ms : List Movement) (days : ℕ) : 
   pub missing : (g : ℕ) → g < groupCount → countsAt a g .missing ≡ missingIn g ms
   -- and add up to the number standing that count there
   pub standing : sumTo (λ g. countsAt a g .computed + countsAt a g .missing) groupCount ≡ length ms
-  -- where one is computed, the computed ones times both factors add up to the number standing
+  -- where one is computed, the computed ones times both factors add up to the number standing that count there
   pub weighed : someComputed ms ≡ true → Equal (weightTo (countsAt a) groupCount) (wholeFraction (length ms))
   -- and its total is their energy times those very factors, each product rounded down
   pub energy : a .total
@@ -135,7 +135,7 @@ pub record CountsEach (a : Load) (pt : ℕ) (ms : List Movement) (days : ℕ) : 
   -- its level is that of M, and M is that of the total answered, and of 64 bits, for which levels are told
   pub level : a .level ≡ levelOf (meanOf (a .total) days)
   pub fits : meanOf (a .total) days < 2 ^ 64
-  -- with no movement the total is 0 and the level below zero
+  -- where none counts there the total is 0 and the level below zero
   pub no-movement : length ms ≡ 0 → (a .total ≡ 0) × (levelGiven (a .level) ≡ 0)
 
 -- a refusal's number alone: nothing is answered beside it

@@ -38,7 +38,7 @@ totalOf f = scaledBy (generalFactor (λ g. countsOf (f g))) (scaledSum f)
 unfoldable pub daysFit : ℕ → Bool
 daysFit days = leb 1 days && leb days maxDays
 
--- movements stand, none computed
+-- movements count at the point, none of them computed
 unfoldable pub noneComputed : List Share → Bool
 noneComputed ss = not (anyComputed ss) && ltb 0 (length ss)
 

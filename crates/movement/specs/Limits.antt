@@ -26,7 +26,7 @@ maxLimit = 12000
 abbrev pub maxDays : ℕ
 maxDays = 366
 
--- take-off mass, in kg: a movement of up to 150 doesn't count, and a small one is under 6,000
+-- take-off mass, in kg: a movement of up to 150 is not entered, and a small one is under 6,000
 abbrev pub maxMass : ℕ
 maxMass = 1000000
 

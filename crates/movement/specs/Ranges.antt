@@ -37,7 +37,7 @@ pub record RangesHold : Type 0 where
   -- rule 1
   pub fields : (type kind second mass : ℕ)
       → fieldsFit type kind second mass ≡ true ↔ FieldsInRange type kind second mass
-  -- rule 2: a movement counts only if its mass is more than 150 kg
+  -- rule 2: a movement is entered only if its mass is more than 150 kg
   pub counted : (mass : ℕ) → counts mass ≡ true ↔ 150 < mass
   -- rule 3
   pub identity : (x : ℕ) → identityFits x ≡ true ↔ (1 ≤ x) × (x ≤ 99999)

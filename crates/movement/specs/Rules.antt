@@ -17,7 +17,7 @@ fieldsFit type kind second mass =
     ((ltb type typeCount && ltb kind kindCount) && (ltb second secondsADay && leb mass maxMass))
     && massFits (aircraftNumbered type) mass
 
--- rule 2: a movement counts only if its mass is more than 150 kg
+-- rule 2: a movement is entered only if its mass is more than 150 kg
 unfoldable pub counts : (mass : ℕ) → Bool
 counts mass = ltb massNotCounted mass
 

@@ -18,7 +18,7 @@ pub const MAX_LIMIT: u32 = 12_000;
 
 pub const MAX_DAYS: u32 = 366;
 
-// Take-off mass, in kg: a movement of up to 150 doesn't count, and a small one is under 6,000.
+// Take-off mass, in kg: a movement of up to 150 is not entered, and a small one is under 6,000.
 pub const MAX_MASS: u32 = 1_000_000;
 
 pub const MASS_NOT_COUNTED: u32 = 150;

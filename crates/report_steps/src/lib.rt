@@ -1,5 +1,5 @@
 // What the report program decides, apart from its bytes in and out: RULES, "Files and the report program". A register's
-// lines as they come, a row into the book, and the movements that a report counts.
+// lines as they come, and a row into the book.
 ghost use mathlib.Core.Path.{_≡_};
 ghost use Rattle.report_steps.specs.Intake.{takenNumber};
 

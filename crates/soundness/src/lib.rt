@@ -125,7 +125,7 @@ fn cells_sound(counts: &[u32], levels: &[u32]) -> bool
     refusal::both(counted, held)
 }
 
-// Whether no level is over `top`. It reads them all: to leave at once the rows that may have levels costs more.
+// Whether no level is over `top`. It reads them all: to pass over the rows that may have levels costs more.
 fn row_within(levels: &[u32], top: u32) -> bool
     ensures { λ r. ⌜ r ≡ allWithin top (now (levels .entry)) ⌝ }
 {

@@ -230,7 +230,7 @@ pub fn spoil(random: &mut Random, book: &mut Book) {
     let column = random.within(0, 3);
     let length = random.once_in(3);
     let columns = [&mut book.identities, &mut book.groups, &mut book.marks, &mut book.levels];
-    let spoilt = columns.into_iter().nth(column as usize).expect("there are four columns");
+    let spoilt = columns.into_iter().nth(column as usize).expect("four of the five columns");
     match (length, spoilt.is_empty()) {
         (true, _) if random.once_in(2) => spoilt.push(0),
         (true, false) => drop(spoilt.pop()),
