@@ -1,14 +1,15 @@
 -- Where each line stands: behind the header, the points before its own, and the groups before its own that have a
 -- movement. Assumes nothing.
-use mathlib.Core.{Path._≡_, Path.refl, Path.sym, Path.ap, Path._∙_, Bool.Bool, Bool.true, Bool.cond}
+use mathlib.Core.{Path._≡_, Path.refl, Path.sym, Path.ap, Path.subst, Path._∙_, Bool.Bool, Bool.true, Bool.cond}
 use mathlib.Core.List.{List, [], _∷_, _++_}
-use Prim.Native.Nat.{ℕ, zero, suc, _+_, _-_, _*_, _≤_, _<_}
-use native.Mathlib.{Nat.suc-mul, Nat.mul-le-mul-right, Omega.arith}
+use Prim.Native.Nat.{ℕ, zero, suc, _+_, _-_, _≤_, _<_}
+use native.Mathlib.Omega.{arith}
 use lib.{ListN.length, ListN.getD, ListN.length-append, ListN.List·getD-append, Seq.getD-at, Seq.getD-append-add}
 use lib.Dec.{eqb, ltb}
 use borrow.Author.Tests.{eqb-true, eqb-false, ltb-true, ltb-false}
 use Rattle.movement.specs.Limits.{groupCount}
 use Rattle.book_rules.specs.Columns.{Book}
+use Rattle.load_rules.{specs.Factors.sumTo, proofs.SumLaws.sum-more}
 use Rattle.text.specs.Sheet.{line}
 use Rattle.text.specs.{Field.countOf, Index.many}
 use Rattle.text.proofs.{Digits.either, Fields.Free}
@@ -131,7 +132,7 @@ module _ (point : ℕ) (a : ℕ → Amounts) where
         free-append 13 (groupLines point a groupCount) (line (allFields point all) ∷ [])
         (groups-unbroken groupCount (omega arith)) (one-free 13 (line (allFields point all)) (all-unbroken point all))
 
--- the points of a book, m lines each
+-- the points of a book, m q lines at point q
 module _ (p : ℕ) (b : Book) where
   pub points-unbroken : (n : ℕ) → Free 13 (linesTo p b n)
   unfolding linesTo linesAt
@@ -139,28 +140,30 @@ module _ (p : ℕ) (b : Book) where
   points-unbroken (suc n) =
       free-append 13 (linesTo p b n) (linesAt p n b) (points-unbroken n) (point-unbroken n _ _)
 
-  module _ (m : ℕ) where
-    pub points-length : (n : ℕ) → ((pt : ℕ) → pt < n → length (linesAt p pt b) ≡ m)
-        → length (linesTo p b n) ≡ n * m
-    unfolding linesTo
-    points-length zero each = omega arith
+  module _ (m : ℕ → ℕ) where
+    pub points-length : (n : ℕ) → ((q : ℕ) → q < n → length (linesAt p q b) ≡ m q)
+        → length (linesTo p b n) ≡ sumTo m n
+    unfolding linesTo sumTo
+    points-length zero each = refl
     points-length (suc n) each =
         length-append (linesTo p b n) (linesAt p n b)
-        ∙ omega (arith, points-length n (λ pt h. each pt (omega arith)), each n (omega arith), suc-mul n m)
+        ∙ omega (arith, points-length n (λ q h. each q (omega arith)), each n (omega arith))
 
-    pub points-at : (n pt j : ℕ) → pt < n → j < m → ((q : ℕ) → q < n → length (linesAt p q b) ≡ m)
-        → getD (linesTo p b n) (pt * m + j) [] ≡ getD (linesAt p pt b) j []
-    unfolding linesTo
+    pub points-at : (n pt j : ℕ) → pt < n → j < m pt → ((q : ℕ) → q < n → length (linesAt p q b) ≡ m q)
+        → getD (linesTo p b n) (sumTo m pt + j) [] ≡ getD (linesAt p pt b) j []
+    unfolding linesTo sumTo
     points-at zero pt j h k each = absurd (omega arith)
     points-at (suc n) pt j h k each =
         let long = points-length n (λ q l. each q (omega arith)) in
         either (eqb pt n)
         (λ same. let q = eqb-true pt n same in
-        let e : pt * m + j ≡ length (linesTo p b n) + j = rw q (omega arith) in
+        let e : sumTo m pt + j ≡ length (linesTo p b n) + j = rw q (omega arith) in
         ap (λ (i : ℕ). getD (linesTo p b n ++ linesAt p n b) i []) e
         ∙ getD-append-add (linesTo p b n) (linesAt p n b) j []
         ∙ ap (λ (i : ℕ). getD (linesAt p i b) j []) (sym q))
         (λ other. let less : pt < n = omega (arith, eqb-false pt n other) in
-        let below : suc pt * m ≤ n * m = mul-le-mul-right m less in
-        List·getD-append (linesTo p b n) (linesAt p n b) [] (pt * m + j) (omega (arith, suc-mul pt m))
+        let e : n - suc pt + suc pt ≡ n = omega arith in
+        let below : sumTo m pt + m pt ≤ sumTo m n =
+        subst (λ (i : ℕ). sumTo m (suc pt) ≤ sumTo m i) e (sum-more m (suc pt) (n - suc pt)) in
+        List·getD-append (linesTo p b n) (linesAt p n b) [] (sumTo m pt + j) (omega arith)
         ∙ points-at n pt j less k (λ q l. each q (omega arith)))

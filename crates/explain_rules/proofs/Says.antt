@@ -10,11 +10,11 @@ use Rattle.movement.specs.{Period.periodNumbered, Group.groupPeriod}
 use Rattle.book_rules.specs.Columns.{Book}
 use Rattle.book_rules.specs.History.{Movement, Made, emptyBook, booked, movements}
 use Rattle.load_rules.specs.declared.Group.{Group}
-use Rattle.load_rules.specs.{Shares.Share, Shares.Everywhere, Shares.sharesOf, Tally.tally, Factors.sumTo, Load.answer}
+use Rattle.load_rules.specs.{Shares.Share, Shares.sharesOf, Tally.tally, Factors.sumTo, Load.answer}
 use Rattle.load_rules.specs.Afresh.{computedIn, missingIn, energyOfGroup, loadAfter, standingAt}
-use Rattle.load_rules.specs.Account.{groupsOf, accountOf, accountAfter, AccountTells}
+use Rattle.load_rules.specs.Account.{groupsOf, accountOf, accountAfter, AccountsEach}
 use Rattle.load_rules.proofs.{SumLaws.sum-ext, ListLaws.list-computed, ListLaws.list-missing, ListLaws.list-energy}
-use Rattle.load_rules.proofs.{HistoryLaws.history-shares, Brings.each-brings}
+use Rattle.load_rules.proofs.HistoryLaws.{history-shares}
 use Rattle.load_rules.proofs.Accounts.{account-group, account-whole, accounts-each}
 use Rattle.text.specs.Sheet.{ended, line}
 use Rattle.text.specs.{Line.linesOf, Field.fieldOf, Index.many, Number.showNumber, Letter.showLetter}
@@ -28,8 +28,8 @@ use Rattle.explain_text.specs.declared.amounts.Amounts.{Amounts}
 use Rattle.explain_text.specs.Text.{groupAmounts, allAmounts, periodText, factorText, groupFields, allFields, stands}
 use Rattle.explain_text.specs.Text.{linesAt, linesTo, headerLine, pointsText, explainText}
 use Rattle.report_text.proofs.Judging.{point-answered}
-use Rattle.explain_rules.specs.Says.{hasMovement, linesEach, placeOf, NineFields, FactorSays, NamesSay}
-use Rattle.explain_rules.specs.Says.{GroupSays, AllSay, PointSays, textAfter, ExplainSays, ExplainText}
+use Rattle.explain_rules.specs.Says.{hasMovement, linesOfPoint, linesBefore, placeOf, NineFields, FactorSays}
+use Rattle.explain_rules.specs.Says.{NamesSay, GroupSays, AllSay, PointSays, textAfter, ExplainSays, ExplainText}
 use Rattle.explain_rules.proofs.Fields.{group-commas, group-field, all-commas, all-field}
 use Rattle.explain_rules.proofs.Places.{point-length, point-group, point-all, points-unbroken, points-length}
 use Rattle.explain_rules.proofs.Places.{points-at, many-grows}
@@ -78,7 +78,7 @@ module _ (pt g : ℕ) (h : g < 18) (a : Amounts) where
 
 -- The whole text
 
-module _ (l : LimitsFile) (n : ℕ) (cs : List Made) (everywhere : Everywhere (l .points) (movements (l .points) n cs))
+module _ (l : LimitsFile) (n : ℕ) (cs : List Made)
     (reported : bookRefusal l (booked (emptyBook (l .points) n) cs) ≡ 0) where
   abbrev p : ℕ
   p = l .points
@@ -89,44 +89,36 @@ module _ (l : LimitsFile) (n : ℕ) (cs : List Made) (everywhere : Everywhere (l
   abbrev ms : List Movement
   ms = movements (l .points) n cs
 
-  -- each point is answered, and counts all that stands
-  answered : (pt : ℕ) → pt < p → loadAfter p n pt cs (l .days) .refused ≡ 0
-  answered pt h = point-answered p (l .days) b p pt reported h
+  -- those of them that count at a point
+  abbrev there : ℕ → List Movement
+  there pt = standingAt (l .points) n pt cs
 
-  standing-at : (pt : ℕ) → pt < p → standingAt p n pt cs ≡ ms
-  standing-at pt h = each-brings pt .everybody p ms h everywhere
-
-  tells : (pt : ℕ) → pt < p
-      → AccountTells (λ g. computedIn g ms) (λ g. missingIn g ms) (λ g. energyOfGroup pt g ms)
-      (loadAfter p n pt cs (l .days)) (accountAfter p n pt cs (l .days))
-  tells pt h =
-      subst (λ (ks : List Movement). AccountTells (λ g. computedIn g ks) (λ g. missingIn g ks)
-      (λ g. energyOfGroup pt g ks) (loadAfter p n pt cs (l .days)) (accountAfter p n pt cs (l .days)))
-      (standing-at pt h) (accounts-each p n pt cs (l .days) (answered pt h) .tells)
+  -- each point is answered, and accounts for all that count there
+  each : (pt : ℕ) → pt < p → AccountsEach p n pt cs (l .days)
+  each pt h = accounts-each p n pt cs (l .days) (point-answered p (l .days) b p pt reported h)
 
   -- V, U and S of a group
-  group-is : (pt g : ℕ) → pt < p → groupsOf p pt b g ≡ tally (sharesOf pt ms) g
-  group-is pt g h =
-      ap (λ (ss : List Share). tally ss g) (history-shares p pt n cs h ∙ ap (sharesOf pt) (standing-at pt h))
+  group-is : (pt g : ℕ) → pt < p → groupsOf p pt b g ≡ tally (sharesOf pt (there pt)) g
+  group-is pt g h = ap (λ (ss : List Share). tally ss g) (history-shares p pt n cs h)
 
-  v-is : (pt g : ℕ) → pt < p → groupsOf p pt b g .computed ≡ computedIn g ms
-  v-is pt g h = ap (λ (c : Group). c .computed) (group-is pt g h) ∙ list-computed pt g ms
+  v-is : (pt g : ℕ) → pt < p → groupsOf p pt b g .computed ≡ computedIn g (there pt)
+  v-is pt g h = ap (λ (c : Group). c .computed) (group-is pt g h) ∙ list-computed pt g (there pt)
 
-  u-is : (pt g : ℕ) → pt < p → groupsOf p pt b g .missing ≡ missingIn g ms
-  u-is pt g h = ap (λ (c : Group). c .missing) (group-is pt g h) ∙ list-missing pt g ms
+  u-is : (pt g : ℕ) → pt < p → groupsOf p pt b g .missing ≡ missingIn g (there pt)
+  u-is pt g h = ap (λ (c : Group). c .missing) (group-is pt g h) ∙ list-missing pt g (there pt)
 
-  s-is : (pt g : ℕ) → pt < p → groupsOf p pt b g .energy ≡ energyOfGroup pt g ms
-  s-is pt g h = ap (λ (c : Group). c .energy) (group-is pt g h) ∙ list-energy pt g ms
+  s-is : (pt g : ℕ) → pt < p → groupsOf p pt b g .energy ≡ energyOfGroup pt g (there pt)
+  s-is pt g h = ap (λ (c : Group). c .energy) (group-is pt g h) ∙ list-energy pt g (there pt)
 
   -- the lines
   abbrev amountsOf : ℕ → ℕ → Amounts
   amountsOf pt g = groupAmounts (groupsOf p pt b g)
 
-  some-is : (pt : ℕ) → pt < p → (λ g. stands (amountsOf pt g)) ≡ hasMovement ms
+  some-is : (pt : ℕ) → pt < p → (λ g. stands (amountsOf pt g)) ≡ hasMovement (there pt)
   unfolding groupAmounts
   some-is pt h = fun-ext (λ g. rw (v-is pt g h, u-is pt g h) refl)
 
-  each-length : (pt : ℕ) → pt < p → length (linesAt p pt b) ≡ linesEach ms
+  each-length : (pt : ℕ) → pt < p → length (linesAt p pt b) ≡ linesOfPoint ms pt
   unfolding linesAt
   each-length pt h =
       point-length pt (amountsOf pt) (allAmounts (groupsOf p pt b))
@@ -144,21 +136,22 @@ module _ (l : LimitsFile) (n : ℕ) (cs : List Made) (everywhere : Everywhere (l
   lines-are : linesOf (textAfter l n cs) ≡ headerLine ∷ linesTo p b p
   lines-are = ap linesOf text-is ∙ lines-ended (headerLine ∷ linesTo p b p) lines-free
 
-  at-place : (pt j : ℕ) → pt < p → j < linesEach ms
-      → getD (linesOf (textAfter l n cs)) (1 + (pt * linesEach ms + j)) [] ≡ getD (linesAt p pt b) j []
+  at-place : (pt j : ℕ) → pt < p → j < linesOfPoint ms pt
+      → getD (linesOf (textAfter l n cs)) (1 + (linesBefore ms pt + j)) [] ≡ getD (linesAt p pt b) j []
   at-place pt j h k =
-      let place = pt * linesEach ms + j in
+      let place = linesBefore ms pt + j in
       let e : 1 + place ≡ suc place = omega arith in
       ap (λ (ls : List (List ℕ)). getD ls (1 + place) []) lines-are
       ∙ ap (λ (i : ℕ). getD (headerLine ∷ linesTo p b p) i []) e
-      ∙ points-at p b (linesEach ms) p pt j h k each-length
+      ∙ points-at p b (linesOfPoint ms) p pt j h k each-length
 
-  group-line : (pt g : ℕ) → pt < p → g < 18 → 0 < computedIn g ms + missingIn g ms
+  group-line : (pt g : ℕ) → pt < p → g < 18 → 0 < computedIn g (there pt) + missingIn g (there pt)
       → getD (linesOf (textAfter l n cs)) (placeOf ms pt g) [] ≡ line (groupFields pt g (amountsOf pt g))
   unfolding linesAt
   group-line pt g h k some =
-      let yes : hasMovement ms g ≡ true = lt-ltb 0 (computedIn g ms + missingIn g ms) some in
-      at-place pt (many (hasMovement ms) g) h (omega (arith, many-grows (hasMovement ms) g 18 (omega arith)))
+      let has = hasMovement (there pt) in
+      let yes : has g ≡ true = lt-ltb 0 (computedIn g (there pt) + missingIn g (there pt)) some in
+      at-place pt (many has g) h (omega (arith, many-grows has g 18 (omega arith)))
       ∙ subst (λ (q : ℕ → Bool). q g ≡ true → getD (linesAt p pt b) (many q g) [] ≡ line
       (groupFields pt g (amountsOf pt g))) (some-is pt h)
       (point-group pt (amountsOf pt) (allAmounts (groupsOf p pt b)) g k) yes
@@ -167,7 +160,7 @@ module _ (l : LimitsFile) (n : ℕ) (cs : List Made) (everywhere : Everywhere (l
       → getD (linesOf (textAfter l n cs)) (placeOf ms pt 18) [] ≡ line (allFields pt (allAmounts (groupsOf p pt b)))
   unfolding linesAt
   all-line pt h =
-      at-place pt (many (hasMovement ms) 18) h (omega arith)
+      at-place pt (many (hasMovement (there pt)) 18) h (omega arith)
       ∙ subst (λ (q : ℕ → Bool). getD (linesAt p pt b) (many q 18) [] ≡ line
       (allFields pt (allAmounts (groupsOf p pt b)))) (some-is pt h)
       (point-all pt (amountsOf pt) (allAmounts (groupsOf p pt b)))
@@ -177,8 +170,8 @@ module _ (l : LimitsFile) (n : ℕ) (cs : List Made) (everywhere : Everywhere (l
   numbers pt = accountAfter (l .points) n pt cs (l .days)
 
   group-says : (pt g : ℕ) → pt < p → g < 18
-      → GroupSays pt g (computedIn g ms) (missingIn g ms) (energyOfGroup pt g ms) (getD (numbers pt) (4 * g + 3) 0)
-      (line (groupFields pt g (amountsOf pt g)))
+      → GroupSays pt g (computedIn g (there pt)) (missingIn g (there pt)) (energyOfGroup pt g (there pt))
+      (getD (numbers pt) (4 * g + 3) 0) (line (groupFields pt g (amountsOf pt g)))
   unfolding groupAmounts accountOf
   group-says pt g h k =
       let a = amountsOf pt g in
@@ -197,15 +190,15 @@ module _ (l : LimitsFile) (n : ℕ) (cs : List Made) (everywhere : Everywhere (l
       }
 
   all-say : (pt : ℕ) → pt < p
-      → AllSay pt (sumTo (λ g. computedIn g ms) 18) (sumTo (λ g. missingIn g ms) 18) (length ms)
-      (sumTo (λ g. cond (ltb 0 (computedIn g ms)) (computedIn g ms + missingIn g ms) 0) 18)
+      → AllSay pt (sumTo (λ g. computedIn g (there pt)) 18) (sumTo (λ g. missingIn g (there pt)) 18)
+      (length (there pt))
+      (sumTo (λ g. cond (ltb 0 (computedIn g (there pt))) (computedIn g (there pt) + missingIn g (there pt)) 0) 18)
       (sumTo (λ g. getD (numbers pt) (4 * g + 3) 0) 18) (loadAfter p n pt cs (l .days) .total)
       (line (allFields pt (allAmounts (groupsOf p pt b))))
   unfolding allAmounts accountOf answer
   all-say pt h =
       let f = groupsOf p pt b in
       let a = allAmounts f in
-      let standing = accounts-each p n pt cs (l .days) (answered pt h) .standing ∙ ap length (standing-at pt h) in
       let whole = account-whole f (l .days) in
       record {
         nine = record { commas = all-commas pt a; number = all-field pt a 0 (omega arith) };
@@ -216,18 +209,18 @@ module _ (l : LimitsFile) (n : ℕ) (cs : List Made) (everywhere : Everywhere (l
         missing = all-field pt a 5 (omega arith) ∙ ap showNumber (sum-ext _ _ 18 (λ g k. u-is pt g h));
         factor =
             factor-says (a .upper) (a .lower) (all-field pt a 6 (omega arith))
-            (sym (whole 0) ∙ standing) (sym (whole 1) ∙ tells pt h .lower);
-        energy = all-field pt a 7 (omega arith) ∙ ap showNumber (sym (whole 2) ∙ tells pt h .summed);
-        counted = all-field pt a 8 (omega arith) ∙ ap showNumber (sym (whole 3) ∙ tells pt h .total);
+            (sym (whole 0) ∙ each pt h .standing) (sym (whole 1) ∙ each pt h .tells .lower);
+        energy = all-field pt a 7 (omega arith) ∙ ap showNumber (sym (whole 2) ∙ each pt h .tells .summed);
+        counted = all-field pt a 8 (omega arith) ∙ ap showNumber (sym (whole 3) ∙ each pt h .tells .total);
       }
 
   point-says : (pt : ℕ) → pt < p
-      → PointSays pt ms (loadAfter p n pt cs (l .days) .total) (linesOf (textAfter l n cs))
+      → PointSays pt (there pt) (placeOf ms pt) (loadAfter p n pt cs (l .days) .total) (linesOf (textAfter l n cs))
   point-says pt h =
       record {
         gives = λ g. getD (numbers pt) (4 * g + 3) 0;
-        scaled = tells pt h .scaled;
-        nothing = tells pt h .nothing;
+        scaled = each pt h .tells .scaled;
+        nothing = each pt h .tells .nothing;
         groups = λ g k some. rw (group-line pt g h k some) (group-says pt g h k);
         all = rw (all-line pt h) (all-say pt h);
       }
@@ -238,7 +231,7 @@ module _ (l : LimitsFile) (n : ℕ) (cs : List Made) (everywhere : Everywhere (l
       record {
         header = ap (λ (ls : List (List ℕ)). getD ls 0 []) lines-are;
         lines =
-            ap length lines-are ∙ omega (arith, points-length p b (linesEach ms) p each-length);
+            ap length lines-are ∙ omega (arith, points-length p b (linesOfPoint ms) p each-length);
         points = point-says;
         before = last .before;
         ended = text-is ∙ last .is;

@@ -11,7 +11,7 @@ use Rattle.report_text.specs.Text.{bookText, bookRefusal}
 use Rattle.report_rules.specs.Report.{bookRows, Telling, readingText, answerOf, reportOf}
 use Rattle.report_rules.specs.{Flights.bookIn, WholeText.readIn}
 use Rattle.report_rules.proofs.Answers.{reading-refused, reading-reported, register-text, report-refused}
-use Rattle.report_rules.proofs.{Answers.report-accepted, Flights.all-stand, AllCount.all-count}
+use Rattle.report_rules.proofs.{Answers.report-accepted, Flights.all-stand}
 use Rattle.explain_text.specs.Text.{explainText}
 use Rattle.explain_rules.specs.Says.{textAfter, ExplainSays}
 use Rattle.explain_rules.specs.Explain.{explainOf, callsIn, ExplainWhole}
@@ -50,9 +50,7 @@ module _ (limits register : List ℕ) (fine : limitsOf limits .refusal ≡ 0) wh
 
     book-says : bookRefusal l (bookIn (l .points) register) ≡ 0
         → ExplainSays l bookRows (callsIn limits register)
-    book-says z =
-        explain-text l bookRows (callsIn limits register) .says (all-count (l .points) register .everywhere)
-        (ap (bookRefusal l) (sym made) ∙ z)
+    book-says z = explain-text l bookRows (callsIn limits register) .says (ap (bookRefusal l) (sym made) ∙ z)
 
 pub explain-whole : (limits register : List ℕ) → ExplainWhole limits register
 explain-whole limits register =

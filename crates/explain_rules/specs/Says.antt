@@ -8,7 +8,7 @@ use lib.ListN.{length, getD}
 use lib.Dec.{ltb}
 use Rattle.level.specs.Neighbours.{Quotient}
 use Rattle.book_rules.specs.History.{Movement, Made, emptyBook, booked, movements}
-use Rattle.load_rules.specs.Shares.{Everywhere}
+use Rattle.load_rules.specs.Shares.{countingAt}
 use Rattle.load_rules.specs.Factors.{sumTo}
 use Rattle.load_rules.specs.Afresh.{computedIn, missingIn, energyOfGroup, loadAfter}
 use Rattle.text.specs.Line.{linesOf}
@@ -26,14 +26,18 @@ use Rattle.explain_text.specs.Text.{explainText}
 abbrev pub hasMovement : List Movement → ℕ → Bool
 hasMovement ms g = ltb 0 (computedIn g ms + missingIn g ms)
 
--- a point has a line for each of the 18 groups that has a movement, and one for all
-abbrev pub linesEach : List Movement → ℕ
-linesEach ms = many (hasMovement ms) 18 + 1
+-- a point has a line for each of the 18 groups that has a movement that counts there, and one for all
+abbrev pub linesOfPoint : List Movement → (point : ℕ) → ℕ
+linesOfPoint ms pt = many (hasMovement (countingAt pt ms)) 18 + 1
+
+-- the lines of the points before pt
+abbrev pub linesBefore : List Movement → (point : ℕ) → ℕ
+linesBefore ms pt = sumTo (linesOfPoint ms) pt
 
 -- The line of a group, counted from 0: behind the header, the points before its own, and the groups of a lower number
--- that have a movement. The line for all stands where a group 18 would
+-- that have a movement there. The line for all stands where a group 18 would
 abbrev pub placeOf : List Movement → (point group : ℕ) → ℕ
-placeOf ms pt g = 1 + (pt * linesEach ms + many (hasMovement ms) g)
+placeOf ms pt g = 1 + (linesBefore ms pt + many (hasMovement (countingAt pt ms)) g)
 
 -- What it says
 
@@ -82,8 +86,8 @@ pub record AllSay (pt v u upper lower p total : ℕ) (line : List ℕ) : Type 0 
   pub energy : fieldOf 44 7 line ≡ showNumber p
   pub counted : fieldOf 44 8 line ≡ showNumber total
 
--- the lines of point pt, where these movements stand and the load has this total
-pub record PointSays (pt : ℕ) (ms : List Movement) (total : ℕ) (lines : List (List ℕ)) : Type 0 where
+-- the lines of point pt, each at its group's place, where these movements count and the load has this total
+pub record PointSays (pt : ℕ) (ms : List Movement) (place : ℕ → ℕ) (total : ℕ) (lines : List (List ℕ)) : Type 0 where
   -- a group with V > 0 gives S·(V+U)/V rounded down, any other nothing
   pub gives : ℕ → ℕ
   pub scaled : (g : ℕ) → g < 18 → 0 < computedIn g ms
@@ -91,11 +95,11 @@ pub record PointSays (pt : ℕ) (ms : List Movement) (total : ℕ) (lines : List
   pub nothing : (g : ℕ) → g < 18 → computedIn g ms ≡ 0 → gives g ≡ 0
   pub groups : (g : ℕ) → g < 18 → 0 < computedIn g ms + missingIn g ms
       → GroupSays pt g (computedIn g ms) (missingIn g ms) (energyOfGroup pt g ms) (gives g)
-      (getD lines (placeOf ms pt g) [])
-  -- V+U+W is the number standing, V+U that of the groups with V > 0; the total is the load's
+      (getD lines (place g) [])
+  -- V+U+W is the number of all these, V+U that of the groups with V > 0; the total is the load's
   pub all : AllSay pt (sumTo (λ g. computedIn g ms) 18) (sumTo (λ g. missingIn g ms) 18) (length ms)
       (sumTo (λ g. cond (ltb 0 (computedIn g ms)) (computedIn g ms + missingIn g ms) 0) 18) (sumTo gives 18) total
-      (getD lines (placeOf ms pt 18) [])
+      (getD lines (place 18) [])
 
 -- the text of the book that calls cs, refused ones included, leave of an empty one of n rows
 abbrev pub textAfter : LimitsFile → (n : ℕ) (calls : List Made) → List ℕ
@@ -105,18 +109,16 @@ pub record ExplainSays (l : LimitsFile) (n : ℕ) (cs : List Made) : Type 0 wher
   pub header : getD (linesOf (textAfter l n cs)) 0 []
       ≡ bytes "point,type,kind,period,computed,missing,factor,energy,counted"
   -- the lines of each point and no other
-  pub lines : length (linesOf (textAfter l n cs)) ≡ 1 + l .points * linesEach (movements (l .points) n cs)
+  pub lines : length (linesOf (textAfter l n cs)) ≡ 1 + linesBefore (movements (l .points) n cs) (l .points)
   pub points : (pt : ℕ) → pt < l .points
-      → PointSays pt (movements (l .points) n cs) (loadAfter (l .points) n pt cs (l .days) .total)
-      (linesOf (textAfter l n cs))
+      → PointSays pt (countingAt pt (movements (l .points) n cs)) (placeOf (movements (l .points) n cs) pt)
+      (loadAfter (l .points) n pt cs (l .days) .total) (linesOf (textAfter l n cs))
   -- and the last line has its CRLF
   pub before : List ℕ
   pub ended : textAfter l n cs ≡ before ++ (13 ∷ 10 ∷ [])
 
--- a refusal of the whole book is the report's, to its last byte; any other book, where each movement counts at every
--- point as a register's rows do, is explained
+-- a refusal of the whole book is the report's, to its last byte; any other book is explained
 pub record ExplainText (l : LimitsFile) (n : ℕ) (cs : List Made) : Type 0 where
   pub refused : (bookRefusal l (booked (emptyBook (l .points) n) cs) ≡ 0 → ⊥)
       → textAfter l n cs ≡ bookText l (booked (emptyBook (l .points) n) cs)
-  pub says : Everywhere (l .points) (movements (l .points) n cs)
-      → bookRefusal l (booked (emptyBook (l .points) n) cs) ≡ 0 → ExplainSays l n cs
+  pub says : bookRefusal l (booked (emptyBook (l .points) n) cs) ≡ 0 → ExplainSays l n cs
