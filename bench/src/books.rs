@@ -51,25 +51,31 @@ macro_rules! with_book {
     }};
 }
 
-fn library_loads(library: &Library, book: &mut Book) -> Vec<u64> {
-    let mut answers = vec![0; LOAD_NUMBERS * POINTS as usize];
-    for (point, answer) in (0..).zip(answers.chunks_mut(LOAD_NUMBERS)) {
-        with_book!(library.load, book, point, DAYS, answer.as_mut_ptr(), answer.len());
-    }
+pub fn library_load(library: &Library, book: &mut Book, point: u32, days: u32, answer: &mut [u64]) {
+    with_book!(library.load, book, point, days, answer.as_mut_ptr(), answer.len());
+}
+
+pub fn c_load(book: &Book, point: u32, days: u32, answer: &mut [u64]) {
+    let (i, g, m) = (book.identities.as_ptr(), book.groups.as_ptr(), book.marks.as_ptr());
+    let (c, l, answer) = (book.counts.as_ptr(), book.levels.as_ptr(), answer.as_mut_ptr());
+    let (rows, a, b) = (book.identities.len(), table_a().as_ptr(), table_b().as_ptr());
+    // SAFETY: the columns fit, and the answer has 39 numbers.
+    let number = unsafe { baseline_load(i, g, m, c, l, rows, book.points, point, days, a, b, answer) };
+    assert_eq!(number, 0, "the load must be accepted");
+}
+
+fn loads_at(points: u32, mut load: impl FnMut(u32, &mut [u64])) -> Vec<u64> {
+    let mut answers = vec![0; LOAD_NUMBERS * points as usize];
+    (0..).zip(answers.chunks_mut(LOAD_NUMBERS)).for_each(|(point, answer)| load(point, answer));
     answers
 }
 
+fn library_loads(library: &Library, book: &mut Book) -> Vec<u64> {
+    loads_at(POINTS, |point, answer| library_load(library, book, point, DAYS, answer))
+}
+
 fn c_loads(book: &Book) -> Vec<u64> {
-    let mut answers = vec![0; LOAD_NUMBERS * POINTS as usize];
-    let (i, g, m) = (book.identities.as_ptr(), book.groups.as_ptr(), book.marks.as_ptr());
-    let (c, l) = (book.counts.as_ptr(), book.levels.as_ptr());
-    let (rows, a, b) = (book.identities.len(), table_a().as_ptr(), table_b().as_ptr());
-    for (point, answer) in (0..).zip(answers.chunks_mut(LOAD_NUMBERS)) {
-        // SAFETY: the columns fit, and the answer has 39 numbers.
-        let number = unsafe { baseline_load(i, g, m, c, l, rows, POINTS, point, DAYS, a, b, answer.as_mut_ptr()) };
-        assert_eq!(number, 0, "the load must be accepted");
-    }
-    answers
+    loads_at(POINTS, |point, answer| c_load(book, point, DAYS, answer))
 }
 
 pub fn loads(library: &Library) {

@@ -1,6 +1,7 @@
 //! What is measured: books, registers, networks and flights, the same in every run.
 
 use reference::book::Columns;
+use reference::level::energy;
 
 pub type Book = Columns<Vec<u32>>;
 
@@ -45,6 +46,21 @@ pub fn some_elsewhere(mut book: Book) -> Book {
         }
     }
     book
+}
+
+/// A book of `rows` computed movements at one point, all by day and of nearly one level, whose total is the largest one
+/// under `end` that they can have, or with one more hundredth in one of them the first one past it.
+pub fn with_total(rows: usize, end: u64, past: bool) -> Book {
+    let all = |level: u32| rows as u64 * energy(level);
+    let level = (0..).find(|&level| all(level + 1) >= end).expect("energies rise");
+    let higher = (end - 1 - all(level)) / (energy(level + 1) - energy(level)) + u64::from(past);
+    let mut book = Columns::new(rows, 1);
+    for row in 0..rows {
+        book.identities[row] = row as u32 + 1;
+        book.marks[row] = 1;
+        book.levels[row] = level + u32::from((row as u64) < higher);
+    }
+    book.everywhere()
 }
 
 /// A register of `rows` rows at `points` points, identities rising, without its header.

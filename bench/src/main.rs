@@ -4,6 +4,7 @@
 mod books;
 mod flights;
 mod inputs;
+mod levels;
 #[allow(dead_code)]
 #[path = "../../reference/tests/library/library.rs"]
 mod library;
@@ -21,8 +22,15 @@ fn main() {
 
 type Measurement = fn(&library::Library);
 
-const RATIOS: [Measurement; 6] =
-    [books::loads, books::shifts, books::registers, networks::contours, networks::texts, flights::couplings];
+const RATIOS: [Measurement; 7] = [
+    books::loads,
+    levels::searches,
+    books::shifts,
+    books::registers,
+    networks::contours,
+    networks::texts,
+    flights::couplings,
+];
 
 const GROWTH: [Measurement; 6] = [
     books::load_grows,

@@ -5,7 +5,7 @@ use crate::Verdict;
 use crate::tables::powers;
 use crate::tables::table_b;
 ghost use mathlib.Core.Path.{_≡_};
-ghost use Prim.Native.Nat.{_*_, _/_, _^_, _<_, _≤_};
+ghost use Prim.Native.Nat.{_+_, _*_, _/_, _^_, _<_, _≤_};
 ghost use Rattle.level.specs.Limits.{maxWeighted, maxMean};
 ghost use Rattle.level.specs.Tables.{IsTableA, IsTableB, ArePowers};
 ghost use Rattle.level.specs.declared.Level.the-variants.{At};
@@ -53,13 +53,31 @@ fn bound_at(b: &[u64; 1000], powers: &[u64; 14], n: u32) -> u64
     }
 }
 
-// The smallest level whose bound reaches a mean energy, by a walk up from 0.00.
+// The decade of a mean energy: q with 10^(q+3) ≤ m < 10^(q+4), sought from the largest power down.
+fn decade_of(powers: &[u64; 14], m: u64) -> u32
+    requires { ⌜ (1000 ≤ m) × (m ≤ maxMean) × (ArePowers (now powers)) ⌝ }
+    ensures { λ r. ⌜ (10 ^ (r + 3) ≤ m) × (m < 10 ^ (r + 4)) ⌝ }
+{
+    let thousands = m / 1000;
+    let mut q: u32 = 13;
+    while thousands < powers[q as usize] {
+        q -= 1;
+    }
+    q
+}
+
+// The smallest level whose bound reaches a mean energy, by a walk through its decade; past the decade's last level it is
+// the first of the next.
 fn first_reaching(b: &[u64; 1000], powers: &[u64; 14], m: u64) -> u32
     requires { ⌜ (1000 ≤ m) × (m ≤ maxMean) × (IsTableB (now b)) × (ArePowers (now powers)) ⌝ }
     ensures { λ r. ⌜ At r ≡ levelOf m ⌝ }
 {
-    let mut n: u32 = 0;
-    while bound_at(b, powers, n) < m {
+    let mut n = 1000 * decade_of(powers, m);
+    let next = n + 1000;
+    while n < next {
+        if m <= bound_at(b, powers, n) {
+            return n;
+        }
         n += 1;
     }
     n

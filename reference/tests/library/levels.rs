@@ -1,4 +1,4 @@
-//! From energy to level, on both edges of every level under 30.00 and of many above it.
+//! From energy to level, on both edges of every level under 30.00 and of many above it, and about each power of ten.
 
 use crate::compared::{account, load, verdict, Book};
 use crate::library::Library;
@@ -23,13 +23,13 @@ fn a_book(movements: &[(u32, u32)]) -> Book {
     book.everywhere()
 }
 
-/// A book with this total: movements by day with energies of 1, 10, 100 and so on to 10^12.
+/// A book with this total: movements by day with energies of 1, 10, 100 and so on to 10^12, and of 10^13 at night.
 fn a_book_of(total: u64) -> Book {
     let mut movements = Vec::new();
     let mut rest = total;
-    for tens in (0..=12).rev() {
-        let energy = 10u64.pow(tens);
-        movements.extend((0..rest / energy).map(|_| (DAY, 1_000 * tens)));
+    for tens in (0..=13).rev() {
+        let (energy, movement) = (10u64.pow(tens), if tens == 13 { (NIGHT, 12_000) } else { (DAY, 1_000 * tens) });
+        movements.extend((0..rest / energy).map(|_| movement));
         rest %= energy;
     }
     a_book(&movements)
@@ -37,7 +37,12 @@ fn a_book_of(total: u64) -> Book {
 
 /// The least total whose M is this.
 fn total_of(mean: u64, days: u32) -> u64 {
-    (mean * 86_400 * u64::from(days)).div_ceil(1_000)
+    (u128::from(mean) * 86_400 * u128::from(days)).div_ceil(1_000) as u64
+}
+
+/// The largest M of level n.
+fn most_of(n: usize) -> u64 {
+    table_b()[n % 1_000] * 10u64.pow(n as u32 / 1_000) / 1_000
 }
 
 /// Total and level of a book, which both sides agree on.
@@ -57,7 +62,7 @@ fn both_edges_of_a_level() {
         assert_eq!(loaded(&library, &a_book_of(total_of(1_000, 1)), 1).1, Some(0), "M of 1,000 is 0.00");
         for n in (0..3_000).chain((3_000..10_000).step_by(41)) {
             let days = if n < 3_000 { 1 + n as u32 % 366 } else { 1 };
-            let most = table_b()[n % 1_000] * 10u64.pow(n as u32 / 1_000) / 1_000;
+            let most = most_of(n);
             for (mean, expected) in [(most, n as u64), (most + 1, n as u64 + 1)] {
                 let (total, book) = (total_of(mean, days), a_book_of(total_of(mean, days)));
                 assert_eq!(loaded(&library, &book, days), (total, Some(expected)), "M of {mean} over {days} days");
@@ -65,6 +70,29 @@ fn both_edges_of_a_level() {
             let limit = n as u32;
             verdict(&library, &a_book_of(total_of(most, days)), 0, days, limit, &[7]);
             verdict(&library, &a_book_of(total_of(most + 1, days)), 0, days, limit, &[7]);
+        }
+    });
+}
+
+/// About 10^(q+3) of each decade q that a book can reach: under and from it the level is 1000q, the decade's first.
+#[test]
+fn both_ends_of_a_decade() {
+    directed("both_ends_of_a_decade", &[("load", 13 * 3 + 12 * 3, &["0"])], || {
+        let library = Library::from_environment();
+        let agrees = |mean: u64, expected: usize| {
+            let level = loaded(&library, &a_book_of(total_of(mean, 1)), 1).1;
+            assert_eq!(level, Some(expected as u64), "M of {mean}");
+        };
+        for q in 0..=12 {
+            let (power, first) = (10u64.pow(q + 3), 1_000 * q as usize);
+            agrees(power, first);
+            agrees(most_of(first), first);
+            agrees(most_of(first) + 1, first + 1);
+            if 0 < first {
+                agrees(power - 1, first);
+                agrees(most_of(first - 1) + 1, first);
+                agrees(most_of(first - 1), first - 1);
+            }
         }
     });
 }

@@ -1,31 +1,77 @@
--- `level::core::first_reaching` meets its contract. The loop's invariant: every level before n misses m. It ends by
--- 13,999, whose bound reaches m. Assumes nothing.
-use mathlib.Core.Path.{sym}
-use Prim.Native.Nat.{ℕ, _-_, _≤_, _<_}
-use native.Mathlib.{Nat.lt-of-not-le, Omega.arith}
+-- `level::core::first_reaching` meets its contract. Every level before the decade of m misses m, and the first level of
+-- the next decade reaches it. The loop's invariant: every level before n misses m. Assumes nothing.
+use mathlib.Core.Path.{_≡_, refl, sym}
+use Prim.Native.Nat.{ℕ, suc, _+_, _-_, _*_, _/_, _%_, _^_, _≤_, _<_}
+use native.Mathlib.Nat.{lt-of-not-le, suc-mul, mul-le-mul-right, pow-le-pow-right}
+use native.Mathlib.Omega.{arith}
+use lib.{Dec.lit<, Pow.pow-add}
 use borrow.Author.Count.{below-more}
-use Rattle.level.specs.Level.{bound}
-use Rattle.level.proofs.LevelLaws.{level-is, bound-mono, bound-top}
+use Rattle.level.specs.declared.Level.the-variants.{At}
+use Rattle.level.specs.{Limits.maxMean, Tables.tableB, Level.bound, Level.levelOf}
+use Rattle.level.proofs.LevelLaws.{b-first, b-below, bound-at, bound-top, level-is}
 use Rattle.level.proofs.core.first_reaching.Statement.{statement}
 use Rattle.level.proofs.core.first_reaching.Tie as tie
 
+-- every level before n misses m
+abbrev Missed : (m n : ℕ) → Type 0
+Missed m n = (j : ℕ) → j < n → bound j < m
+
+-- B(k) is below 10^7, so the bounds before decade q are below 10^(q+3)
+missed-before : (q m : ℕ) → 10 ^ (q + 3) ≤ m → Missed m (1000 * q)
+missed-before q m low j h =
+    let p = 10 ^ (j / 1000) in
+    let one : 1 ≤ p = pow-le-pow-right (lit< tt) {i = 0} (omega arith) in
+    let below = mul-le-mul-right p (b-below (j % 1000) (omega arith)) in
+    let product = rw (suc-mul (tableB (j % 1000)) p) at below in
+    let earlier : p * 10 ^ 4 ≤ 10 ^ (q + 3) =
+    rw (← pow-add 10 (j / 1000) 4) (pow-le-pow-right (lit< tt) (omega arith)) in
+    rw (bound-at j (j / 1000) (j % 1000) refl refl) (omega arith)
+
+-- B(0) is at least 10^6, so the first bound of the next is at least 10^(q+4)
+next-reaches : (q m : ℕ) → m < 10 ^ (q + 4) → m ≤ bound (1000 * q + 1000)
+next-reaches q m high =
+    let product = mul-le-mul-right (10 ^ (q + 1)) b-first in
+    let power : 10 ^ (q + 4) ≡ 10 ^ (q + 1) * 10 ^ 3 = rw (pow-add 10 q 4, pow-add 10 q 1) (omega arith) in
+    rw (bound-at (1000 * q + 1000) (q + 1) 0 (omega arith) (omega arith)) (omega arith)
+
+-- level 13,999 misses no mean in range
+in-tables : (m n : ℕ) → m ≤ maxMean → Missed m n → n < 14000
+in-tables m n most missed = lt-of-not-le (λ h. let g = missed 13999 h in omega (arith, bound-top))
+
+found : (m n : ℕ) → 1000 ≤ m → m ≤ maxMean → Missed m n → m ≤ bound n → At n ≡ levelOf m
+found m n least most missed reached =
+    sym (level-is m n least (omega (arith, in-tables m n most missed)) reached missed)
+
 abbrev Inv-loop : tie.InvT-loop
-Inv-loop b powers m n₀ n = (n ≤ 13999) × ((j : ℕ) → j < n → bound j < m)
+Inv-loop b powers m n₀ next n = (n ≤ next) × Missed m n
 
 abbrev μ-loop : tie.MeasureT-loop
-μ-loop b powers m n₀ n = 13999 - n
+μ-loop b powers m n₀ next n = next - n
 
--- a level that misses m is below 13,999
-more : (c : tie.Then1 Inv-loop μ-loop) → c .before .before .loop .n < 13999
-more c = lt-of-not-le (λ h. let g = bound-mono 13999 (c .before .before .loop .n) h in omega (arith, bound-top))
+before : (c : tie.After-decade-of Inv-loop μ-loop) → Missed (c .before .args .m) (1000 * c .decade-of .result)
+before c = missed-before _ _ (c .decade-of .ensures .0)
+
+fits : (c : tie.After-decade-of Inv-loop μ-loop) → 1000 * c .decade-of .result < 14000
+fits c = in-tables _ _ (c .before .pre .1) (before c)
+
+bound-at-requires : tie.Need-bound-at-requires Inv-loop μ-loop
+bound-at-requires c κs =
+    let p = c .before .before .before .pre in
+    (in-tables _ _ (p .1) (c .before .loop .inv .1), p .2, p .3)
 
 returns : tie.Need-returns Inv-loop μ-loop
-returns c =
-    let l = c .before .before .loop in
-    sym (level-is _ (l .n) (omega arith) (omega arith) (omega arith) (l .inv .1))
+returns c = found _ _ (omega arith) (omega arith) (c .before .before .before .loop .inv .1) (omega arith)
+
+returns-2 : tie.Need-returns-2 Inv-loop μ-loop
+returns-2 c =
+    let l = c .before .loop in
+    let d = c .before .before .decade-of in
+    let e : l .n ≡ 1000 * d .result + 1000 = omega arith in
+    found _ _ (omega arith) (omega arith) (l .inv .1) (rw e (next-reaches (d .result) _ (d .ensures .1)))
 
 pub first-reaching-spec : {M : Type 1} → statement M
 first-reaching-spec =
-    tie.close (tie.spec Inv-loop μ-loop (λ c. (omega arith, λ j h. omega arith))
-    (λ c κs. (omega arith, c .before .pre .2, c .before .pre .3)) (λ c. omega arith) (λ c. omega (arith, more c))
-    (λ c. (omega (arith, more c), below-more _ _ (c .before .before .loop .inv .1) (omega arith))) returns)
+    tie.close (tie.spec Inv-loop μ-loop (λ c κs. (c .pre .0, c .pre .1, c .pre .3)) (λ c. omega (arith, fits c))
+    (λ c. omega (arith, fits c)) (λ c. (omega arith, before c)) bound-at-requires returns
+    (λ c. omega (arith, fits (c .before .before .before .before))) (λ c. omega arith)
+    (λ c. (omega arith, below-more _ _ (c .before .before .before .loop .inv .1) (omega arith))) returns-2)
