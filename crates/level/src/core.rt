@@ -66,8 +66,8 @@ fn decade_of(powers: &[u64; 14], m: u64) -> u32
     q
 }
 
-// The smallest level whose bound reaches a mean energy, by a walk through its decade; where none of that decade does, it
-// is the first of the next.
+// The smallest level whose bound reaches a mean energy, by a walk through its decade; where no level of that decade
+// does, it is the next one's first.
 fn first_reaching(b: &[u64; 1000], powers: &[u64; 14], m: u64) -> u32
     requires { ⌜ (1000 ≤ m) × (m ≤ maxMean) × (IsTableB (now b)) × (ArePowers (now powers)) ⌝ }
     ensures { λ r. ⌜ At r ≡ levelOf m ⌝ }
