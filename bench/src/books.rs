@@ -56,6 +56,7 @@ pub fn library_load(library: &Library, book: &mut Book, point: u32, days: u32, a
 }
 
 pub fn c_load(book: &Book, point: u32, days: u32, answer: &mut [u64]) {
+    assert_eq!(answer.len(), LOAD_NUMBERS, "the answer must have room");
     let (i, g, m) = (book.identities.as_ptr(), book.groups.as_ptr(), book.marks.as_ptr());
     let (c, l, answer) = (book.counts.as_ptr(), book.levels.as_ptr(), answer.as_mut_ptr());
     let (rows, a, b) = (book.identities.len(), table_a().as_ptr(), table_b().as_ptr());

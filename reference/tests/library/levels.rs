@@ -74,7 +74,7 @@ fn both_edges_of_a_level() {
     });
 }
 
-/// About 10^(q+3) of each decade q that a book can reach: under and from it the level is 1000q, the decade's first.
+/// About 10^(q+3) of each decade q that a book can reach: from it, and but for q = 0 just under it, the level is 1000q.
 #[test]
 fn both_ends_of_a_decade() {
     directed("both_ends_of_a_decade", &[("load", 13 * 3 + 12 * 3, &["0"])], || {

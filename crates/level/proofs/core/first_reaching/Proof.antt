@@ -27,7 +27,7 @@ missed-before q m low j h =
     rw (← pow-add 10 (j / 1000) 4) (pow-le-pow-right (lit< tt) (omega arith)) in
     rw (bound-at j (j / 1000) (j % 1000) refl refl) (omega arith)
 
--- B(0) is at least 10^6, so the first bound of the next is at least 10^(q+4)
+-- B(0) is at least 10^6, so the first bound of the next decade is at least 10^(q+4)
 next-reaches : (q m : ℕ) → m < 10 ^ (q + 4) → m ≤ bound (1000 * q + 1000)
 next-reaches q m high =
     let product = mul-le-mul-right (10 ^ (q + 1)) b-first in
