@@ -1,14 +1,14 @@
 -- `level::core::first_reaching` meets its contract. Every level before the decade of m misses m, and the first level of
 -- the next decade reaches it. The loop's invariant: every level before n misses m. Assumes nothing.
-use mathlib.Core.Path.{_≡_, refl, sym}
-use Prim.Native.Nat.{ℕ, suc, _+_, _-_, _*_, _/_, _%_, _^_, _≤_, _<_}
-use native.Mathlib.Nat.{lt-of-not-le, suc-mul, mul-le-mul-right, pow-le-pow-right}
+use mathlib.Core.Path.{_≡_, ap, sym, _∙_}
+use Prim.Native.Nat.{ℕ, zero, suc, _+_, _-_, _*_, _^_, _≤_, _<_}
+use native.Mathlib.Nat.{lt-of-not-le, lt-of-le-of-lt, suc-mul, mul-le-mul-right, pow-le-pow-right}
 use native.Mathlib.Omega.{arith}
 use lib.{Dec.lit<, Pow.pow-add}
 use borrow.Author.Count.{below-more}
 use Rattle.level.specs.declared.Level.the-variants.{At}
 use Rattle.level.specs.{Limits.maxMean, Tables.tableB, Level.bound, Level.levelOf}
-use Rattle.level.proofs.LevelLaws.{b-first, b-below, bound-at, bound-top, level-is}
+use Rattle.level.proofs.LevelLaws.{b-first, b-below, bound-at, bound-mono, bound-top, level-is}
 use Rattle.level.proofs.core.first_reaching.Statement.{statement}
 use Rattle.level.proofs.core.first_reaching.Tie as tie
 
@@ -16,16 +16,16 @@ use Rattle.level.proofs.core.first_reaching.Tie as tie
 abbrev Missed : (m n : ℕ) → Type 0
 Missed m n = (j : ℕ) → j < n → bound j < m
 
--- B(k) is below 10^7, so the bounds before decade q are below 10^(q+3)
+-- B(999) is below 10^7, so the last bound before decade q is below 10^(q+3), and bounds rise
 missed-before : (q m : ℕ) → 10 ^ (q + 3) ≤ m → Missed m (1000 * q)
-missed-before q m low j h =
-    let p = 10 ^ (j / 1000) in
-    let one : 1 ≤ p = pow-le-pow-right (lit< tt) {i = 0} (omega arith) in
-    let below = mul-le-mul-right p (b-below (j % 1000) (omega arith)) in
-    let product = rw (suc-mul (tableB (j % 1000)) p) at below in
-    let earlier : p * 10 ^ 4 ≤ 10 ^ (q + 3) =
-    rw (← pow-add 10 (j / 1000) 4) (pow-le-pow-right (lit< tt) (omega arith)) in
-    rw (bound-at j (j / 1000) (j % 1000) refl refl) (omega arith)
+missed-before zero m low j h = absurd (omega arith)
+missed-before (suc q) m low j h =
+    let one : 1 ≤ 10 ^ q = pow-le-pow-right (lit< tt) {i = 0} (omega arith) in
+    let below = mul-le-mul-right (10 ^ q) (b-below 999 (lit< tt)) in
+    let product = rw (suc-mul (tableB 999) (10 ^ q)) at below in
+    let power : 10 ^ (suc q + 3) ≡ 10 ^ q * 10 ^ 4 = ap (λ (n : ℕ). 10 ^ n) (omega arith) ∙ pow-add 10 q 4 in
+    lt-of-le-of-lt (bound-mono j (1000 * q + 999) (omega arith))
+    (rw (bound-at (1000 * q + 999) q 999 (omega arith) (omega arith)) (omega arith))
 
 -- B(0) is at least 10^6, so the first bound of the next decade is at least 10^(q+4)
 next-reaches : (q m : ℕ) → m < 10 ^ (q + 4) → m ≤ bound (1000 * q + 1000)
