@@ -7,7 +7,7 @@ use network::limits::MAX_EDGES;
 // A checkerboard of 256 by 256 points, whose every square is a saddle that cuts off its in corners: an open contour
 // around each border point that is in, and a closed one around each inner one.
 pub(crate) fn full_size() {
-    let mut levels = [4000u32; 65536];
+    let mut levels = [40000u32; 65536];
     checker(&mut levels);
     let mut edges = [9u32; MAX_EDGES];
     let mut counts = [9u32; MAX_EDGES];
@@ -32,7 +32,7 @@ fn trace(
         west: 0,
         south: 0,
     };
-    contour::contours(levels, frame, 6000, edges, counts, closed, sizes);
+    contour::contours(levels, frame, 60000, edges, counts, closed, sizes);
 }
 
 fn checker(levels: &mut [u32]) {
@@ -43,10 +43,10 @@ fn checker(levels: &mut [u32]) {
     }
 }
 
-// A point whose row and column add up to an even number has 70.00, another 40.00.
+// A point whose row and column add up to an even number has 70.000, another 40.000.
 fn shade(i: usize) -> u32 {
     if (i / 256 + i % 256) % 2 == 0 {
-        return 7000;
+        return 70000;
     }
-    4000
+    40000
 }

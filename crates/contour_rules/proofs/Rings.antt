@@ -7,7 +7,7 @@ use Rattle.contour_rules.specs.{Picture.Picture, Picture.picture, Crossi
 use Rattle.contour_rules.specs.Once.{EachOnce}
 
 abbrev pub hill : Picture
-hill = picture (4000 ∷ 4000 ∷ 4000 ∷ 4000 ∷ 5000 ∷ 4000 ∷ 4000 ∷ 4000 ∷ 4000 ∷ []) 3 3 4500
+hill = picture (40000 ∷ 40000 ∷ 40000 ∷ 40000 ∷ 50000 ∷ 40000 ∷ 40000 ∷ 40000 ∷ 40000 ∷ []) 3 3 45000
 
 abbrev pub ring : List ℕ → Contour
 ring ns = record { edges = ns; closes = true }

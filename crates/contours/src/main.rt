@@ -28,9 +28,9 @@ ghost use Rattle.contours_steps.specs.Sheet.{textRefusal, refusedAt, maxText};
 ghost use Rattle.contours_steps.specs.Words.{Gathered, maxContourLevels, givenRefusal};
 ghost use Rattle.contours_steps.specs.InnerDrawing.{Stored};
 
-// Room for any network that is not refused, and more: 65,536 values of up to 8 bytes, each with the space or line end
-// behind it, and the header.
-const MAX_TEXT: usize = 600_000;
+// Room for one byte more than the longest network text that is neither 17 nor 12: 65,536 values of up to 8 bytes, each
+// with the space or line end behind it, and the header.
+const MAX_TEXT: usize = 590_176;
 
 // The numbers of a network's header, and the most levels that it has.
 const HEADER_NUMBERS: usize = 5;

@@ -9,6 +9,7 @@ pub mod Telling
 pub mod Overlong
 pub mod Stays
 pub mod Within
+pub mod Longest
 pub mod Ends
 pub mod Roomy
 pub mod Running

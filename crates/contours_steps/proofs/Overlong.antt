@@ -1,30 +1,31 @@
 -- A network that is on its layout and as large as its frame says is shorter than the program's room. Assumes nothing.
-use Prim.Native.Nat.{ℕ, zero, suc, _+_, _-_, _*_, _≤_}
+use Prim.Native.Nat.{ℕ, zero, suc, _+_, _*_, _^_, _≤_, _<_}
 use mathlib.Core.Path.{_≡_, refl, sym, ap, _∙_}
 use mathlib.Core.Bool.{Bool, true, false, cond, _&&_, _||_}
 use mathlib.Core.List.{List, [], _∷_, _++_, map}
 use native.Mathlib.{Nat.mul-le-mul, Omega.arith}
 use borrow.Author.Tests.{eq-eqb, eqb-true, leb-true}
-use lib.{Dec.eqb, Dec.leb, ListN.length, ListN.getD, ListN.drop, ListN.length-drop}
+use lib.{Dec.eqb, Dec.leb, ListN.length, ListN.getD, ListN.drop, ListN.length-drop, ListN.length-append}
 use Rattle.refusal.proofs.Laws.{and-left, and-right}
-use Rattle.text.specs.Number.{wholeOf, decimalOf, levelOf, digitsOf, pointed, isGot}
+use Rattle.text.specs.Number.{wholeOf, thousandthsOf, digitsOf, isGot, valueOf, showWhole}
 use Rattle.text.specs.{Line.onto, Line.linesOf, Same.sameText}
 use Rattle.text.specs.declared.number.Number.{Number}
 use Rattle.text.specs.declared.number.Number.the-variants.{Off}
-use Rattle.text.proofs.{Digits.either, Sames.same-equal}
-use Rattle.network.specs.{Limits.leastSide, Limits.maxSide, Refusals.between, Refusals.sided}
-use Rattle.network.proofs.Refusals.{in-between}
+use Rattle.text.proofs.{Digits.either, Digits.got-value, Shown.shown-width, Sames.same-equal}
+use Rattle.text.proofs.Thousandths.{thousandths-exact, spelled-most}
+use Rattle.network.specs.Refusals.{sided, placed}
+use Rattle.network.proofs.Ranges.{FrameRange, frame-alone}
 use Rattle.grid.specs.Row.{all, valuesOf, isValue, isRow, hasValues}
-use Rattle.grid.specs.File.{begins, ncols, nrows, xllcenter, yllcenter, cellsize, noDataWord, unnamed, numberAfter}
+use Rattle.grid.specs.File.{ncols, nrows, xllcenter, yllcenter, cellsize, noDataWord, unnamed, numberAfter}
 use Rattle.grid.specs.File.{numberAt, names, namesWell, sixth, spelledIn, isNumber, isSpelling}
 use Rattle.grid.specs.File.{namedOn, noDataOf, rowsOf, firstOff, frameOf, faultLine, rowsFit}
 use Rattle.grid.specs.Read.{linesRefusal}
-use Rattle.grid.proofs.{ReadLaws.fit-both, ValueLaws.all-cons}
+use Rattle.grid.proofs.{ReadLaws.fit-both, ValueLaws.all-cons, Values.key-line}
 use Rattle.contours_steps.specs.Sheet.{textRefusal, maxText}
 
 -- ---- lists of texts, each with `more` bytes behind it
 
-total : ℕ → List (List ℕ) → ℕ
+pub total : ℕ → List (List ℕ) → ℕ
 total more [] = 0
 total more (l ∷ ls) = length l + more + total more ls
 
@@ -33,7 +34,7 @@ unfolding total
 onto-total more c [] = omega arith
 onto-total more c (l ∷ ls) = omega arith
 
-lines-total : (s : List ℕ) → length s ≤ total 2 (linesOf s)
+pub lines-total : (s : List ℕ) → length s ≤ total 2 (linesOf s)
 unfolding linesOf total
 lines-total [] = omega arith
 lines-total (c ∷ []) = omega arith
@@ -64,11 +65,10 @@ got-passed : (b : Bool) (n : Number) → isGot (cond b n Off) ≡ true → b ≡
 got-passed true n h = refl
 got-passed false n h = let z : _≡_ {A = ℕ} 0 1 = cc in absurd (omega arith)
 
-level-short : (t : List ℕ) → isGot (levelOf t) ≡ true → length t ≤ 6
-unfolding decimalOf
-level-short t h = leb-true (length t) 6
-    (and-right (leb 4 (length t)) (leb (length t) 6)
-    (got-passed (leb 4 (length t) && leb (length t) 6) (pointed 2 t (length t - 3)) h))
+level-short : (t : List ℕ) → isGot (thousandthsOf t) ≡ true → length t ≤ 7
+level-short t h =
+    let x = thousandths-exact t _ (got-value (thousandthsOf t) h) in
+    spelled-most t _ (x .0) (x .1)
 
 whole-short : (t : List ℕ) → isGot (wholeOf t) ≡ true → length t ≤ 7
 unfolding wholeOf
@@ -83,7 +83,7 @@ one-of false b h p q = q h
 
 value-short : (nodata t : List ℕ) → length nodata ≤ 8 → isValue nodata t ≡ true → length t ≤ 8
 value-short nodata t few h =
-    one-of (isGot (levelOf t)) (sameText t nodata) h
+    one-of (isGot (thousandthsOf t)) (sameText t nodata) h
     (λ l. omega (arith, level-short t l))
     (λ s. omega (arith, ap length (same-equal t nodata s)))
 
@@ -103,17 +103,17 @@ row-short : (nodata line : List ℕ) → length nodata ≤ 8 → isRow nodata li
     → length line + 1 ≤ 9 * length (valuesOf line)
 row-short nodata line few h = omega (arith, values-total line, values-short nodata (valuesOf line) few h)
 
-key-short : (key line : List ℕ) → isGot (numberAfter key line) ≡ true → length line ≤ length key + 7
-unfolding numberAfter
-key-short key line h =
-    either (begins key line)
-    (λ yes. let w : isGot (wholeOf (drop (length key) line)) ≡ true = rw yes at h in
-    omega (arith, whole-short (drop (length key) line) w, length-drop (length key) line))
-    (λ no. let f : false ≡ true = rw no at h in let z : _≡_ {A = ℕ} 0 1 = cc in absurd (omega arith))
+-- a header line whose number has so many digits
+key-short : (key line : List ℕ) (k : ℕ) → isGot (numberAfter key line) ≡ true
+    → valueOf (numberAfter key line) < 10 ^ suc k → length line ≤ length key + suc k
+key-short key line k h small =
+    let n = valueOf (numberAfter key line) in
+    let l = key-line key line n (got-value (numberAfter key line) h) .1 in
+    omega (arith, ap length l, length-append key (showWhole n), shown-width 7 k n small)
 
 number-short : (t : List ℕ) → isNumber t ≡ true → length t ≤ 7
 number-short t h =
-    one-of (isGot (wholeOf t)) (isGot (levelOf t)) h (λ w. whole-short t w) (λ l. omega (arith, level-short t l))
+    one-of (isGot (wholeOf t)) (isGot (thousandthsOf t)) h (λ w. whole-short t w) (λ l. omega (arith, level-short t l))
 
 spelling-short : (t : List ℕ) → isSpelling t ≡ true → length t ≤ 8
 spelling-short t h =
@@ -155,25 +155,28 @@ rows-total nodata columns n (row ∷ rows) few one off fit =
     )
 
 module _ (ls : List (List ℕ)) (on : faultLine ls ≡ 0) (fit : rowsFit (frameOf ls) (rowsOf ls) ≡ true)
-    (size : sided (frameOf ls) ≡ true) where
+    (right : (sided (frameOf ls) && placed (frameOf ls)) ≡ true) where
   rest : List Bool
   rest = namedOn ls ++ map (isRow (noDataOf ls)) (rowsOf ls)
 
-  head : (length (getD ls 0 []) ≤ 13) × (length (getD ls 1 []) ≤ 13) × (length (getD ls 2 []) ≤ 17)
-      × (length (getD ls 3 []) ≤ 17) × (length (getD ls 4 []) ≤ 16)
+  range : FrameRange (frameOf ls)
+  range = frame-alone (frameOf ls) .0 right
+
+  head : (length (getD ls 0 []) ≤ 9) × (length (getD ls 1 []) ≤ 9) × (length (getD ls 2 []) ≤ 16)
+      × (length (getD ls 3 []) ≤ 16) × (length (getD ls 4 []) ≤ 12)
       × (firstOff 6 rest ≡ 0)
-  unfolding faultLine rest
+  unfolding faultLine rest frameOf
   head =
       let a = off-split 1 (isGot (numberAt ncols 0 ls)) _ (omega arith) on in
       let b = off-split 2 (isGot (numberAt nrows 1 ls)) _ (omega arith) (a .1) in
       let c = off-split 3 (isGot (numberAt xllcenter 2 ls)) _ (omega arith) (b .1) in
       let d = off-split 4 (isGot (numberAt yllcenter 3 ls)) _ (omega arith) (c .1) in
       let e = off-split 5 (isGot (numberAt cellsize 4 ls)) _ (omega arith) (d .1) in (
-        key-short ncols (getD ls 0 []) (a .0),
-        key-short nrows (getD ls 1 []) (b .0),
-        key-short xllcenter (getD ls 2 []) (c .0),
-        key-short yllcenter (getD ls 3 []) (d .0),
-        key-short cellsize (getD ls 4 []) (e .0),
+        key-short ncols (getD ls 0 []) 2 (a .0) (omega (arith, range .0 .1)),
+        key-short nrows (getD ls 1 []) 2 (b .0) (omega (arith, range .1 .1)),
+        key-short xllcenter (getD ls 2 []) 5 (c .0) (omega (arith, range .3)),
+        key-short yllcenter (getD ls 3 []) 5 (d .0) (omega (arith, range .4)),
+        key-short cellsize (getD ls 4 []) 2 (e .0) (omega (arith, range .2 .1)),
         e .1,
       )
 
@@ -181,21 +184,12 @@ module _ (ls : List (List ℕ)) (on : faultLine ls ≡ 0) (fit : rowsFit (frameO
   fits : (length (rowsOf ls) ≡ frameOf ls .rows) × (all (hasValues (frameOf ls .columns)) (rowsOf ls) ≡ true)
   fits = fit-both (frameOf ls) (rowsOf ls) fit
 
-  most : (frameOf ls .columns ≤ 256) × (frameOf ls .rows ≤ 256)
-  most =
-      let f = frameOf ls in (
-        in-between leastSide (f .columns) maxSide
-            (and-left (between leastSide (f .columns) maxSide) (between leastSide (f .rows) maxSide) size) .1,
-        in-between leastSide (f .rows) maxSide
-            (and-right (between leastSide (f .columns) maxSide) (between leastSide (f .rows) maxSide) size) .1,
-      )
-
   body-total : (nodata : List ℕ) (n : ℕ) (rows : List (List ℕ)) → rowsOf ls ≡ rows → length nodata ≤ 8
       → 1 ≤ n → firstOff n (map (isRow nodata) rows) ≡ 0 → total 2 rows ≤ 590080
   body-total nodata n rows is few one off =
       let t = rows-total nodata (frameOf ls .columns) n rows few one off (rw is at (fits .1)) in
-      let r : length rows ≤ 256 = omega (arith, ap length is, fits .0, most .1) in
-      let c : 9 * frameOf ls .columns + 1 ≤ 2305 = omega (arith, most .0) in
+      let r : length rows ≤ 256 = omega (arith, ap length is, fits .0, range .1 .1) in
+      let c : 9 * frameOf ls .columns + 1 ≤ 2305 = omega (arith, range .0 .1) in
       omega (arith, t, mul-le-mul r c)
 
   after-head : total 2 (drop 5 ls) ≤ 590103
@@ -216,7 +210,7 @@ module _ (ls : List (List ℕ)) (on : faultLine ls ≡ 0) (fit : rowsFit (frameO
       (λ no. let o : firstOff 6 (map (isRow unnamed) (drop 5 ls)) ≡ 0 = rw no at (head .5) in
       omega (arith, body-total unnamed 6 (drop 5 ls) (rw no refl) (omega arith) (omega arith) o))
 
-  lines-short : total 2 ls ≤ 600000 - 1
+  pub lines-short : total 2 ls ≤ 590175
   lines-short =
       omega (
         arith,
@@ -239,8 +233,9 @@ pub overlong-twelve : (text : List ℕ) → maxText ≤ length text → faultLin
 unfolding linesRefusal
 overlong-twelve text long on =
     let ls = linesOf text in
-    either (rowsFit (frameOf ls) (rowsOf ls))
-    (λ fit. either (sided (frameOf ls))
-    (λ size. absurd (omega (arith, lines-total text, lines-short ls on fit size)))
+    let f = frameOf ls in
+    either (rowsFit f (rowsOf ls))
+    (λ fit. either (sided f && placed f)
+    (λ right. absurd (omega (arith, lines-total text, lines-short ls on fit right)))
     (λ no. rw (eq-eqb (faultLine ls) 0 on, fit, no) refl))
     (λ no. rw (eq-eqb (faultLine ls) 0 on, no) refl)

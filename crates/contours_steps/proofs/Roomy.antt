@@ -6,7 +6,7 @@ use lib.{ListN.length, Dec.eqb, Dec.leb}
 use borrow.Author.Tests.{le-leb}
 use Rattle.refusal.specs.Range.{allWithin}
 use Rattle.text.specs.Line.{linesOf}
-use Rattle.text.proofs.Shown.{level-most}
+use Rattle.text.proofs.Thousandths.{spelled-most}
 use Rattle.network.specs.declared.Frame.{Frame}
 use Rattle.network.specs.{Limits.maxNetworkLevel, Refusals.sided, Refusals.placed, Refusals.filled}
 use Rattle.network.proofs.Refusals.{is-checked}
@@ -81,9 +81,9 @@ same-in text headers room five many =
     alike true false c d g r r′ fit = refl
     alike false b c d g r r′ fit = refl
 
--- a level has at most six bytes
+-- a level has at most seven bytes
 pub words-fit : WordsFit
-words-fit = record { word = λ w s. rw (s .spelled) (omega (arith, level-most (s .level) (omega (arith, s .most)))) }
+words-fit = record { word = λ w s. omega (arith, spelled-most w (s .level) (omega (arith, s .most)) (s .spelled)) }
 
 pub never-short : (text : List ℕ) → NeverShort text
 never-short text = record { network = not-short text; as-read = same-in text }

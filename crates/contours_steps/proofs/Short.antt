@@ -4,8 +4,8 @@ use mathlib.Core.{Path._≡_, Path.refl, Path.ap, List.List, List.[], List._∷_
 use native.Mathlib.{Nat.mul-le-mul, Nat.le-refl, Omega.arith}
 use borrow.Author.Tests.{ltb-true, ltb-false}
 use lib.{Dec.ltb, ListN.length, ListN.getD, ListN.length-append}
-use Rattle.text.specs.Number.{showLevel}
-use Rattle.text.proofs.{Digits.either, Shown.level-most}
+use Rattle.text.specs.Number.{showThousandths}
+use Rattle.text.proofs.{Digits.either, Thousandths.thousandths-most}
 use Rattle.network.specs.declared.Frame.{Frame}
 use Rattle.network.specs.Edges.{Checked}
 use Rattle.network.proofs.Numbers.{edges-le}
@@ -81,8 +81,8 @@ module _ (levels : List ℕ) (f : Frame) (v : ℕ) where
         text-short (edgesOf cs) (countsOf cs) (closedOf cs) (printable levels f v k),
       )
 
-pub start-short : (v : ℕ) → v < 100000 → length (lineStart v) ≤ 7
-start-short v h = omega (arith, length-append (showLevel v) (59 ∷ []), level-most v h)
+pub start-short : (v : ℕ) → v < 1000000 → length (lineStart v) ≤ 8
+start-short v h = omega (arith, length-append (showThousandths v) (59 ∷ []), thousandths-most v h)
 
 pub line-length : (levels : List ℕ) (f : Frame) (v : ℕ)
     → length (levelLine levels f v) ≡ length (lineStart v) + (length (networkText levels f v) + 2)
@@ -94,8 +94,8 @@ line-length levels f v =
     )
 
 lines-short : (levels : List ℕ) (f : Frame) (vs : List ℕ) → Checked levels f
-    → ((i : ℕ) → i < length vs → getD vs i 0 < 100000)
-    → length (levelLines levels f vs) ≤ length vs * 25067721
+    → ((i : ℕ) → i < length vs → getD vs i 0 < 1000000)
+    → length (levelLines levels f vs) ≤ length vs * 25067722
 unfolding levelLines
 lines-short levels f [] k h = omega arith
 lines-short levels f (v ∷ vs) k h =
@@ -115,5 +115,5 @@ sheet-short {levels} {f} {asked} d =
     omega (
       arith,
       lines-short levels f asked (d .checked) (λ i l. omega (arith, d .most i l)),
-      mul-le-mul (d .few) (le-refl 25067721),
+      mul-le-mul (d .few) (le-refl 25067722),
     )

@@ -8,11 +8,10 @@ use borrow.Author.Tests.{eq-eqb, ne-eqb, le-leb, lt-leb}
 use lib.{Dec.leb, ListN.length, ListN.getD, ListN.length-map}
 use Rattle.refusal.specs.Range.{allWithin}
 use Rattle.refusal.proofs.Laws.{and-left, and-right}
-use Rattle.text.specs.{Number.levelOf, Number.isGot, Number.showLevel, Field.countOf, Line.linesOf}
-use Rattle.text.specs.declared.number.Number.{Number}
-use Rattle.text.specs.declared.number.Number.the-variants.{Got, Off}
-use Rattle.text.proofs.{Digits.either, Exact.level-exact, Fields.count-append, Free.decimal-free, Free.level-free}
-use Rattle.text.proofs.Shown.{level-back}
+use Rattle.text.specs.{Number.thousandthsOf, Number.isGot, Number.showThousandths, Number.InThousandths}
+use Rattle.text.specs.{Field.countOf, Line.linesOf}
+use Rattle.text.proofs.{Digits.either, Digits.got-value, Fields.count-append, Free.decimal-free}
+use Rattle.text.proofs.Thousandths.{thousandths-read, thousandths-exact}
 use Rattle.network.specs.declared.Frame.{Frame}
 use Rattle.network.specs.{Edges.edgeAt, Limits.maxNetworkLevel, Refusals.sided, Refusals.placed, Refusals.filled}
 use Rattle.contour_rules.specs.{Contours.Contour, Contours.bit, Contours.contoursOf, Picture.picture}
@@ -97,15 +96,15 @@ module _ (levels : List ℕ) (f : Frame) (v : ℕ) where
 
   -- the line of a level, without its end
   abbrev lineOf : List ℕ
-  lineOf = showLevel v ++ (59 ∷ networkText levels f v)
+  lineOf = showThousandths v ++ (59 ∷ networkText levels f v)
 
   line-free : countOf 13 lineOf ≡ 0
   unfolding countOf
   line-free =
-      count-append 13 (showLevel v) (59 ∷ networkText levels f v)
+      count-append 13 (showThousandths v) (59 ∷ networkText levels f v)
       ∙ omega (
         arith,
-        level-free 13 (omega arith) v,
+        decimal-free 13 (omega arith) 3 v,
         text-free (map (λ (c : Contour). pointsOf (c .edges) (bit (c .closes)))
             (contoursOf (picture levels (f .columns) (f .rows) v))),
       )
@@ -114,15 +113,15 @@ module _ (levels : List ℕ) (f : Frame) (v : ℕ) where
 
 module _ (levels : List ℕ) (f : Frame) where
   abbrev linesIn : List ℕ → List (List ℕ)
-  linesIn vs = map (λ (v : ℕ). showLevel v ++ (59 ∷ networkText levels f v)) vs
+  linesIn vs = map (λ (v : ℕ). showThousandths v ++ (59 ∷ networkText levels f v)) vs
 
   lines-joined : (vs : List ℕ) → levelLines levels f vs ≡ write.textOf (linesIn vs)
   unfolding levelLines
   lines-joined [] = sym text-none
   lines-joined (v ∷ vs) =
       ap (λ (t : List ℕ). (lineStart v ++ (networkText levels f v ++ (13 ∷ 10 ∷ []))) ++ t) (lines-joined vs)
-      ∙ regroup (showLevel v) (networkText levels f v) (write.textOf (linesIn vs))
-      ∙ sym (text-cons (showLevel v ++ (59 ∷ networkText levels f v)) (linesIn vs))
+      ∙ regroup (showThousandths v) (networkText levels f v) (write.textOf (linesIn vs))
+      ∙ sym (text-cons (showThousandths v ++ (59 ∷ networkText levels f v)) (linesIn vs))
     where
       regroup : (a b t : List ℕ)
           → ((a ++ (59 ∷ [])) ++ (b ++ (13 ∷ 10 ∷ []))) ++ t
@@ -151,13 +150,10 @@ module _ (levels : List ℕ) (f : Frame) where
 
 -- ---- words
 
-got-exact : (w : List ℕ) (x : Number) → levelOf w ≡ x → isGot x ≡ true → w ≡ showLevel (wordLevel w)
-got-exact w (Got n) e g = let q : wordLevel w ≡ n = rw e refl in rw q (level-exact w n e)
-got-exact w Off e g = let z : _≡_ {A = ℕ} 0 1 = cc in absurd (omega arith)
-
-word-spelled : (w : List ℕ) → isContour w ≡ true → w ≡ showLevel (wordLevel w)
+word-spelled : (w : List ℕ) → isContour w ≡ true → InThousandths w (wordLevel w)
 unfolding isContour
-word-spelled w h = got-exact w (levelOf w) refl (and-left (isGot (levelOf w)) _ h)
+word-spelled w h =
+    thousandths-exact w (wordLevel w) (got-value (thousandthsOf w) (and-left (isGot (thousandthsOf w)) _ h)) .1
 
 pub contour-spells : (w : List ℕ) → isContour w ≡ true → Spells w
 contour-spells w h =
@@ -167,10 +163,9 @@ pub spells-contour : (w : List ℕ) → Spells w → isContour w ≡ true
 unfolding isContour
 spells-contour w s =
     rw (
-      s .spelled,
-      level-back (s .level) (omega (arith, s .most)),
+      thousandths-read w (s .level) (omega (arith, s .most)) (s .spelled),
       le-leb 1 (s .level) (s .least),
-      le-leb (s .level) 15000 (s .most),
+      le-leb (s .level) 150000 (s .most),
     ) refl
 
 all-each : (words : List (List ℕ)) → all isContour words ≡ true → (i : ℕ) → i < length words
@@ -188,17 +183,12 @@ each-all (w ∷ words) h =
     all-cons isContour w words
     ∙ rw (spells-contour w (h 0 (omega arith)), each-all words (λ i l. h (suc i) (omega arith))) refl
 
-lines-at : (levels : List ℕ) (f : Frame) (words : List (List ℕ)) → all isContour words ≡ true → (i : ℕ)
-    → i < length words
-    → getD (linesIn levels f (levelsIn words)) i [] ≡ getD words i [] ++
+lines-at : (levels : List ℕ) (f : Frame) (words : List (List ℕ)) (i : ℕ) → i < length words
+    → getD (linesIn levels f (levelsIn words)) i [] ≡ showThousandths (wordLevel (getD words i [])) ++
     (59 ∷ networkText levels f (wordLevel (getD words i [])))
-lines-at levels f [] h i l = absurd (omega arith)
-lines-at levels f (w ∷ words) h zero l =
-    ap (λ (t : List ℕ). t ++ (59 ∷ networkText levels f (wordLevel w)))
-    (sym (word-spelled w (and-left (isContour w) (all isContour words) (sym (all-cons isContour w words) ∙ h))))
-lines-at levels f (w ∷ words) h (suc i) l =
-    lines-at levels f words (and-right (isContour w) (all isContour words) (sym (all-cons isContour w words) ∙ h)) i
-    (omega arith)
+lines-at levels f [] i l = absurd (omega arith)
+lines-at levels f (w ∷ words) zero l = refl
+lines-at levels f (w ∷ words) (suc i) l = lines-at levels f words i (omega arith)
 
 pub each-word : (text : List ℕ) (words : List (List ℕ)) → refusalOf text words ≡ 0 → EachWord text words
 unfolding writtenOf contour-spells
@@ -211,12 +201,12 @@ each-word text words fine =
     record {
       many = ap length e ∙ omega (
         arith,
-        length-map (levelsIn words) (λ (v : ℕ). showLevel v ++ (59 ∷ networkText levels f v)),
+        length-map (levelsIn words) (λ (v : ℕ). showThousandths v ++ (59 ∷ networkText levels f v)),
         length-map words wordLevel,
       );
       heading = ap (λ (ls : List (List ℕ)). getD ls 0 []) e;
       spell = λ i l. contour-spells (getD words i []) (all-each words fits i l);
-      line = λ i l. ap (λ (ls : List (List ℕ)). getD ls (suc i) []) e ∙ lines-at levels f words fits i l;
+      line = λ i l. ap (λ (ls : List (List ℕ)). getD ls (suc i) []) e ∙ lines-at levels f words i l;
     }
 
 -- ---- refusals

@@ -10,12 +10,12 @@ use Rattle.contours_steps.specs.Sheet.{refusedLine, writtenOf, overlongO
 use Rattle.contours_steps.specs.Told.{lineEnds}
 
 -- The text by how the network came: standard input ended, and all of it and the words are answered; a read failed, and
--- 17 is told at the line past the last line end; or its first 600,000 bytes came. There is no fourth way
+-- 17 is told at the line past the last line end; or its first 590,176 bytes came. There is no fourth way
 pub data TextTold (words : List (List ℕ)) (text : List ℕ) : Type 0 where
   ended : (network : List ℕ) → Whole input network → text ≡ writtenOf network words → TextTold words text
   broken : (network : List ℕ) → Broken input network → text ≡ refusedLine 17 (1 + lineEnds network)
       → TextTold words text
-  begun : (network : List ℕ) → First input network → length network ≡ 600000 → text ≡ overlongOf network
+  begun : (network : List ℕ) → First input network → length network ≡ 590176 → text ≡ overlongOf network
       → TextTold words text
 
 -- the words are the program's arguments, all of them and in their order; one over 16 bytes is handed over empty

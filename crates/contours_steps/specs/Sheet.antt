@@ -5,7 +5,7 @@ use mathlib.Core.Bool.{cond}
 use mathlib.Core.List.{List, [], _∷_, _++_}
 use lib.ListN.{length}
 use lib.Dec.{eqb, leb, ltb}
-use Rattle.text.specs.Number.{showNumber, showLevel}
+use Rattle.text.specs.Number.{showNumber, showThousandths}
 use Rattle.text.specs.Spelled.{bytes}
 use Rattle.text.specs.Line.{linesOf}
 use Rattle.network.specs.declared.Frame.{Frame}
@@ -21,9 +21,9 @@ lineEnd = 13 ∷ 10 ∷ []
 abbrev pub heading : List ℕ
 heading = bytes "level;wkt" ++ lineEnd
 
--- the line of a level: the level with two decimals, a semicolon, and the text of its contours
+-- the line of a level: the level with three decimals, a semicolon, and the text of its contours
 abbrev pub lineStart : ℕ → List ℕ
-lineStart v = showLevel v ++ bytes ";"
+lineStart v = showThousandths v ++ bytes ";"
 
 abbrev pub levelLine : List ℕ → Frame → ℕ → List ℕ
 levelLine levels f v = lineStart v ++ (networkText levels f v ++ lineEnd)
@@ -70,11 +70,11 @@ lineBegun text = length (linesOf (text ++ (0 ∷ [])))
 abbrev pub failedOf : List ℕ → List ℕ
 failedOf text = refusedLine 17 (lineBegun text)
 
--- The program has room for any network that is not refused, with the header: 65,536 values of up to 8 bytes and the
--- byte behind each. Of a text that fills the room the lines that it ends are judged, and the header: the first at fault
--- is 17, and else the text has too many values
+-- The program has room for one byte more than the longest text that is neither 17 nor 12, so that its end is seen:
+-- 65,536 values of up to 8 bytes and the byte behind each, and the header. Of a text that fills the room the lines that
+-- it ends are judged, and the header: the first at fault is 17, and else the text has too many values
 abbrev pub maxText : ℕ
-maxText = 600000
+maxText = 590176
 
 unfoldable pub overlongLine : List ℕ → ℕ
 overlongLine text =

@@ -5,43 +5,45 @@ use mathlib.Core.Bool.{cond, _&&_}
 use mathlib.Core.List.{List, [], _∷_, _++_}
 use lib.Dec.{eqb}
 use lib.ListN.{length, getD}
-use Rattle.text.specs.Number.{shown, showLevel}
+use Rattle.text.specs.Number.{shown, showThousandths, InThousandths}
 use Rattle.text.specs.Spelled.{bytes}
 use Rattle.text.specs.Line.{linesOf}
 use Rattle.grid.specs.File.{faultLine}
 use Rattle.grid.specs.Read.{textFrame, textLevels, readRefusal}
 use Rattle.wkt.specs.Calls.{networkText}
 use Rattle.contours_steps.specs.Words.{maxWord}
-use Rattle.contours_steps.specs.Sheet.{textRefusal, refusalOf, refusedLine, writtenOf}
+use Rattle.contours_steps.specs.Sheet.{maxText, textRefusal, refusalOf, refusedLine, writtenOf}
 use Rattle.contours_steps.specs.Sheet.{lineBegun, failedOf, overlongLine, overlongOf}
 
 abbrev pub headingText : List ℕ
 headingText = bytes "level;wkt"
 
--- a word that spells a contour level: from 0.01 to 150.00, with two decimals and no needless zero
+-- a word that spells a contour level in thousandths: from 0.001 to 150.000, with three decimals or with two, and no
+-- needless zero in front
 pub record Spells (w : List ℕ) : Type 0 where
   pub level : ℕ
   pub least : 1 ≤ level
-  pub most : level ≤ 15000
-  pub spelled : w ≡ showLevel level
+  pub most : level ≤ 150000
+  pub spelled : InThousandths w level
 
 -- each word spells a level
 abbrev pub AllSpell : List (List ℕ) → Type 0
 AllSpell words = (i : ℕ) → i < length words → Spells (getD words i [])
 
--- Where nothing is refused, each word has one line, in the order given: the word as it is spelled, a semicolon, and the
--- text of the contours at the level that it spells
+-- Where nothing is refused, each word has one line, in the order given: the level that it spells, with three decimals,
+-- a semicolon, and the text of the contours at that level
 pub record EachWord (text : List ℕ) (words : List (List ℕ)) : Type 0 where
   pub many : length (linesOf (writtenOf text words)) ≡ 1 + length words
   pub heading : getD (linesOf (writtenOf text words)) 0 [] ≡ headingText
   pub spell : AllSpell words
   pub line : (i : ℕ) (h : i < length words)
       → getD (linesOf (writtenOf text words)) (suc i) []
-      ≡ getD words i [] ++ (bytes ";" ++ networkText (textLevels text) (textFrame text) (spell i h .level))
+      ≡ showThousandths (spell i h .level)
+      ++ (bytes ";" ++ networkText (textLevels text) (textFrame text) (spell i h .level))
 
 -- What is refused is written as one line and nothing else: the network before the words, 17 with the first line at
--- fault, the others with line 0; and nothing is refused exactly if the network is not and there are words, no more
--- than there are levels, that all spell one
+-- fault, the others with line 0; and nothing is refused exactly if the network is not and there are words, 15,000 at
+-- most, that all spell a level
 pub record Judged (text : List ℕ) (words : List (List ℕ)) : Type 0 where
   pub off-layout : 1 ≤ faultLine (linesOf text) → writtenOf text words ≡ refusedLine 17 (faultLine (linesOf text))
   pub network : faultLine (linesOf text) ≡ 0 → (textRefusal text ≡ 0 → ⊥)
@@ -60,6 +62,18 @@ pub record NeverShort (text : List ℕ) : Type 0 where
   pub network : textRefusal text ≡ 14 → ⊥
   pub as-read : (headers room : ℕ) → 5 ≤ headers → 65536 ≤ room
       → textRefusal text ≡ readRefusal text headers room
+
+-- It is as large as it has to be: a network text that is neither 17 nor 12 has at most 590,175 bytes, and the room is
+-- one byte more, so that the end is seen. One such text has as many, which is 13; in a room of its own size it would be
+-- taken for one that is too long, and 12 would be told
+pub record RoomNeeded : Type 0 where
+  pub most : (text : List ℕ) → (textRefusal text ≡ 17 → ⊥) → (textRefusal text ≡ 12 → ⊥)
+      → length text ≤ 590175
+  pub room : maxText ≡ 590175 + 1
+  pub longest : List ℕ
+  pub long : length longest ≡ 590175
+  pub thirteen : textRefusal longest ≡ 13
+  pub cut : overlongOf longest ≡ refusedLine 12 0
 
 -- Nor is its room for a word: one that spells a level is handed over as it is, and not as an empty one
 pub record WordsFit : Type 0 where

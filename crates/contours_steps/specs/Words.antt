@@ -1,4 +1,4 @@
--- The arguments of the program contours: one contour level or more, each as the rules write a level.
+-- The arguments of the program contours: one contour level or more, each with two or three decimals.
 -- Assumes nothing.
 use Prim.Native.Nat.{ℕ, _+_, _≤_, _<_}
 use mathlib.Core.Path.{_≡_}
@@ -7,25 +7,25 @@ use mathlib.Core.List.{List, [], map}
 use lib.ListN.{length, getD, set, take}
 use lib.Dec.{leb}
 use Rattle.refusal.specs.Refuse.{refuse}
-use Rattle.text.specs.Number.{levelOf, isGot, valueOf}
+use Rattle.text.specs.Number.{thousandthsOf, isGot, valueOf}
 use Rattle.network.specs.Limits.{leastContour, maxContour}
 use Rattle.network.specs.Refusals.{between}
 use Rattle.grid.specs.Row.{all}
 use Rattle.channel.specs.System.{Arguments, Argument}
 use Rattle.contours_steps.specs.declared.words.Given.{Given}
 
--- the level that a word spells, and whether it is a contour's: from 0.01 to 150.00
+-- the level that a word spells, in thousandths, and whether it is a contour's: from 0.001 to 150.000
 abbrev pub wordLevel : List ℕ → ℕ
-wordLevel w = valueOf (levelOf w)
+wordLevel w = valueOf (thousandthsOf w)
 
 unfoldable pub isContour : List ℕ → Bool
-isContour w = isGot (levelOf w) && between leastContour (wordLevel w) maxContour
+isContour w = isGot (thousandthsOf w) && between leastContour (wordLevel w) maxContour
 
--- the program has room for as many levels as there are
+-- the program has room for so many levels
 abbrev pub maxContourLevels : ℕ
-maxContourLevels = maxContour
+maxContourLevels = 15000
 
--- 15 where there is no level, or a word is none; 14 for more words than there are levels
+-- 15 where there is no level, or a word is none; 14 for more words than there is room for
 unfoldable pub wordsRefusal : List (List ℕ) → ℕ
 wordsRefusal words =
     refuse 15 (leb 1 (length words) && all isContour words) (refuse 14 (leb (length words) maxContourLevels) 0)

@@ -6,14 +6,14 @@ ghost use mathlib.Core.Path.{_≡_};
 ghost use mathlib.Core.Bool.{cond};
 ghost use Rattle.contours_steps.specs.Words.{isContour, wordLevel, givenRefusal, WordTaken};
 
-// The most levels that there is room for: as many as there are.
-pub const MAX_CONTOUR_LEVELS: usize = MAX_CONTOUR as usize;
+// The most levels that there is room for.
+pub const MAX_CONTOUR_LEVELS: usize = 15_000;
 
-// The contour level of a word, or 0, which is none, where it is no level or out of range.
+// The contour level of a word in thousandths, or 0, which is none, where it is no level or out of range.
 pub fn contour_of(word: &[u8]) -> u32
     ensures { λ r. ⌜ r ≡ cond (isContour (now (word .entry))) (wordLevel (now (word .entry))) 0 ⌝ }
 {
-    match text::number::level(word) {
+    match text::number::thousandths(word) {
         Number::Got(v) => {
             if v < LEAST_CONTOUR {
                 return 0;

@@ -1,6 +1,5 @@
--- The other way round: a text that is read, and doesn't name the no-data value, gives, written again, the same
--- lines, each with its
--- CRLF; so a text that ends in CRLF gives the same bytes. Assumes nothing.
+-- The other way round: a text that is read, doesn't name the no-data value and has three decimals throughout gives,
+-- written again, the same lines, each with its CRLF; so a text that ends in CRLF gives the same bytes. Assumes nothing.
 use Prim.Native.Nat.{ℕ, zero, suc, _+_, _*_, _≤_}
 use mathlib.Core.Path.{_≡_, refl, sym, ap, _∙_}
 use mathlib.Core.List.{List, [], _∷_, _++_, map}
@@ -10,18 +9,17 @@ use borrow.Author.Tests.{eqb-true, ltb-true, ltb-false}
 use lib.{Dec.eqb, Dec.leb, Dec.ltb, ListN.length, ListN.getD, ListN.take, ListN.drop, ListN.length-drop}
 use lib.Seq.{drop-append-le, take-append-le, take-all, drop-at}
 use Rattle.refusal.proofs.Laws.{and-left, and-right}
-use Rattle.text.specs.{Number.isGot, Number.valueOf, Number.showLevel, Field.joinedBy, Line.onto, Line.linesOf}
+use Rattle.text.specs.{Number.isGot, Number.valueOf, Number.showThousandths, Field.joinedBy, Line.onto, Line.linesOf}
 use Rattle.text.specs.Same.{sameText}
 use Rattle.text.proofs.{Digits.either, Digits.got-value, Lines.lines-step}
-use Rattle.grid.specs.Row.{all, valuesOf, given, isValue, isRow, hasValues, rowGiven, levelIn, rowLevels}
-use Rattle.grid.specs.Row.{levelsOf}
-use Rattle.grid.specs.File.{ncols, nrows, xllcenter, yllcenter, cellsize, unnamed, begins, numberAfter, names}
+use Rattle.grid.specs.Row.{all, valuesOf, isRow, hasValues, hasThree, rowThree, levelIn, rowLevels, levelsOf}
+use Rattle.grid.specs.File.{ncols, nrows, xllcenter, yllcenter, cellsize, begins, numberAfter, names}
 use Rattle.grid.specs.File.{sixth, headOn, namedOn, frameOf, noDataOf, rowsOf, firstOff, faultLine, rowsFit}
 use Rattle.grid.specs.Read.{textFrame, textLevels, readRefusal}
 use Rattle.grid.specs.Write.{keyLine, headLines, rowLine, rowLines, textOf, networkLines, showNetwork}
 use Rattle.grid.proofs.{ValueLaws.all-cons, StoreLaws.length-levels, StoreLaws.levels-length}
-use Rattle.grid.proofs.{FileLaws.off-append, FileLaws.off-keep, ReadLaws.fit-both, ReadLaws.passed}
-use Rattle.grid.proofs.Values.{key-line, value-is}
+use Rattle.grid.proofs.{FileLaws.off-keep, ReadLaws.fit-both, ReadLaws.passed}
+use Rattle.grid.proofs.Values.{key-line, value-three}
 
 -- ---- lines and their text
 
@@ -111,22 +109,17 @@ values-joined (c ∷ s) =
     space [] e = absurd (true≢false (sym (ap (λ x. leb 1 (length x)) e)))
     space (x ∷ l) e = refl
 
-values-exact : (ts : List (List ℕ)) → all (isValue unnamed) ts ≡ true → all (given unnamed) ts ≡ true
-    → map showLevel (map levelIn ts) ≡ ts
-values-exact [] v g = refl
-values-exact (t ∷ ts) v g =
-    let a = sym (all-cons (isValue unnamed) t ts) ∙ v in
-    let b = sym (all-cons (given unnamed) t ts) ∙ g in
-    let head = sym (value-is unnamed t (and-left (isValue unnamed t) (all (isValue unnamed) ts) a)
-    (and-left (given unnamed t) (all (given unnamed) ts) b)) in
-    let rest = values-exact ts (and-right (isValue unnamed t) (all (isValue unnamed) ts) a)
-    (and-right (given unnamed t) (all (given unnamed) ts) b) in
+values-exact : (ts : List (List ℕ)) → all hasThree ts ≡ true → map showThousandths (map levelIn ts) ≡ ts
+values-exact [] h = refl
+values-exact (t ∷ ts) h =
+    let a = sym (all-cons hasThree t ts) ∙ h in
+    let head = sym (value-three t (and-left (hasThree t) (all hasThree ts) a)) in
+    let rest = values-exact ts (and-right (hasThree t) (all hasThree ts) a) in
     rw (head, rest)
 
-row-exact : (line : List ℕ) → isRow unnamed line ≡ true → rowGiven unnamed line ≡ true
-    → rowLine (rowLevels line) ≡ line
+row-exact : (line : List ℕ) → rowThree line ≡ true → rowLine (rowLevels line) ≡ line
 unfolding rowLine rowLevels
-row-exact line v g = rw (values-exact (valuesOf line) v g) (values-joined line)
+row-exact line h = rw (values-exact (valuesOf line) h) (values-joined line)
 
 -- rows of the front of some levels are those of the levels
 rows-front : (columns : ℕ) (a b : List ℕ) (n : ℕ) → n * columns ≤ length a
@@ -140,14 +133,12 @@ rows-front columns a b (suc r) h =
     rw (d, t, rows-front columns a b r (omega arith))
 
 rows-exact : (columns : ℕ) (rows : List (List ℕ)) → all (hasValues columns) rows ≡ true
-    → all (isRow unnamed) rows ≡ true → all (rowGiven unnamed) rows ≡ true
-    → rowLines columns (levelsOf rows) (length rows) ≡ rows
+    → all rowThree rows ≡ true → rowLines columns (levelsOf rows) (length rows) ≡ rows
 unfolding rowLines levelsOf
-rows-exact columns [] n v g = refl
-rows-exact columns (row ∷ rows) n v g =
+rows-exact columns [] n t = refl
+rows-exact columns (row ∷ rows) n t =
     let an = sym (all-cons (hasValues columns) row rows) ∙ n in
-    let av = sym (all-cons (isRow unnamed) row rows) ∙ v in
-    let ag = sym (all-cons (rowGiven unnamed) row rows) ∙ g in
+    let at = sym (all-cons rowThree row rows) ∙ t in
     let ns = and-right (hasValues columns row) (all (hasValues columns) rows) an in
     let here = eqb-true (length (valuesOf row)) columns
     (and-left (hasValues columns row) (all (hasValues columns) rows) an) in
@@ -155,11 +146,9 @@ rows-exact columns (row ∷ rows) n v g =
     let one : take columns (drop (length rows * columns) (levelsOf rows ++ rowLevels row)) ≡ rowLevels row =
     ap (take columns) (drop-at (levelsOf rows) (rowLevels row) (length rows * columns) before)
     ∙ take-all columns (rowLevels row) (omega (arith, length-levels row)) in
-    let line = row-exact row (and-left (isRow unnamed row) (all (isRow unnamed) rows) av)
-    (and-left (rowGiven unnamed row) (all (rowGiven unnamed) rows) ag) in
+    let line = row-exact row (and-left (rowThree row) (all rowThree rows) at) in
     let rest = rows-front columns (levelsOf rows) (rowLevels row) (length rows) (omega arith)
-    ∙ rows-exact columns rows ns (and-right (isRow unnamed row) (all (isRow unnamed) rows) av)
-    (and-right (rowGiven unnamed row) (all (rowGiven unnamed) rows) ag) in
+    ∙ rows-exact columns rows ns (and-right (rowThree row) (all rowThree rows) at) in
     rw (one, line, rest)
 
 -- ---- the tests of a text that is read
@@ -185,20 +174,10 @@ five-on true true false d e h = absurd (omega arith)
 five-on true false c d e h = absurd (omega arith)
 five-on false b c d e h = absurd (omega arith)
 
-all-on : (n : ℕ) (p : List ℕ → Bool) (lines : List (List ℕ)) → 1 ≤ n → firstOff n (map p lines) ≡ 0
-    → all p lines ≡ true
-unfolding firstOff all
-all-on n p [] h e = refl
-all-on n p (l ∷ lines) h e =
-    either (p l)
-    (λ yes. let r : firstOff (n + 1) (map p lines) ≡ 0 = rw yes at e in
-    rw yes (all-on (n + 1) p lines (omega arith) r))
-    (λ off. let z : n ≡ 0 = rw off at e in absurd (omega arith))
-
 -- ---- the whole text
 
 module _ (s : List ℕ) (headers room : ℕ) (read : readRefusal s headers room ≡ 0)
-    (plain : names (sixth (linesOf s)) ≡ false) where
+    (plain : names (sixth (linesOf s)) ≡ false) (three : all rowThree (drop 5 (linesOf s)) ≡ true) where
   abbrev lines : List (List ℕ)
   lines = linesOf s
 
@@ -209,38 +188,20 @@ module _ (s : List ℕ) (headers room : ℕ) (read : readRefusal s headers room 
   unfolding rowsOf
   rows-plain = rw plain
 
-  data-plain : noDataOf lines ≡ unnamed
-  unfolding noDataOf
-  data-plain = rw plain
-
-  named-plain : namedOn lines ≡ []
-  named-plain = rw plain
-
-  through : (faultLine lines ≡ 0) × (rowsFit (frameOf lines) rows ≡ true) × (all (rowGiven unnamed) rows ≡ true)
-  through = let p = passed lines headers room read in
-      (p .fault, rw rows-plain at (p .fits), rw (rows-plain, data-plain) at (p .given))
-
-  -- the tests of the lines, all passed
-  tests : firstOff 1 (headOn lines ++ map (isRow unnamed) rows) ≡ 0
-  unfolding faultLine
-  tests = rw (named-plain, data-plain, rows-plain) at (through .0)
-
   head-passed : firstOff 1 (headOn lines) ≡ 0
-  head-passed = off-front 1 (headOn lines) (map (isRow unnamed) rows) tests
-
-  rows-passed : all (isRow unnamed) rows ≡ true
-  rows-passed = all-on 6 (isRow unnamed) rows (omega arith)
-      (sym (off-append 1 (headOn lines) (map (isRow unnamed) rows) (omega arith) head-passed) ∙ tests)
+  unfolding faultLine
+  head-passed = off-front 1 (headOn lines) (namedOn lines ++ map (isRow (noDataOf lines)) (rowsOf lines))
+      (passed lines headers room read .fault)
 
   -- the lines are those of the network
   lines-exact : networkLines (levelsOf (rowsOf lines)) (frameOf lines) ≡ lines
   unfolding frameOf
   lines-exact =
       let on = five-on _ _ _ _ _ head-passed in
-      let fit = fit-both (frameOf lines) rows (through .1) in
+      let fit = fit-both (frameOf lines) rows (rw rows-plain at (passed lines headers room read .fits)) in
       let body : rowLines (frameOf lines .columns) (levelsOf rows) (frameOf lines .rows) ≡ rows =
       ap (rowLines (frameOf lines .columns) (levelsOf rows)) (sym (fit .0))
-      ∙ rows-exact (frameOf lines .columns) rows (fit .1) rows-passed (through .2) in
+      ∙ rows-exact (frameOf lines .columns) rows (fit .1) three in
       let a = number-exact ncols (getD lines 0 []) (on .0) in
       let b = number-exact nrows (getD lines 1 []) (on .1) in
       let c = number-exact xllcenter (getD lines 2 []) (on .2) in
@@ -258,8 +219,10 @@ module _ (s : List ℕ) (headers room : ℕ) (read : readRefusal s headers room 
   unfolding showNetwork
   lines-again = ap textOf lines-exact
 
--- a text that ends in CRLF, is read and doesn't name the no-data value: written again, the same bytes
+-- a text that ends in CRLF, is read, doesn't name the no-data value and has three decimals throughout: written again,
+-- the same bytes
 pub network-again : (t : List ℕ) (headers room : ℕ) → let text = t ++ (13 ∷ 10 ∷ []) in
     readRefusal text headers room ≡ 0 → names (sixth (linesOf text)) ≡ false
-    → showNetwork (textLevels text) (textFrame text) ≡ text
-network-again t headers room read plain = lines-again (t ++ (13 ∷ 10 ∷ [])) headers room read plain ∙ text-again t
+    → all rowThree (drop 5 (linesOf text)) ≡ true → showNetwork (textLevels text) (textFrame text) ≡ text
+network-again t headers room read plain three =
+    lines-again (t ++ (13 ∷ 10 ∷ [])) headers room read plain three ∙ text-again t

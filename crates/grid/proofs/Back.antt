@@ -6,7 +6,7 @@ use native.Mathlib.{Nat.suc-mul, Nat.zero-mul, Omega.arith}
 use borrow.Author.Tests.{eq-eqb, eqb-true, eqb-false, le-leb}
 use lib.{Dec.eqb, ListN.length, ListN.getD, ListN.take, ListN.drop, ListN.length-drop, ListN.length-map}
 use lib.Seq.{take-add, take-all, take-at, length-take-le}
-use Rattle.text.specs.{Number.showLevel, Field.countOf, Line.linesOf}
+use Rattle.text.specs.{Number.showThousandths, Field.countOf, Line.linesOf}
 use Rattle.text.specs.declared.number.Number.the-variants.{Got}
 use Rattle.text.proofs.Digits.{either}
 use Rattle.refusal.proofs.Laws.{and-left, and-right}
@@ -14,7 +14,7 @@ use Rattle.room.specs.Room.{front}
 use Rattle.network.specs.{Edges.Checked, Limits.maxNetworkLevel, Refusals.networkRefusal}
 use Rattle.network.specs.declared.Frame.{Frame}
 use Rattle.network.proofs.Refusals.{not-refused, checked-on, checked-off}
-use Rattle.grid.specs.Row.{all, valuesOf, isRow, hasValues, rowGiven, rowLevels, levelsOf}
+use Rattle.grid.specs.Row.{all, valuesOf, isRow, hasValues, rowGiven, rowThree, rowLevels, levelsOf}
 use Rattle.grid.specs.File.{ncols, nrows, xllcenter, yllcenter, cellsize, numberAt, unnamed, names, sixth}
 use Rattle.grid.specs.File.{headOn, namedOn, frameOf, noDataOf, rowsOf, firstOff, faultLine, rowsFit}
 use Rattle.grid.specs.Read.{numbersOf, headerSize, textFrame, textLevels, linesRefusal, readRefusal}
@@ -22,12 +22,12 @@ use Rattle.grid.specs.Read.{headerAfter, levelsAfter}
 use Rattle.grid.specs.Write.{rowLine, rowAt, rowLines, networkLines, showNetwork, writeRefusal, textAfter}
 use Rattle.grid.specs.{Write.sizeAfter, InnerSteps.Quiet, InnerSteps.Near}
 use Rattle.grid.proofs.{FileLaws.off-append, WriteSizes.near, WriteLaws.quiet-part, WriteLaws.row-first}
-use Rattle.grid.proofs.Values.{Free, lines-apart, values-apart, row-free, texts-row, texts-given, texts-levels}
-use Rattle.grid.proofs.Values.{number-back, key-free, names-row}
+use Rattle.grid.proofs.Values.{Free, lines-apart, values-apart, row-free, texts-row, texts-given, texts-three}
+use Rattle.grid.proofs.Values.{texts-levels, number-back, key-free, names-row}
 
 -- ---- one row
 
-some-apart : (vs : List ℕ) → 1 ≤ length vs → valuesOf (rowLine vs) ≡ map showLevel vs
+some-apart : (vs : List ℕ) → 1 ≤ length vs → valuesOf (rowLine vs) ≡ map showThousandths vs
 some-apart [] h = absurd (omega arith)
 some-apart (v ∷ vs) h = values-apart v vs
 
@@ -38,12 +38,15 @@ module _ (vs : List ℕ) (some : 1 ≤ length vs) (quiet : Quiet vs) where
   row-given : rowGiven unnamed (rowLine vs) ≡ true
   row-given = rw (some-apart vs some) (texts-given vs quiet)
 
+  row-three : rowThree (rowLine vs) ≡ true
+  row-three = rw (some-apart vs some) (texts-three vs quiet)
+
   row-back : rowLevels (rowLine vs) ≡ vs
   unfolding rowLevels
   row-back = rw (some-apart vs some) (texts-levels vs quiet)
 
   row-number : length (valuesOf (rowLine vs)) ≡ length vs
-  row-number = ap length (some-apart vs some) ∙ length-map vs showLevel
+  row-number = ap length (some-apart vs some) ∙ length-map vs showThousandths
 
 -- ---- all rows
 
@@ -80,6 +83,10 @@ module _ (columns : ℕ) (levels : List ℕ) (wide : 1 ≤ columns) (quiet : Qui
       → all (rowGiven unnamed) (rowLines columns levels rows) ≡ true
   rows-given = every (rowGiven unnamed) (λ r h. row-given (rowAt columns levels r) (some r h) (calm r h))
 
+  rows-three : (rows : ℕ) → rows * columns ≤ length levels
+      → all rowThree (rowLines columns levels rows) ≡ true
+  rows-three = every rowThree (λ r h. row-three (rowAt columns levels r) (some r h) (calm r h))
+
   rows-number : (rows : ℕ) → rows * columns ≤ length levels
       → all (hasValues columns) (rowLines columns levels rows) ≡ true
   rows-number = every (hasValues columns)
@@ -105,7 +112,7 @@ rows-free columns levels (suc r) zero h = row-free (rowAt columns levels r)
 rows-free columns levels (suc r) (suc i) h = rows-free columns levels r i (omega arith)
 
 -- tests that all hold have no first that fails
-none-off : (n : ℕ) (p : List ℕ → Bool) (lines : List (List ℕ)) → all p lines ≡ true
+pub none-off : (n : ℕ) (p : List ℕ → Bool) (lines : List (List ℕ)) → all p lines ≡ true
     → firstOff n (map p lines) ≡ 0
 unfolding firstOff all
 none-off n p [] e = refl
@@ -215,6 +222,11 @@ module _ (levels : List ℕ) (f : Frame) (none : networkRefusal levels f ≡ 0) 
       rw (named-lines, data-lines, rows-lines)
       (off-append 1 (headOn lines) (map (isRow unnamed) rows) (omega arith) head-on
       ∙ none-off 6 (isRow unnamed) rows (rows-on (f .columns) levels wide (checks .quiet) (f .rows) held))
+
+  -- every value of the text has three decimals
+  pub three-back : all rowThree (rowsOf (linesOf (showNetwork levels f))) ≡ true
+  three-back = rw (lines-back, rows-lines)
+      (rows-three (f .columns) levels wide (checks .quiet) (f .rows) held)
 
   -- the frame, the levels and the refusal of the text
   pub frame-back : textFrame (showNetwork levels f) ≡ f

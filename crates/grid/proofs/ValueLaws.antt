@@ -5,7 +5,7 @@ use mathlib.Core.Bool.{Bool, true, false, cond, _&&_, and-true}
 use native.Mathlib.Omega.{arith}
 use borrow.Author.Tests.{ltb-true, ltb-false, le-leb, lt-leb}
 use lib.{Dec.eqb, Dec.ltb, ListN.length, ListN.take, ListN.drop, ListN.length-drop, Seq.drop-drop}
-use Rattle.text.specs.{Field.upTo, Field.after, Line.onto, Number.levelOf, Number.isGot, Same.sameText}
+use Rattle.text.specs.{Field.upTo, Field.after, Line.onto, Number.thousandthsOf, Number.isGot, Same.sameText}
 use Rattle.text.specs.declared.number.Number.the-variants as number
 use Rattle.text.specs.declared.number.Number.the-variants.{Got}
 use Rattle.network.specs.Limits.{maxNetworkLevel}
@@ -96,19 +96,19 @@ module _ (nodata t : List ℕ) where
   -- no data, a level, one too high, neither
   pub none-here : sameText t nodata ≡ true → valueRefusal nodata t ≡ 13
   unfolding valueRefusal
-  none-here e = rw e (either (isGot (levelOf t)) (λ y. rw y) (λ n. rw n))
+  none-here e = rw e (either (isGot (thousandthsOf t)) (λ y. rw y) (λ n. rw n))
 
-  pub level-here : (v : ℕ) → sameText t nodata ≡ false → levelOf t ≡ Got v → v ≤ maxNetworkLevel
+  pub level-here : (v : ℕ) → sameText t nodata ≡ false → thousandthsOf t ≡ Got v → v ≤ maxNetworkLevel
       → valueRefusal nodata t ≡ 0
   unfolding valueRefusal
   level-here v e l h = rw (e, l, le-leb v maxNetworkLevel h)
 
-  pub high-here : (v : ℕ) → sameText t nodata ≡ false → levelOf t ≡ Got v → maxNetworkLevel < v
+  pub high-here : (v : ℕ) → sameText t nodata ≡ false → thousandthsOf t ≡ Got v → maxNetworkLevel < v
       → valueRefusal nodata t ≡ 13
   unfolding valueRefusal
   high-here v e l h = rw (e, l, lt-leb v maxNetworkLevel h)
 
-  pub neither-here : sameText t nodata ≡ false → levelOf t ≡ number.Off → valueRefusal nodata t ≡ 17
+  pub neither-here : sameText t nodata ≡ false → thousandthsOf t ≡ number.Off → valueRefusal nodata t ≡ 17
   unfolding valueRefusal
   neither-here e l = rw (e, l)
 

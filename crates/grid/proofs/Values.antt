@@ -7,14 +7,16 @@ use borrow.Author.Tests.{ne-eqb, ltb-true, not-true}
 use lib.Dec.{eqb, ltb}
 use lib.ListN.{length, getD, take, drop, length-append, take-append-drop, List·getD-append}
 use lib.Seq.{take-append-seam, drop-append-seam}
-use Rattle.text.specs.Number.{wholeOf, decimalOf, levelOf, isGot, shown, showWhole, showDigits, showLevel}
+use Rattle.text.specs.Number.{wholeOf, decimalOf, thousandthsOf, isGot, shown, showWhole, showDigits, showThousandths}
+use Rattle.text.specs.Number.{InThousandths}
 use Rattle.text.specs.{Field.countOf, Field.joinedBy, Line.onto, Line.linesOf, Same.sameText}
 use Rattle.text.specs.declared.number.Number.the-variants.{Got, Off}
 use Rattle.text.proofs.Digits.{either, whole-small, got-value}
-use Rattle.text.proofs.{Shown.whole-back, Shown.level-back, Shown.shown-least, Exact.whole-exact, Exact.level-exact}
-use Rattle.text.proofs.{Free.shown-free, Free.level-free, Fields.count-append, Sames.same-equal, Sames.same-self}
+use Rattle.text.proofs.{Shown.whole-back, Shown.decimal-back, Shown.shown-least, Exact.whole-exact}
+use Rattle.text.proofs.Thousandths.{thousandths-back, thousandths-exact, three-same}
+use Rattle.text.proofs.{Free.shown-free, Free.decimal-free, Fields.count-append, Sames.same-equal, Sames.same-self}
 use Rattle.network.specs.Limits.{maxNetworkLevel}
-use Rattle.grid.specs.Row.{all, valuesOf, given, isValue, levelIn}
+use Rattle.grid.specs.Row.{all, valuesOf, given, isValue, levelIn, hasThree}
 use Rattle.grid.specs.File.{unnamed, begins, numberAfter, names}
 use Rattle.grid.specs.Write.{keyLine, rowLine, textOf}
 
@@ -50,74 +52,87 @@ lines-apart (l ∷ lines) free =
 
 -- ---- values
 
-value-alone : (t : List ℕ) → countOf 32 t ≡ 0 → valuesOf t ≡ t ∷ []
+pub value-alone : (t : List ℕ) → countOf 32 t ≡ 0 → valuesOf t ≡ t ∷ []
 unfolding valuesOf
 value-alone [] e = refl
 value-alone (c ∷ t) e = let f = free-first 32 c t e in rw (f .0) (ap (onto c) (value-alone t (f .1)))
 
-value-apart : (t r : List ℕ) → countOf 32 t ≡ 0 → valuesOf (t ++ (32 ∷ r)) ≡ t ∷ valuesOf r
+pub value-apart : (t r : List ℕ) → countOf 32 t ≡ 0 → valuesOf (t ++ (32 ∷ r)) ≡ t ∷ valuesOf r
 unfolding valuesOf
 value-apart [] r e = refl
 value-apart (c ∷ t) r e = let f = free-first 32 c t e in rw (f .0) (ap (onto c) (value-apart t r (f .1)))
 
 -- the values of a row that was written
-pub values-apart : (v : ℕ) (vs : List ℕ) → valuesOf (rowLine (v ∷ vs)) ≡ map showLevel (v ∷ vs)
+pub values-apart : (v : ℕ) (vs : List ℕ) → valuesOf (rowLine (v ∷ vs)) ≡ map showThousandths (v ∷ vs)
 unfolding rowLine joinedBy
-values-apart v [] = value-alone (showLevel v) (level-free 32 (omega arith) v)
+values-apart v [] = value-alone (showThousandths v) (decimal-free 32 (omega arith) 3 v)
 values-apart v (w ∷ vs) =
-    value-apart (showLevel v) (joinedBy 32 (map showLevel (w ∷ vs))) (level-free 32 (omega arith) v)
-    ∙ ap (λ t. showLevel v ∷ t) (values-apart w vs)
+    value-apart (showThousandths v) (joinedBy 32 (map showThousandths (w ∷ vs))) (decimal-free 32 (omega arith) 3 v)
+    ∙ ap (λ t. showThousandths v ∷ t) (values-apart w vs)
 
 pub row-free : (vs : List ℕ) → countOf 13 (rowLine vs) ≡ 0
 unfolding rowLine joinedBy countOf
 row-free [] = refl
-row-free (v ∷ []) = level-free 13 (omega arith) v
+row-free (v ∷ []) = decimal-free 13 (omega arith) 3 v
 row-free (v ∷ w ∷ vs) =
-    count-append 13 (showLevel v) (32 ∷ joinedBy 32 (map showLevel (w ∷ vs)))
-    ∙ omega (arith, level-free 13 (omega arith) v, row-free (w ∷ vs))
+    count-append 13 (showThousandths v) (32 ∷ joinedBy 32 (map showThousandths (w ∷ vs)))
+    ∙ omega (arith, decimal-free 13 (omega arith) 3 v, row-free (w ∷ vs))
 
 -- ---- levels that were written
 
-unnamed-off : levelOf unnamed ≡ Off
-unfolding decimalOf
+unnamed-off : thousandthsOf unnamed ≡ Off
+unfolding thousandthsOf decimalOf
 unnamed-off = refl
 
-pub level-given : (v : ℕ) → v ≤ maxNetworkLevel → given unnamed (showLevel v) ≡ true
+pub level-given : (v : ℕ) → v ≤ maxNetworkLevel → given unnamed (showThousandths v) ≡ true
 level-given v h =
-    either (sameText (showLevel v) unnamed)
-    (λ yes. let z : Off ≡ Got v = sym unnamed-off ∙ ap levelOf (sym (same-equal (showLevel v) unnamed yes))
-    ∙ level-back v (omega arith) in
+    either (sameText (showThousandths v) unnamed)
+    (λ yes. let same = same-equal (showThousandths v) unnamed yes in
+    let z : Off ≡ Got v = sym unnamed-off ∙ ap thousandthsOf (sym same) ∙ thousandths-back v (omega arith) in
     let k : _≡_ {A = ℕ} 0 1 = cc in absurd (omega arith))
     (λ other. rw other)
 
--- a value that is given is its level's text
-pub value-is : (nodata t : List ℕ) → isValue nodata t ≡ true → given nodata t ≡ true
-    → t ≡ showLevel (levelIn t)
-value-is nodata t v g =
+-- a value that is given reads as its level, and spells it
+value-got : (nodata t : List ℕ) → isValue nodata t ≡ true → given nodata t ≡ true
+    → thousandthsOf t ≡ Got (levelIn t)
+value-got nodata t v g =
     let other = not-true (sameText t nodata) g in
-    level-exact t (levelIn t) (got-value (levelOf t) (or-false (isGot (levelOf t)) (rw other at v)))
+    got-value (thousandthsOf t) (or-false (isGot (thousandthsOf t)) (rw other at v))
   where
     or-false : (a : Bool) → (a || false) ≡ true → a ≡ true
     or-false true e = refl
     or-false false e = e
 
+pub value-is : (nodata t : List ℕ) → isValue nodata t ≡ true → given nodata t ≡ true
+    → InThousandths t (levelIn t)
+value-is nodata t v g = thousandths-exact t (levelIn t) (value-got nodata t v g) .1
+
+-- with three decimals it is how its level is written
+pub value-three : (t : List ℕ) → hasThree t ≡ true → t ≡ showThousandths (levelIn t)
+value-three t h = three-same t (got-value (decimalOf 3 t) h)
+
 -- what holds of each level, of a whole row
 abbrev pub Levels : List ℕ → Type 0
 Levels vs = (i : ℕ) → getD vs i 0 ≤ maxNetworkLevel
 
-pub texts-row : (vs : List ℕ) → Levels vs → all (isValue unnamed) (map showLevel vs) ≡ true
+pub texts-row : (vs : List ℕ) → Levels vs → all (isValue unnamed) (map showThousandths vs) ≡ true
 unfolding all
 texts-row [] q = refl
-texts-row (v ∷ vs) q = rw (level-back v (omega (arith, q 0))) (texts-row vs (λ i. q (suc i)))
+texts-row (v ∷ vs) q = rw (thousandths-back v (omega (arith, q 0))) (texts-row vs (λ i. q (suc i)))
 
-pub texts-given : (vs : List ℕ) → Levels vs → all (given unnamed) (map showLevel vs) ≡ true
+pub texts-given : (vs : List ℕ) → Levels vs → all (given unnamed) (map showThousandths vs) ≡ true
 unfolding all
 texts-given [] q = refl
 texts-given (v ∷ vs) q = rw (level-given v (q 0)) (texts-given vs (λ i. q (suc i)))
 
-pub texts-levels : (vs : List ℕ) → Levels vs → map levelIn (map showLevel vs) ≡ vs
+pub texts-three : (vs : List ℕ) → Levels vs → all hasThree (map showThousandths vs) ≡ true
+unfolding all
+texts-three [] q = refl
+texts-three (v ∷ vs) q = rw (decimal-back 3 v (omega (arith, q 0))) (texts-three vs (λ i. q (suc i)))
+
+pub texts-levels : (vs : List ℕ) → Levels vs → map levelIn (map showThousandths vs) ≡ vs
 texts-levels [] q = refl
-texts-levels (v ∷ vs) q = rw (level-back v (omega (arith, q 0)), texts-levels vs (λ i. q (suc i)))
+texts-levels (v ∷ vs) q = rw (thousandths-back v (omega (arith, q 0)), texts-levels vs (λ i. q (suc i)))
 
 -- ---- header lines that were written
 
@@ -162,12 +177,12 @@ unfolding begins sameText
 names-other [] h = refl
 names-other (c ∷ line) h = rw (ne-eqb c 78 (λ e. omega arith))
 
-pub names-row : (line : List ℕ) (v : ℕ) (t : List ℕ) → line ≡ showLevel v ++ t → names line ≡ false
+pub names-row : (line : List ℕ) (v : ℕ) (t : List ℕ) → line ≡ showThousandths v ++ t → names line ≡ false
 names-row line v t e =
-    let whole = showWhole (v / 100) in
-    let some = shown-least 6 (v / 100) in
-    let a : getD (showLevel v) 0 0 ≡ getD whole 0 0 =
-    List·getD-append whole (46 ∷ showDigits 2 (v % 100)) 0 0 some in
-    let l : 1 ≤ length (showLevel v) = omega (arith, length-append whole (46 ∷ showDigits 2 (v % 100))) in
-    let b = List·getD-append (showLevel v) t 0 0 l in
-    names-other line (omega (arith, ap (λ s. getD s 0 0) e, a, b, first-digit 6 (v / 100)))
+    let whole = showWhole (v / 1000) in
+    let some = shown-least 6 (v / 1000) in
+    let a : getD (showThousandths v) 0 0 ≡ getD whole 0 0 =
+    List·getD-append whole (46 ∷ showDigits 3 (v % 1000)) 0 0 some in
+    let l : 1 ≤ length (showThousandths v) = omega (arith, length-append whole (46 ∷ showDigits 3 (v % 1000))) in
+    let b = List·getD-append (showThousandths v) t 0 0 l in
+    names-other line (omega (arith, ap (λ s. getD s 0 0) e, a, b, first-digit 6 (v / 1000)))

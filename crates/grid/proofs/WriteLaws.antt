@@ -7,9 +7,9 @@ use borrow.Author.Tests.{ltb-true, ltb-false, le-leb, lt-leb, eq-eqb, ne-eqb}
 use lib.Dec.{ltb}
 use lib.ListN.{length, getD, take, drop, length-append, length-drop, drop-of-length-le, List·getD-eq-default}
 use lib.Seq.{length-take-le, drop-cons, getD-take, getD-drop}
-use Rattle.text.specs.{Number.showLevel, Field.joinedBy}
+use Rattle.text.specs.{Number.showThousandths, Field.joinedBy}
 use Rattle.room.specs.Room.{front}
-use Rattle.text.proofs.{Digits.either, Shown.level-most}
+use Rattle.text.proofs.{Digits.either, Thousandths.thousandths-most}
 use Rattle.network.specs.{Edges.Checked, Edges.Sized, Limits.maxNetworkLevel, Refusals.networkRefusal}
 use Rattle.network.proofs.Refusals.{checked-on, checked-off}
 use Rattle.network.specs.declared.Frame.{Frame}
@@ -23,15 +23,15 @@ use Rattle.grid.proofs.WriteSizes.{text-cons, network-text, near, netwo
 -- a space and a level for each
 unfoldable pub spacedOf : List ℕ → List ℕ
 spacedOf [] = []
-spacedOf (v ∷ vs) = (32 ∷ showLevel v) ++ spacedOf vs
+spacedOf (v ∷ vs) = (32 ∷ showThousandths v) ++ spacedOf vs
 
-pub row-spaced : (v : ℕ) (vs : List ℕ) → rowLine (v ∷ vs) ≡ showLevel v ++ spacedOf vs
+pub row-spaced : (v : ℕ) (vs : List ℕ) → rowLine (v ∷ vs) ≡ showThousandths v ++ spacedOf vs
 unfolding rowLine joinedBy spacedOf
-row-spaced v [] = sym (append-nil (showLevel v))
-row-spaced v (w ∷ vs) = ap (λ t. showLevel v ++ (32 ∷ t)) (row-spaced w vs)
+row-spaced v [] = sym (append-nil (showThousandths v))
+row-spaced v (w ∷ vs) = ap (λ t. showThousandths v ++ (32 ∷ t)) (row-spaced w vs)
 
 pub spaced-more : (vs : List ℕ) (i : ℕ) → i < length vs
-    → spacedOf (drop i vs) ≡ (32 ∷ showLevel (getD vs i 0)) ++ spacedOf (drop (i + 1) vs)
+    → spacedOf (drop i vs) ≡ (32 ∷ showThousandths (getD vs i 0)) ++ spacedOf (drop (i + 1) vs)
 unfolding spacedOf
 spaced-more vs i h = rw (add-one i, drop-cons vs i 0 h)
 
@@ -39,7 +39,7 @@ pub spaced-none : (vs : List ℕ) (i : ℕ) → length vs ≤ i → spacedOf (dr
 unfolding spacedOf
 spaced-none vs i h = ap spacedOf (drop-of-length-le vs h)
 
-pub row-first : (vs : List ℕ) → 1 ≤ length vs → rowLine vs ≡ showLevel (getD vs 0 0) ++ spacedOf (drop 1 vs)
+pub row-first : (vs : List ℕ) → 1 ≤ length vs → rowLine vs ≡ showThousandths (getD vs 0 0) ++ spacedOf (drop 1 vs)
 row-first [] h = absurd (omega arith)
 row-first (v ∷ vs) h = row-spaced v vs
 
@@ -56,10 +56,10 @@ quiet-part levels at n q h i =
       ltb-false i n past,
     )) in rw z (omega arith))
 
-pub sizes-most : (levels : List ℕ) → Quiet levels → sizesOf levels ≤ 7 * length levels
+pub sizes-most : (levels : List ℕ) → Quiet levels → sizesOf levels ≤ 8 * length levels
 unfolding sizesOf
 sizes-most [] q = omega arith
-sizes-most (v ∷ vs) q = omega (arith, level-most v (omega (arith, q 0)), sizes-most vs (λ i. q (suc i)))
+sizes-most (v ∷ vs) q = omega (arith, thousandths-most v (omega (arith, q 0)), sizes-most vs (λ i. q (suc i)))
 
 -- the levels of the row before `left` stand among them
 pub row-inside : (levels : List ℕ) (columns rows left : ℕ) → Sized levels columns rows → 0 < left
@@ -106,11 +106,11 @@ head-most f n =
       whole-most (f .spacing) (n .spacing-most),
     )
 
-pub levels-most : (levels : List ℕ) (f : Frame) → Checked levels f → sizesOf levels ≤ 458752
+pub levels-most : (levels : List ℕ) (f : Frame) → Checked levels f → sizesOf levels ≤ 524288
 levels-most levels f c = omega
     (arith, sizes-most levels (c .quiet), points-most levels (f .columns) (f .rows) (c .sized))
 
-pub network-most : (levels : List ℕ) (f : Frame) → Checked levels f → length (showNetwork levels f) ≤ 459094
+pub network-most : (levels : List ℕ) (f : Frame) → Checked levels f → length (showNetwork levels f) ≤ 524630
 network-most levels f c =
     omega (arith, network-size levels f c, head-most f (near levels f c), levels-most levels f c, c .sized .sides .low)
 

@@ -5,7 +5,7 @@ use mathlib.Core.List.{List, [], _∷_, _++_, map, append-assoc, append-nil}
 use native.Mathlib.{Nat.suc-mul, Nat.zero-mul, Numerals.add-one, Omega.arith}
 use lib.ListN.{length, getD, take, drop, length-append, length-drop, drop-of-length-le}
 use lib.Seq.{take-add, take-all, length-take-le, drop-cons}
-use Rattle.text.specs.{Number.showWhole, Number.showLevel, Field.joinedBy}
+use Rattle.text.specs.{Number.showWhole, Number.showThousandths, Field.joinedBy}
 use Rattle.text.proofs.Shown.{whole-one, whole-longer, shown-width, decimal-long}
 use Rattle.network.specs.{Edges.Checked, Limits.maxNetworkLevel, Limits.maxOrigin}
 use Rattle.network.specs.declared.Frame.{Frame}
@@ -66,8 +66,8 @@ network-text levels f =
 -- ---- sizes
 
 -- the size of a level, by its size in units
-level-size : (v : ℕ) → length (showLevel v) ≡ length (showWhole (v / 100)) + 3
-level-size v = omega (arith, decimal-long 2 v)
+level-size : (v : ℕ) → length (showThousandths v) ≡ length (showWhole (v / 1000)) + 4
+level-size v = omega (arith, decimal-long 3 v)
 
 one-digit : (n : ℕ) → n < 10 → length (showWhole n) ≡ 1
 one-digit n h = ap length (whole-one n h)
@@ -75,15 +75,15 @@ one-digit n h = ap length (whole-one n h)
 two-digits : (n : ℕ) → 10 ≤ n → n < 100 → length (showWhole n) ≡ 2
 two-digits n l h = whole-longer n l (omega arith) ∙ omega (arith, one-digit (n / 10) (omega arith))
 
-pub level-four : (v : ℕ) → v < 1000 → length (showLevel v) ≡ 4
-level-four v h = omega (arith, level-size v, one-digit (v / 100) (omega arith))
+pub level-five : (v : ℕ) → v < 10000 → length (showThousandths v) ≡ 5
+level-five v h = omega (arith, level-size v, one-digit (v / 1000) (omega arith))
 
-pub level-five : (v : ℕ) → 1000 ≤ v → v < 10000 → length (showLevel v) ≡ 5
-level-five v l h = omega (arith, level-size v, two-digits (v / 100) (omega arith) (omega arith))
+pub level-six : (v : ℕ) → 10000 ≤ v → v < 100000 → length (showThousandths v) ≡ 6
+level-six v l h = omega (arith, level-size v, two-digits (v / 1000) (omega arith) (omega arith))
 
-pub level-six : (v : ℕ) → 10000 ≤ v → v ≤ maxNetworkLevel → length (showLevel v) ≡ 6
-level-six v l h =
-    let n = v / 100 in
+pub level-seven : (v : ℕ) → 100000 ≤ v → v ≤ maxNetworkLevel → length (showThousandths v) ≡ 7
+level-seven v l h =
+    let n = v / 1000 in
     omega (
       arith,
       level-size v,
@@ -92,7 +92,7 @@ level-six v l h =
     )
 
 pub sizes-more : (levels : List ℕ) (i : ℕ) → i < length levels
-    → sizesOf (drop i levels) ≡ length (showLevel (getD levels i 0)) + 1 + sizesOf (drop (i + 1) levels)
+    → sizesOf (drop i levels) ≡ length (showThousandths (getD levels i 0)) + 1 + sizesOf (drop (i + 1) levels)
 unfolding sizesOf
 sizes-more levels i h = rw (add-one i, drop-cons levels i 0 h)
 
@@ -110,7 +110,7 @@ unfolding rowLine joinedBy sizesOf
 row-size v [] = omega arith
 row-size v (w ∷ vs) = omega (
   arith,
-  length-append (showLevel v) (32 ∷ joinedBy 32 (map showLevel (w ∷ vs))),
+  length-append (showThousandths v) (32 ∷ joinedBy 32 (map showThousandths (w ∷ vs))),
   row-size w vs,
 )
 

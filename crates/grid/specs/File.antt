@@ -5,7 +5,7 @@ use mathlib.Core.List.{List, [], _∷_, _++_, map}
 use mathlib.Core.Bool.{Bool, cond, _&&_, _||_}
 use lib.ListN.{length, getD, take, drop}
 use lib.Dec.{eqb}
-use Rattle.text.specs.Number.{wholeOf, levelOf, isGot, valueOf}
+use Rattle.text.specs.Number.{wholeOf, thousandthsOf, isGot, valueOf}
 use Rattle.text.specs.Same.{sameText}
 use Rattle.text.specs.Spelled.{bytes, byte}
 use Rattle.text.specs.declared.number.Number.{Number}
@@ -81,7 +81,7 @@ abbrev pub unsigned : List ℕ → List ℕ
 unsigned t = cond (eqb (getD t 0 0) (byte "-")) (drop 1 t) t
 
 abbrev pub isNumber : List ℕ → Bool
-isNumber t = isGot (wholeOf t) || isGot (levelOf t)
+isNumber t = isGot (wholeOf t) || isGot (thousandthsOf t)
 
 abbrev pub isSpelling : List ℕ → Bool
 isSpelling t = isNumber (unsigned t)

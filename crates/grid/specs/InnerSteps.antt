@@ -6,7 +6,7 @@ use mathlib.Core.List.{List, [], _∷_, _++_, map}
 use mathlib.Core.Bool.{Bool, true, false, cond, _&&_}
 use lib.ListN.{length, getD, take, drop}
 use lib.Dec.{leb}
-use Rattle.text.specs.Number.{showLevel}
+use Rattle.text.specs.Number.{showThousandths}
 use Rattle.text.specs.Line.{linesOf}
 use Rattle.text.specs.Spelled.{crlf}
 use Rattle.text.specs.declared.number.Number.the-variants as number
@@ -139,7 +139,7 @@ shapeRefusal f fits sound = refuse 12 (fits && sided f && placed f) (refuse 13 s
 -- the bytes of levels, each with the byte that follows it
 unfoldable pub sizesOf : List ℕ → ℕ
 sizesOf [] = 0
-sizesOf (v ∷ vs) = length (showLevel v) + 1 + sizesOf vs
+sizesOf (v ∷ vs) = length (showThousandths v) + 1 + sizesOf vs
 
 -- no level is too high, and no header number has more than seven digits
 abbrev pub Quiet : List ℕ → Type 0

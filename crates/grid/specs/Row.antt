@@ -1,11 +1,12 @@
--- A row of a network file: values parted by one space, each a level or the no-data value as the file spells it.
+-- A row of a network file: values parted by one space, each a level in thousandths, with two or three decimals, or the
+-- no-data value as the file spells it.
 -- RULES, "Files and the report program". Assumes nothing.
 use Prim.Native.Nat.{ℕ}
 use mathlib.Core.List.{List, [], _∷_, _++_, map}
 use mathlib.Core.Bool.{Bool, true, cond, _&&_, _||_, not}
 use lib.ListN.{length}
 use lib.Dec.{eqb}
-use Rattle.text.specs.Number.{levelOf, isGot, valueOf}
+use Rattle.text.specs.Number.{decimalOf, thousandthsOf, isGot, valueOf}
 use Rattle.text.specs.Line.{onto}
 use Rattle.text.specs.Same.{sameText}
 use Rattle.text.specs.Spelled.{byte}
@@ -25,7 +26,7 @@ abbrev pub given : List ℕ → List ℕ → Bool
 given nodata t = not (sameText t nodata)
 
 abbrev pub isValue : List ℕ → List ℕ → Bool
-isValue nodata t = isGot (levelOf t) || sameText t nodata
+isValue nodata t = isGot (thousandthsOf t) || sameText t nodata
 
 -- a line that is a row of values
 abbrev pub isRow : List ℕ → List ℕ → Bool
@@ -41,7 +42,7 @@ rowGiven nodata line = all (given nodata) (valuesOf line)
 
 -- its levels, west to east; no data has none and counts as 0 until it is refused
 abbrev pub levelIn : List ℕ → ℕ
-levelIn t = valueOf (levelOf t)
+levelIn t = valueOf (thousandthsOf t)
 
 unfoldable pub rowLevels : List ℕ → List ℕ
 rowLevels line = map levelIn (valuesOf line)
@@ -50,3 +51,10 @@ rowLevels line = map levelIn (valuesOf line)
 unfoldable pub levelsOf : List (List ℕ) → List ℕ
 levelsOf [] = []
 levelsOf (row ∷ rows) = levelsOf rows ++ rowLevels row
+
+-- each value of a row has three decimals, as a network is written
+abbrev pub hasThree : List ℕ → Bool
+hasThree t = isGot (decimalOf 3 t)
+
+abbrev pub rowThree : List ℕ → Bool
+rowThree line = all hasThree (valuesOf line)

@@ -5,7 +5,7 @@ use mathlib.Core.List.{List, [], _∷_, _++_, map}
 use mathlib.Core.Bool.{_&&_}
 use lib.ListN.{length, take, drop}
 use lib.Dec.{leb}
-use Rattle.text.specs.Number.{showWhole, showLevel}
+use Rattle.text.specs.Number.{showWhole, showThousandths}
 use Rattle.text.specs.Field.{joinedBy}
 use Rattle.text.specs.Spelled.{byte, crlf}
 use Rattle.refusal.specs.Refuse.{refuse}
@@ -30,7 +30,7 @@ headLines f =
 
 -- the levels of a row, parted by one space
 unfoldable pub rowLine : List ℕ → List ℕ
-rowLine levels = joinedBy (byte " ") (map showLevel levels)
+rowLine levels = joinedBy (byte " ") (map showThousandths levels)
 
 -- the levels of row r, counted from the south
 abbrev pub rowAt : ℕ → List ℕ → ℕ → List ℕ

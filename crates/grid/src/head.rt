@@ -2,7 +2,7 @@
 use network::Frame;
 use text::core::line_end;
 use text::number::Number;
-use text::number::level;
+use text::number::thousandths;
 use text::number::whole;
 use text::same::same_text;
 ghost use mathlib.Core.Path.{_≡_};
@@ -113,7 +113,7 @@ fn is_number(s: &[u8]) -> bool
 {
     match whole(s) {
         Number::Got(_) => true,
-        Number::Off => match level(s) {
+        Number::Off => match thousandths(s) {
             Number::Got(_) => true,
             Number::Off => false,
         },

@@ -10,7 +10,7 @@ use network::limits::MAX_NETWORK_LEVEL;
 use refusal::both;
 use text::core::field_end;
 use text::number::Number;
-use text::number::level;
+use text::number::thousandths;
 use text::same::same_text;
 ghost use mathlib.Core.Path.{_≡_};
 ghost use Prim.Native.Nat.{_≤_};
@@ -24,7 +24,7 @@ fn value_refusal(s: &[u8], nodata: &[u8]) -> u32
     if same_text(s, nodata) {
         return 13;
     }
-    match level(s) {
+    match thousandths(s) {
         Number::Got(v) => {
             if v <= MAX_NETWORK_LEVEL {
                 return 0;

@@ -3,13 +3,13 @@
 use network::Frame;
 use text::core::put_byte;
 use text::core::put_end;
-use text::core::put_level;
+use text::core::put_thousandths;
 use text::core::put_text;
 use text::core::put_whole;
 ghost use mathlib.Core.List.{_∷_};
 ghost use Prim.Native.Nat.{_+_, _≤_};
 ghost use lib.ListN.{length};
-ghost use Rattle.text.specs.Number.{showLevel};
+ghost use Rattle.text.specs.Number.{showThousandths};
 ghost use Rattle.text.specs.Spelled.{byte};
 ghost use Rattle.room.specs.Room.{Wrote};
 ghost use Rattle.network.specs.Edges.{Checked, Sized};
@@ -48,11 +48,11 @@ fn put_place(out: &mut [u8], at: usize, frame: Frame) -> usize
 
 // A space and a level.
 fn put_spaced(out: &mut [u8], at: usize, v: u32) -> usize
-    requires { ⌜ (v ≤ maxNetworkLevel) × (at + length (byte " " ∷ showLevel v) ≤ length (now out)) ⌝ }
-    ensures { λ r. ⌜ Wrote (now (out .entry)) at (byte " " ∷ showLevel v) (now (out .exit)) r ⌝ }
+    requires { ⌜ (v ≤ maxNetworkLevel) × (at + length (byte " " ∷ showThousandths v) ≤ length (now out)) ⌝ }
+    ensures { λ r. ⌜ Wrote (now (out .entry)) at (byte " " ∷ showThousandths v) (now (out .exit)) r ⌝ }
 {
     let next = put_byte(out, at, b' ');
-    put_level(out, next, v)
+    put_thousandths(out, next, v)
 }
 
 // The levels of a row, parted by one space.
@@ -61,7 +61,7 @@ fn put_values(out: &mut [u8], from: usize, row: &[u32]) -> usize
         × (from + length (rowLine (now row)) ≤ length (now out)) ⌝ }
     ensures { λ r. ⌜ Wrote (now (out .entry)) from (rowLine (now (row .entry))) (now (out .exit)) r ⌝ }
 {
-    let mut at = put_level(out, from, row[0]);
+    let mut at = put_thousandths(out, from, row[0]);
     let mut i = 1;
     while i < row.len() {
         at = put_spaced(out, at, row[i]);

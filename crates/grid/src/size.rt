@@ -3,24 +3,24 @@ use network::Frame;
 ghost use mathlib.Core.Path.{_≡_};
 ghost use Prim.Native.Nat.{_*_, _≤_};
 ghost use lib.ListN.{length};
-ghost use Rattle.text.specs.Number.{showWhole, showLevel};
+ghost use Rattle.text.specs.Number.{showWhole, showThousandths};
 ghost use Rattle.network.specs.Edges.{Checked};
 ghost use Rattle.network.specs.Limits.{maxNetworkLevel, maxOrigin, maxSide};
 ghost use Rattle.grid.specs.Write.{headLines, textOf, showNetwork};
 ghost use Rattle.grid.specs.InnerSteps.{sizesOf, Quiet, Near};
 
-// The bytes of a level: its units, a point and two digits.
+// The bytes of a level: its units, a point and three digits.
 fn level_size(v: u32) -> usize
     requires { ⌜ v ≤ maxNetworkLevel ⌝ }
-    ensures { λ r. ⌜ r ≡ length (showLevel v) ⌝ }
+    ensures { λ r. ⌜ r ≡ length (showThousandths v) ⌝ }
 {
-    if v < 1000 {
-        return 4;
-    }
     if v < 10000 {
         return 5;
     }
-    6
+    if v < 100000 {
+        return 6;
+    }
+    7
 }
 
 // The bytes of levels, each with the byte that follows it.

@@ -3,7 +3,7 @@ use crate::head::line_at;
 use network::Frame;
 use text::core::field_end;
 use text::number::Number;
-use text::number::level;
+use text::number::thousandths;
 ghost use mathlib.Core.Path.{_≡_};
 ghost use Prim.Native.Nat.{_+_, _-_, _*_, _≤_};
 ghost use lib.ListN.{length};
@@ -16,7 +16,7 @@ ghost use Rattle.grid.specs.InnerSteps.{linesAt, Rows};
 fn level_in(s: &[u8]) -> u32
     ensures { λ r. ⌜ r ≡ levelIn (now (s .entry)) ⌝ }
 {
-    match level(s) {
+    match thousandths(s) {
         Number::Got(v) => v,
         Number::Off => 0,
     }

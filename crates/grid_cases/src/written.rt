@@ -36,7 +36,7 @@ fn write_wide(line: &[u8], levels: &[u32]) {
     again(&text, size[0]);
 }
 
-// Writes levels of two by two points into room for 78 bytes.
+// Writes levels of two by two points into room for 82 bytes.
 fn write_two(line: &[u8], levels: &[u32]) {
     let frame = Frame {
         columns: 2,
@@ -45,7 +45,7 @@ fn write_two(line: &[u8], levels: &[u32]) {
         west: 0,
         south: 0,
     };
-    let mut text = [b'.'; 78];
+    let mut text = [b'.'; 82];
     let mut size = [7u32; 1];
     let answer = write_network(levels, frame, &mut text, &mut size);
     told(line, 3, 1, &[answer as u64]);

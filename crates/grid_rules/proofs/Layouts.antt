@@ -1,27 +1,29 @@
 -- A line passes its test exactly if it is on its layout, and the line at fault is the first that does not.
 -- Assumes nothing.
 use Prim.Native.Nat.{ℕ, zero, suc, _+_, _-_, _/_, _%_, _≤_, _<_}
-use mathlib.Core.Path.{_≡_, refl, sym, ap, _∙_}
+use mathlib.Core.{Path._≡_, Path.refl, Path.sym, Path.ap, Path._∙_, Logic.inl, Logic.inr}
 use mathlib.Core.List.{List, [], _∷_, _++_, map}
 use mathlib.Core.Bool.{Bool, true, false, cond, true≢false, or-true}
 use native.Mathlib.Omega.{arith}
 use borrow.Author.Tests.{eqb-true, ne-eqb, ltb-true, ltb-false}
 use lib.Dec.{eqb, ltb}
 use lib.ListN.{length, getD, take, drop, take-append-drop, List·getD-append, List·getD-eq-default, length-drop}
-use lib.{ListN.length-map, Seq.getD-drop, Seq.getD-append-add, Seq.take-suc}
+use lib.{ListN.length-map, ListN.length-append, Seq.getD-drop, Seq.getD-append-add, Seq.take-suc}
 use Rattle.refusal.proofs.Laws.{and-left, and-right}
 use Rattle.text.specs.Line.{linesOf}
-use Rattle.text.specs.Number.{wholeOf, isGot, valueOf, shown, showWhole, showDigits, showLevel}
+use Rattle.text.specs.Number.{wholeOf, isGot, valueOf, shown, showWhole, showDigits, showThousandths}
+use Rattle.text.specs.Number.{InThousandths}
 use Rattle.text.specs.Spelled.{bytes}
 use Rattle.text.proofs.Digits.{either, whole-small, got-value}
-use Rattle.text.proofs.{Shown.whole-back, Shown.level-back, Shown.shown-least, Exact.whole-exact}
+use Rattle.text.proofs.{Shown.whole-back, Shown.decimal-long, Shown.shown-least, Exact.whole-exact}
 use Rattle.grid.specs.Row.{isRow}
 use Rattle.grid.specs.File.{unnamed, numberAfter, isNumber, isSpelling, namesWell, headOn, namedOn, noDataOf, rowsOf}
 use Rattle.grid.specs.File.{firstOff, faultLine}
 use Rattle.grid_rules.specs.Laid.{line, Named, Behind}
-use Rattle.grid_rules.specs.Refused.{keys, Naming, LineOn, Fault}
+use Rattle.grid_rules.specs.Refused.{keys, Digits, Naming, LineOn, Fault}
+use Rattle.grid_rules.specs.Refused.Digits.{no-point, with-point}
 use Rattle.grid_rules.proofs.{Places.test-at, Places.map-at, Said.word-names, Said.other-names}
-use Rattle.grid_rules.proofs.Lines.{key-on, key-passes, level-on, row-on, row-passes}
+use Rattle.grid_rules.proofs.Lines.{key-on, key-passes, level-on, level-passes, row-on, row-passes}
 
 -- ---- the line that names the no-data value
 
@@ -37,43 +39,39 @@ first-least (suc k) n =
           (shown-least k (n / 10)),
     ) (first-least k (n / 10)))
 
--- a number's text, and what a spelling is behind its minus
-abbrev body : Bool → ℕ → List ℕ
-body point n = cond point (showLevel n) (showWhole n)
+-- a number begins with a digit, and passes its test
+three-first : (n : ℕ) → 48 ≤ getD (showThousandths n) 0 0
+three-first n = rw (List·getD-append (showWhole (n / 1000)) (46 ∷ showDigits 3 (n % 1000)) 0 0
+    (shown-least 6 (n / 1000))) (first-least 6 (n / 1000))
 
-body-first : (point : Bool) (n : ℕ) → 48 ≤ getD (body point n) 0 0
-body-first true n = rw (List·getD-append (showWhole (n / 100)) (46 ∷ showDigits 2 (n % 100)) 0 0
-    (shown-least 6 (n / 100))) (first-least 6 (n / 100))
-body-first false n = first-least 6 n
+level-first : (t : List ℕ) (n : ℕ) → InThousandths t n → 48 ≤ getD t 0 0
+level-first t n (inl e) = rw e (three-first n)
+level-first t n (inr e) =
+    let some : 0 < length t = omega (arith, ap length e, length-append t (48 ∷ []), decimal-long 3 n) in
+    rw (← List·getD-append t (48 ∷ []) 0 0 some, e) (three-first n)
 
-body-number : (point : Bool) (n : ℕ) → n < cond point 100000 10000000 → isNumber (body point n) ≡ true
-body-number true n h = rw (level-back n h) (or-true (isGot (wholeOf (showLevel n))))
-body-number false n h = rw (whole-back n h) refl
+digits-first : (t : List ℕ) → Digits t → 48 ≤ getD t 0 0
+digits-first t (no-point n h e) = rw e (first-least 6 n)
+digits-first t (with-point l) = level-first t (l .number) (l .is)
 
-spelling-passes : (minus point : Bool) (n : ℕ) → n < cond point 100000 10000000
-    → isSpelling (cond minus (bytes "-") [] ++ body point n) ≡ true
-spelling-passes true point n h = body-number point n h
-spelling-passes false point n h =
-    rw (ne-eqb (getD (body point n) 0 0) 45 (λ e. omega (arith, body-first point n))) (body-number point n h)
+digits-pass : (t : List ℕ) → Digits t → isNumber t ≡ true
+digits-pass t (no-point n h e) = rw (e, whole-back n h) refl
+digits-pass t (with-point l) = rw (level-passes t l) (or-true (isGot (wholeOf t)))
+
+spelling-passes : (minus : Bool) (t : List ℕ) → Digits t → isSpelling (cond minus (bytes "-") [] ++ t) ≡ true
+spelling-passes true t d = digits-pass t d
+spelling-passes false t d = rw (ne-eqb (getD t 0 0) 45 (λ e. omega (arith, digits-first t d))) (digits-pass t d)
 
 naming-passes : (l : List ℕ) → Naming l → namesWell l ≡ true
 unfolding namesWell
-naming-passes l n = rw (n .is) (spelling-passes (n .minus) (n .point) (n .number) (n .most))
-
--- a number is a whole number or a level
-pub record Digits (t : List ℕ) : Type 0 where
-  pub point : Bool
-  pub number : ℕ
-  pub most : number < cond point 100000 10000000
-  pub is : t ≡ body point number
+naming-passes l n = rw (n .is) (spelling-passes (n .minus) (n .number) (n .digits))
 
 number-on : (t : List ℕ) → isNumber t ≡ true → Digits t
 number-on t e =
     either (isGot (wholeOf t))
     (λ yes. let g = got-value (wholeOf t) yes in
-    record { point = false; number = valueOf (wholeOf t); most = whole-small t _ g; is = whole-exact t _ g })
-    (λ other. let l = level-on t (rw other at e) in
-    record { point = true; number = l .number; most = l .most; is = l .is })
+    no-point (valueOf (wholeOf t)) (whole-small t _ g) (whole-exact t _ g))
+    (λ other. with-point (level-on t (rw other at e)))
 
 -- a byte that stands first
 first-byte : (t : List ℕ) → getD t 0 0 ≡ 45 → t ≡ 45 ∷ drop 1 t
@@ -93,26 +91,15 @@ naming-on l word well =
     let split : l ≡ bytes "NODATA_value " ++ drop 13 l = sym (take-append-drop 13 l)
     ∙ ap (λ (a : List ℕ). a ++ drop 13 l) front in
     either (eqb (getD (drop 13 l) 0 0) 45)
-    (λ yes. let d = number-on (drop 1 (drop 13 l)) (rw yes at spelled) in
-    let sign : drop 13 l ≡ 45 ∷ body (d .point) (d .number) =
-    first-byte (drop 13 l) (eqb-true (getD (drop 13 l) 0 0) 45 yes) ∙ ap (λ (t : List ℕ). 45 ∷ t) (d .is) in
+    (λ yes. let sign = first-byte (drop 13 l) (eqb-true (getD (drop 13 l) 0 0) 45 yes) in
     record {
       minus = true;
-      point = d .point;
-      number = d .number;
-      most = d .most;
-      is = split
-          ∙ ap (λ (t : List ℕ). bytes "NODATA_value " ++ t) sign;
+      number = drop 1 (drop 13 l);
+      digits = number-on (drop 1 (drop 13 l)) (rw yes at spelled);
+      is = split ∙ ap (λ (t : List ℕ). bytes "NODATA_value " ++ t) sign;
     })
-    (λ other. let d = number-on (drop 13 l) (rw other at spelled) in
-    record {
-      minus = false;
-      point = d .point;
-      number = d .number;
-      most = d .most;
-      is = split
-          ∙ ap (λ (t : List ℕ). bytes "NODATA_value " ++ t) (d .is);
-    })
+    (λ other.
+    record { minus = false; number = drop 13 l; digits = number-on (drop 13 l) (rw other at spelled); is = split })
 
 -- ---- the line at fault
 

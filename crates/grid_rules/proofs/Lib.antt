@@ -6,4 +6,5 @@ pub mod Layouts
 pub mod Ordered
 pub mod Sound
 pub mod Order
+pub mod Same
 pub mod Writing

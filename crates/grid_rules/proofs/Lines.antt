@@ -4,9 +4,9 @@ use mathlib.Core.{Path._≡_, Path.refl, Path.sym, Path.ap, Path._∙_, List.Lis
 use mathlib.Core.Bool.{Bool, true, false, _||_, true≢false, or-true}
 use native.Mathlib.Omega.{arith}
 use lib.ListN.{length, getD}
-use Rattle.text.specs.{Field.countOf, Field.fieldOf, Number.levelOf, Number.isGot, Number.valueOf, Same.sameText}
+use Rattle.text.specs.{Field.countOf, Field.fieldOf, Number.thousandthsOf, Number.isGot, Number.valueOf, Same.sameText}
 use Rattle.text.specs.declared.number.Number.the-variants.{Got}
-use Rattle.text.proofs.{Digits.either, Digits.got-value, Shown.level-back, Exact.level-exact, Exact.level-small}
+use Rattle.text.proofs.{Digits.either, Digits.got-value, Thousandths.thousandths-read, Thousandths.thousandths-exact}
 use Rattle.grid.specs.{Row.all, Row.valuesOf, Row.isValue, Row.isRow, File.numberAfter}
 use Rattle.grid.proofs.{ValueLaws.all-cons, ValueLaws.all-none, Values.number-back, Values.key-line}
 use Rattle.text.proofs.Sames.{same-equal, same-self}
@@ -28,16 +28,16 @@ key-passes key l k = got-is (numberAfter key l) (ap (numberAfter key) (k .is) �
 
 -- ---- values and rows
 
-pub level-on : (t : List ℕ) → isGot (levelOf t) ≡ true → Level t
-level-on t e = let g = got-value (levelOf t) e in
-    record { number = valueOf (levelOf t); most = level-small t _ g; is = level-exact t _ g }
+pub level-on : (t : List ℕ) → isGot (thousandthsOf t) ≡ true → Level t
+level-on t e = let x = thousandths-exact t _ (got-value (thousandthsOf t) e) in
+    record { number = valueOf (thousandthsOf t); most = x .0; is = x .1 }
 
-level-passes : (t : List ℕ) → Level t → isGot (levelOf t) ≡ true
-level-passes t l = got-is (levelOf t) (ap levelOf (l .is) ∙ level-back (l .number) (l .most))
+pub level-passes : (t : List ℕ) → Level t → isGot (thousandthsOf t) ≡ true
+level-passes t l = got-is (thousandthsOf t) (thousandths-read t (l .number) (l .most) (l .is))
 
 value-on : (nodata t : List ℕ) → isValue nodata t ≡ true → (t ≡ nodata → ⊥) → Level t
 value-on nodata t v other =
-    level-on t (first (isGot (levelOf t)) (sameText t nodata) v (λ s. other (same-equal t nodata s)))
+    level-on t (first (isGot (thousandthsOf t)) (sameText t nodata) v (λ s. other (same-equal t nodata s)))
   where
     first : (a b : Bool) → (a || b) ≡ true → (b ≡ true → ⊥) → a ≡ true
     first true b e f = refl
@@ -46,7 +46,7 @@ value-on nodata t v other =
 value-passes : (nodata t : List ℕ) → ((t ≡ nodata → ⊥) → Level t) → isValue nodata t ≡ true
 value-passes nodata t l =
     either (sameText t nodata)
-    (λ yes. rw yes (or-true (isGot (levelOf t))))
+    (λ yes. rw yes (or-true (isGot (thousandthsOf t))))
     (λ other. let level = level-passes t
     (l (λ e. true≢false (sym (ap (λ (s : List ℕ). sameText s nodata) e ∙ same-self nodata) ∙ other)))
     in rw level refl)

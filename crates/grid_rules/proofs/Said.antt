@@ -7,15 +7,17 @@ use borrow.Author.Tests.{eqb-true, eq-eqb, leb-true, leb-false}
 use lib.{Dec.leb, ListN.length, ListN.getD, ListN.take, ListN.drop, ListN.length-drop, ListN.List·getD-eq-default}
 use lib.Seq.{getD-drop, getD-append-add, take-nil, take-at}
 use Rattle.text.specs.{Line.linesOf, Field.countOf, Field.fieldOf}
-use Rattle.text.specs.{Number.isGot, Number.valueOf, Number.showWhole, Number.showLevel, Same.sameText, Spelled.bytes}
+use Rattle.text.specs.{Number.isGot, Number.valueOf, Number.showWhole, Number.InThousandths, Same.sameText}
+use Rattle.text.specs.Spelled.{bytes}
 use Rattle.text.proofs.{Digits.either, Digits.got-value, Sames.same-equal, Sames.same-self}
-use Rattle.grid.specs.Row.{all, valuesOf, given, isValue, isRow, hasValues, rowGiven, levelIn, levelsOf}
+use Rattle.grid.specs.Row.{all, valuesOf, given, isValue, isRow, hasValues, rowGiven, hasThree, rowThree, levelIn}
+use Rattle.grid.specs.Row.{levelsOf}
 use Rattle.grid.specs.File.{ncols, nrows, xllcenter, yllcenter, cellsize, begins, numberAt, names, sixth}
 use Rattle.grid.specs.File.{headOn, namedOn, frameOf, noDataOf, rowsOf, faultLine, rowsFit}
 use Rattle.grid.specs.Read.{textFrame, textLevels, readRefusal, headerAfter, levelsAfter}
 use Rattle.grid.proofs.ReadLaws.{fit-both, fit-length, Passed, passed}
-use Rattle.grid.proofs.Values.{key-line, value-is}
-use Rattle.grid_rules.specs.Laid.{line, Named, Headed, Sized, Laid, Says, frameIn, levelsIn}
+use Rattle.grid.proofs.Values.{key-line, value-is, value-three}
+use Rattle.grid_rules.specs.Laid.{line, Named, Headed, Sized, Laid, Three, Says, frameIn, levelsIn}
 use Rattle.grid_rules.proofs.Places.{test-at, all-at, map-at, value-field, value-count, level-at}
 
 -- a header line that gives a number, by its place
@@ -51,31 +53,27 @@ module _ (lines : List (List ℕ)) (first : ℕ) (fits : rowsFit (frameOf lines)
   pub sized : (text : List ℕ) → linesOf text ≡ lines → Sized text (frameOf lines) first
   sized text same = record { height = rw same height; width = λ k h. rw same (width k h) }
 
--- and of which every value is given
-module _ (lines : List (List ℕ)) (first : ℕ) (p : Passed lines) (start : rowsOf lines ≡ drop first lines)
-    (there : first ≤ length lines)
-    (on : (k : ℕ) → k < length (rowsOf lines) → isRow (noDataOf lines) (getD (rowsOf lines) k []) ≡ true) where
-  value : (k c : ℕ) → k < length (rowsOf lines) → c < frameOf lines .columns
-      → let t = fieldOf 32 c (getD (rowsOf lines) k []) in t ≡ showLevel (levelIn t)
-  value k c h w =
-      let row = getD (rowsOf lines) k [] in
-      let inside : c < length (valuesOf row) = omega (arith, wide lines first (p .fits) start there k h) in
-      let v = all-at (isValue (noDataOf lines)) (valuesOf row) [] (on k h) c inside in
-      let g = all-at (given (noDataOf lines)) (valuesOf row) []
-      (all-at (rowGiven (noDataOf lines)) (rowsOf lines) [] (p .given) k h) c inside in
-      rw (← value-field row c) (value-is (noDataOf lines) (getD (valuesOf row) c []) v g)
-
+-- and whose values each spell their level
+module _ (spells : List ℕ → ℕ → Type 0) (lines : List (List ℕ)) (first : ℕ)
+    (fits : rowsFit (frameOf lines) (rowsOf lines) ≡ true)
+    (start : rowsOf lines ≡ drop first lines) (there : first ≤ length lines)
+    (each : (k c : ℕ) → k < length (rowsOf lines) → c < frameOf lines .columns
+        → let t = getD (valuesOf (getD (rowsOf lines) k [])) c [] in spells t (levelIn t)) where
   level : (r c : ℕ) → r < frameOf lines .rows → c < frameOf lines .columns
-      → fieldOf 32 c (getD lines (first + (frameOf lines .rows - suc r)) [])
-      ≡ showLevel (getD (levelsOf (rowsOf lines)) (r * frameOf lines .columns + c) 0)
+      → spells (fieldOf 32 c (getD lines (first + (frameOf lines .rows - suc r)) []))
+      (getD (levelsOf (rowsOf lines)) (r * frameOf lines .columns + c) 0)
   level r c h w =
-      let fit-now = fit lines first (p .fits) start there in
+      let fit-now = fit lines first fits start there in
       let k = length (rowsOf lines) - suc r in
+      let row = getD (rowsOf lines) k [] in
       let same : frameOf lines .rows - suc r ≡ k = ap (λ (n : ℕ). n - suc r) (sym (fit-now .0)) in
       let below : r < length (rowsOf lines) = omega (arith, fit-now .0) in
-      rw (same, ← row-line lines first start k)
-      (value k c (omega arith) w
-      ∙ ap showLevel (sym (level-at (frameOf lines .columns) (rowsOf lines) (fit-now .1) r c below w)))
+      rw (
+        same,
+        ← row-line lines first start k,
+        level-at (frameOf lines .columns) (rowsOf lines) (fit-now .1) r c below w,
+        ← value-field row c,
+      ) (each k c (omega arith) w)
 
 -- a line that has bytes is there
 line-there : (lines : List (List ℕ)) (i : ℕ) → 1 ≤ length (getD lines i []) → suc i ≤ length lines
@@ -149,20 +147,60 @@ unfolding rowsOf
 from-five text other = rw (other-names text other)
 
 module _ (text : List ℕ) (p : Passed (linesOf text)) where
-  laid-from : (first : ℕ) → rowsOf (linesOf text) ≡ drop first (linesOf text) → first ≤ length (linesOf text)
-      → Laid text (textLevels text) (textFrame text) first
-  laid-from first start there = record {
+  -- a value at its place
+  inside : (k c : ℕ) → k < length (rowsOf (linesOf text)) → c < textFrame text .columns
+      → c < length (valuesOf (getD (rowsOf (linesOf text)) k []))
+  inside k c h w = rw (wide-at k h) w
+    where
+      wide-at : (k : ℕ) → k < length (rowsOf (linesOf text))
+          → length (valuesOf (getD (rowsOf (linesOf text)) k [])) ≡ textFrame text .columns
+      wide-at k h =
+          eqb-true _ _ (all-at (hasValues (textFrame text .columns)) (rowsOf (linesOf text)) []
+          (fit-both (textFrame text) (rowsOf (linesOf text)) (p .fits) .1) k h)
+
+  -- each one spells its level
+  spelled : (k c : ℕ) → k < length (rowsOf (linesOf text)) → c < textFrame text .columns
+      → let t = getD (valuesOf (getD (rowsOf (linesOf text)) k [])) c [] in InThousandths t (levelIn t)
+  spelled k c h w =
+      let lines = linesOf text in
+      let row = getD (rowsOf lines) k [] in
+      let here = inside k c h w in
+      value-is (noDataOf lines) (getD (valuesOf row) c [])
+      (all-at (isValue (noDataOf lines)) (valuesOf row) [] (rows-are text (p .fault) k h) c here)
+      (all-at (given (noDataOf lines)) (valuesOf row) []
+      (all-at (rowGiven (noDataOf lines)) (rowsOf lines) [] (p .given) k h) c here)
+
+  -- and with three decimals where all have three
+  spelled-three : all rowThree (rowsOf (linesOf text)) ≡ true → (k c : ℕ) → k < length (rowsOf (linesOf text))
+      → c < textFrame text .columns
+      → let t = getD (valuesOf (getD (rowsOf (linesOf text)) k [])) c [] in Three t (levelIn t)
+  spelled-three three k c h w =
+      let row = getD (rowsOf (linesOf text)) k [] in
+      value-three (getD (valuesOf row) c [])
+      (all-at hasThree (valuesOf row) [] (all-at rowThree (rowsOf (linesOf text)) [] three k h) c (inside k c h w))
+
+  pub laid-from : (spells : List ℕ → ℕ → Type 0)
+      → ((k c : ℕ) → k < length (rowsOf (linesOf text)) → c < textFrame text .columns
+      → let t = getD (valuesOf (getD (rowsOf (linesOf text)) k [])) c [] in spells t (levelIn t))
+      → (first : ℕ) → rowsOf (linesOf text) ≡ drop first (linesOf text) → first ≤ length (linesOf text)
+      → Laid spells text (textLevels text) (textFrame text) first
+  laid-from spells each first start there = record {
     head = headed text (p .fault);
     size = sized (linesOf text) first (p .fits) start there text refl;
     number = fit-length (textFrame text) (rowsOf (linesOf text)) (p .fits);
-    level = level (linesOf text) first p start there (rows-are text (p .fault));
+    level = level spells (linesOf text) first (p .fits) start there each;
   }
 
   pub says-passed : Says text (textLevels text) (textFrame text)
   says-passed = record {
-    named = λ word. laid-from 6 (from-six text word) (six-there text (p .fault) word);
-    unnamed = λ other. laid-from 5 (from-five text other) (five-there text (p .fault));
+    named = λ word. laid-from InThousandths spelled 6 (from-six text word) (six-there text (p .fault) word);
+    unnamed = λ other. laid-from InThousandths spelled 5 (from-five text other) (five-there text (p .fault));
   }
+
+  pub laid-three : all rowThree (rowsOf (linesOf text)) ≡ true → (Named text → ⊥)
+      → Laid Three text (textLevels text) (textFrame text) 5
+  laid-three three other =
+      laid-from Three (spelled-three three) 5 (from-five text other) (five-there text (p .fault))
 
 -- a text that is not refused says its network
 pub says : (text : List ℕ) (headers room : ℕ) → readRefusal text headers room ≡ 0

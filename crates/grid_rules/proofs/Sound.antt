@@ -7,8 +7,8 @@ use borrow.Author.Tests.{not-true}
 use lib.{ListN.length, ListN.getD, ListN.length-map}
 use Rattle.refusal.specs.Range.{allWithin}
 use Rattle.refusal.proofs.Ranges.{within-each}
-use Rattle.text.specs.{Field.countOf, Field.fieldOf, Number.levelOf, Number.valueOf, Number.showLevel, Same.sameText}
-use Rattle.text.proofs.{Digits.either, Shown.level-back, Sames.same-equal, Sames.same-self}
+use Rattle.text.specs.{Field.countOf, Field.fieldOf, Number.valueOf, Number.InThousandths, Same.sameText}
+use Rattle.text.proofs.{Digits.either, Thousandths.thousandths-read, Sames.same-equal, Sames.same-self}
 use Rattle.network.specs.Refusals.{sided, placed}
 use Rattle.network.specs.declared.Frame.{Frame}
 use Rattle.network.proofs.Ranges.{frame-alone}
@@ -52,8 +52,8 @@ row-within top row h =
     rw (map-at levelIn (valuesOf row) [] 0 i inside, value-field row i) (h i place))
 
 -- a level's text has that level
-pub level-of : (t : List ℕ) (n : ℕ) → n < 100000 → t ≡ showLevel n → levelIn t ≡ n
-level-of t n h e = ap valueOf (ap levelOf e ∙ level-back n h)
+pub level-of : (t : List ℕ) (n : ℕ) → n < 1000000 → InThousandths t n → levelIn t ≡ n
+level-of t n h e = ap valueOf (thousandths-read t n h e)
 
 pub given-is : (nodata t : List ℕ) → (t ≡ nodata → ⊥) → given nodata t ≡ true
 given-is nodata t other =

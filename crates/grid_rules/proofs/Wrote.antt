@@ -4,15 +4,16 @@ use mathlib.Core.Path.{_≡_, refl, sym, ap, _∙_}
 use mathlib.Core.{List.List, List.[], List._∷_, List._++_, List.append-assoc, Bool.true, Bool.true≢false}
 use native.Mathlib.Omega.{arith}
 use lib.ListN.{length, getD, take}
-use Rattle.text.specs.{Same.sameText, Spelled.bytes}
+use Rattle.text.specs.{Line.linesOf, Same.sameText, Spelled.bytes}
 use Rattle.network.specs.Refusals.{networkRefusal}
 use Rattle.network.specs.declared.Frame.{Frame}
 use Rattle.grid.specs.File.{begins, names}
 use Rattle.grid.specs.Write.{textOf, networkLines, showNetwork, writeRefusal, textAfter, sizeAfter}
 use Rattle.text.proofs.Sames.{same-self}
-use Rattle.grid.proofs.Back.{lines-back, sixth-row, frame-back, levels-back, refusal-back, written-file}
+use Rattle.grid.proofs.Back.{lines-back, sixth-row, three-back, frame-back, levels-back, refusal-back}
+use Rattle.grid.proofs.{Back.written-file, ReadLaws.passed}
 use Rattle.grid_rules.specs.Laid.{Named, Written}
-use Rattle.grid_rules.proofs.Said.{says}
+use Rattle.grid_rules.proofs.Said.{laid-three}
 
 -- lines of which there is one at least, each with its CRLF, end in CRLF
 all-but-end : List (List ℕ) → List ℕ
@@ -41,8 +42,9 @@ module _ (levels : List ℕ) (f : Frame) (none : networkRefusal levels f ≡ 0) 
   unfolding showNetwork
   written =
       let text = showNetwork levels f in
-      let laid = says text 5 (length levels)
-      (refusal-back levels f none 5 (length levels) (omega arith) (omega arith)) .unnamed plain in
+      let p = passed (linesOf text) 5 (length levels)
+      (refusal-back levels f none 5 (length levels) (omega arith) (omega arith)) in
+      let laid = laid-three text p (three-back levels f none) plain in
       record {
         laid = rw (levels-back levels f none, frame-back levels f none) at laid;
         before = all-but-end (networkLines levels f);

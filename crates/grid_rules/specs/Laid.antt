@@ -6,7 +6,7 @@ use mathlib.Core.List.{List, [], _++_}
 use lib.ListN.{length, getD, take, drop}
 use Rattle.text.specs.Line.{linesOf}
 use Rattle.text.specs.Field.{countOf, fieldOf}
-use Rattle.text.specs.Number.{showWhole, showLevel}
+use Rattle.text.specs.Number.{showWhole, showThousandths, InThousandths}
 use Rattle.text.specs.Spelled.{bytes}
 use Rattle.network.specs.declared.Frame.{Frame}
 
@@ -35,13 +35,17 @@ pub record Sized (text : List ℕ) (f : Frame) (first : ℕ) : Type 0 where
 abbrev pub rowFromSouth : (text : List ℕ) (first : ℕ) (f : Frame) (r : ℕ) → List ℕ
 rowFromSouth text first f r = line text (first + (f .rows - suc r))
 
--- a text that says this network, its rows from line `first` on: each level at its place
-pub record Laid (text levels : List ℕ) (f : Frame) (first : ℕ) : Type 0 where
+-- a text that says this network, its rows from line `first` on: each level at its place, as `spells` says
+pub record Laid (spells : List ℕ → ℕ → Type 0) (text levels : List ℕ) (f : Frame) (first : ℕ) : Type 0 where
   pub head : Headed text f
   pub size : Sized text f first
   pub number : length levels ≡ f .rows * f .columns
   pub level : (r c : ℕ) → r < f .rows → c < f .columns
-      → valueAt (rowFromSouth text first f r) c ≡ showLevel (getD levels (r * f .columns + c) 0)
+      → spells (valueAt (rowFromSouth text first f r) c) (getD levels (r * f .columns + c) 0)
+
+-- a level in thousandths as it is written: with three decimals
+abbrev pub Three : List ℕ → ℕ → Type 0
+Three t n = t ≡ showThousandths n
 
 -- the sixth line names the no-data value: it begins with that word
 abbrev pub Named : List ℕ → Type 0
@@ -52,9 +56,9 @@ pub record Behind (text : List ℕ) (holds : ℕ → List ℕ → Type 0) : Type
   pub named : Named text → holds 6 (drop 13 (line text 5))
   pub unnamed : (Named text → ⊥) → holds 5 (bytes "-9999")
 
--- a text that is read says this network
+-- a text that is read says this network, with three decimals or with two
 abbrev pub Says : (text levels : List ℕ) → Frame → Type 0
-Says text levels f = Behind text (λ first nodata. Laid text levels f first)
+Says text levels f = Behind text (λ first nodata. Laid InThousandths text levels f first)
 
 -- the network as a call that reads leaves it: five numbers, and the levels from the south row, west to east
 abbrev pub frameIn : List ℕ → Frame
@@ -69,8 +73,8 @@ frameIn header = record {
 abbrev pub levelsIn : (header levels : List ℕ) → List ℕ
 levelsIn header levels = take (getD header 1 0 * getD header 0 0) levels
 
--- a text that is written says its network without a NODATA_value line, and has its last CRLF
+-- a text that is written says its network with three decimals, without a NODATA_value line, and has its last CRLF
 pub record Written (text levels : List ℕ) (f : Frame) : Type 0 where
-  pub laid : Laid text levels f 5
+  pub laid : Laid Three text levels f 5
   pub before : List ℕ
   pub ended : text ≡ before ++ bytes "\r\n"

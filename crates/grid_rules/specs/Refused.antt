@@ -7,7 +7,7 @@ use mathlib.Core.List.{List, [], _∷_, _++_}
 use lib.ListN.{length, getD}
 use Rattle.text.specs.Line.{linesOf}
 use Rattle.text.specs.Field.{countOf}
-use Rattle.text.specs.Number.{showWhole, showLevel}
+use Rattle.text.specs.Number.{showWhole, InThousandths}
 use Rattle.text.specs.Spelled.{bytes}
 use Rattle.network.specs.declared.Frame.{Frame}
 use Rattle.grid_rules.specs.Laid.{line, valueAt, Headed, Sized}
@@ -24,20 +24,23 @@ pub record Keyed (key l : List ℕ) : Type 0 where
   pub most : number < 10000000
   pub is : l ≡ key ++ showWhole number
 
--- a level of up to three digits, a point and two digits
+-- a level in thousandths: up to three digits, a point and three digits, or two
 pub record Level (t : List ℕ) : Type 0 where
   pub number : ℕ
-  pub most : number < 100000
-  pub is : t ≡ showLevel number
+  pub most : number < 1000000
+  pub is : InThousandths t number
+
+-- a number of the line that names no data: whole, or with two decimals or three
+pub data Digits (t : List ℕ) : Type 0 where
+  no-point : (n : ℕ) → n < 10000000 → t ≡ showWhole n → Digits t
+  with-point : Level t → Digits t
 
 -- the no-data value, which alone may be negative or a level
 pub record Naming (l : List ℕ) : Type 0 where
   pub minus : Bool
-  pub point : Bool
-  pub number : ℕ
-  pub most : number < cond point 100000 10000000
-  pub is : l
-      ≡ bytes "NODATA_value " ++ (cond minus (bytes "-") [] ++ cond point (showLevel number) (showWhole number))
+  pub number : List ℕ
+  pub digits : Digits number
+  pub is : l ≡ bytes "NODATA_value " ++ (cond minus (bytes "-") [] ++ number)
 
 -- a row: each value is a level or spelled as no data is
 abbrev pub RowOn : (nodata l : List ℕ) → Type 0
@@ -65,12 +68,12 @@ pub record InRange (f : Frame) : Type 0 where
   pub west : f .west ≤ 900000
   pub south : f .south ≤ 900000
 
--- a value that is not spelled as no data is, and a level of 0.00 to 150.00
+-- a value that is not spelled as no data is, and a level of 0.000 to 150.000
 pub record Given (nodata t : List ℕ) : Type 0 where
   pub other : t ≡ nodata → ⊥
   pub number : ℕ
-  pub most : number ≤ 15000
-  pub is : t ≡ showLevel number
+  pub most : number ≤ 150000
+  pub is : InThousandths t number
 
 abbrev pub AllGiven : (text : List ℕ) (first : ℕ) (nodata : List ℕ) → Type 0
 AllGiven text first nodata =

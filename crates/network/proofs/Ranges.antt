@@ -18,11 +18,11 @@ use Rattle.network.proofs.Refusals.{both, in-between, contour-then}
 
 -- ---- each test passes exactly if what it stands for holds
 
-levels-right : (levels : List ℕ) → (allWithin 15000 levels ≡ true) ↔ RightLevels levels
-levels-right levels = (λ h i l. within-at 15000 levels i h, within-each 15000 levels)
+levels-right : (levels : List ℕ) → (allWithin 150000 levels ≡ true) ↔ RightLevels levels
+levels-right levels = (λ h i l. within-at 150000 levels i h, within-each 150000 levels)
 
-contour-right : (v : ℕ) → (between 1 v 15000 ≡ true) ↔ RightContour v
-contour-right v = (λ h. in-between 1 v 15000 h, λ h. rw (le-leb 1 v (h .0), le-leb v 15000 (h .1)))
+contour-right : (v : ℕ) → (between 1 v 150000 ≡ true) ↔ RightContour v
+contour-right v = (λ h. in-between 1 v 150000 h, λ h. rw (le-leb 1 v (h .0), le-leb v 150000 (h .1)))
 
 -- a frame by itself: its sides, its spacing and its place
 abbrev pub FrameRange : Frame → Type 0
@@ -130,7 +130,7 @@ contour-refused levels f v rest e =
     let i = in-order (RightFrame levels f) (RightLevels levels) (RightContour v) rest
     (other 12 (λ h. omega arith) (λ h. omega arith))
     (other 13 (λ h. omega arith) (λ h. omega arith)) (other 15 (λ h. omega arith) (λ h. omega arith))
-    (sided f && placed f && filled levels f) (allWithin 15000 levels) (between 1 v 15000)
+    (sided f && placed f && filled levels f) (allWithin 150000 levels) (between 1 v 150000)
     (frame-right levels f) (levels-right levels) (contour-right v) in
     record { twelve = i .0 .0; thirteen = i .0 .1; fifteen = i .1 .0; others = i .1 .1 }
   where
@@ -156,7 +156,7 @@ pub network-refused : (levels : List ℕ) (f : Frame) → NetworkRefused levels 
 network-refused levels f =
     let i = in-order (RightFrame levels f) (RightLevels levels) (Unit {0}) 0
     (λ h. omega arith) (λ h. omega arith) (λ h. omega arith)
-    (sided f && placed f && filled levels f) (allWithin 15000 levels) true
+    (sided f && placed f && filled levels f) (allWithin 150000 levels) true
     (frame-right levels f) (levels-right levels) (λ _. tt, λ _. refl) in
     record {
       twelve = i .0 .0;

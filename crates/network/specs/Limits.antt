@@ -23,13 +23,13 @@ maxSpacing = 500
 abbrev pub maxOrigin : ℕ
 maxOrigin = 900000
 
--- a network's levels, from 0
+-- a network's levels in thousandths, from 0
 abbrev pub maxNetworkLevel : ℕ
-maxNetworkLevel = 15000
+maxNetworkLevel = 150000
 
--- a contour's level
+-- a contour's level in thousandths
 abbrev pub leastContour : ℕ
 leastContour = 1
 
 abbrev pub maxContour : ℕ
-maxContour = 15000
+maxContour = 150000

@@ -17,13 +17,13 @@ pub record RightFrame (levels : List ℕ) (f : Frame) : Type 0 where
   pub south : f .south ≤ 900000
   pub values : length levels ≡ f .rows * f .columns
 
--- 13 otherwise: no level over 15,000
+-- 13 otherwise: no level over 150,000 thousandths
 abbrev pub RightLevels : List ℕ → Type 0
-RightLevels levels = (i : ℕ) → i < length levels → getD levels i 0 ≤ 15000
+RightLevels levels = (i : ℕ) → i < length levels → getD levels i 0 ≤ 150000
 
--- 15 otherwise: a contour level of 1 to 15,000
+-- 15 otherwise: a contour level of 1 to 150,000 thousandths
 abbrev pub RightContour : ℕ → Type 0
-RightContour v = (1 ≤ v) × (v ≤ 15000)
+RightContour v = (1 ≤ v) × (v ≤ 150000)
 
 -- a network is refused in the order 12, 13, each exactly when its reason holds and no earlier one does
 pub record NetworkRefused (levels : List ℕ) (f : Frame) (answer : ℕ) : Type 0 where

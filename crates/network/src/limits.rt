@@ -11,8 +11,8 @@ pub const MAX_SPACING: u32 = 500;
 
 pub const MAX_ORIGIN: u32 = 900_000;
 
-pub const MAX_NETWORK_LEVEL: u32 = 15_000;
+pub const MAX_NETWORK_LEVEL: u32 = 150_000;
 
 pub const LEAST_CONTOUR: u32 = 1;
 
-pub const MAX_CONTOUR: u32 = 15_000;
+pub const MAX_CONTOUR: u32 = 150_000;

@@ -58,16 +58,9 @@ pub fn is_number(n: Number) -> bool {
     }
 }
 
-// A field that should be a level.
-pub fn level(out: &mut [u8; ROOM], at: usize, t: &[u8]) -> usize {
+// A field that should be a level with so many decimals, said in words.
+fn with_decimals(out: &mut [u8; ROOM], at: usize, t: &[u8], decimals: &[u8]) -> usize {
     let next = found(out, at, t);
-    if is_digits(t) {
-        return words(
-            out,
-            next,
-            b", a level without decimals, expected two, as 56.00",
-        );
-    }
     if has(t, b',') {
         return words(
             out,
@@ -75,9 +68,25 @@ pub fn level(out: &mut [u8; ROOM], at: usize, t: &[u8]) -> usize {
             b", with a decimal comma, expected a point, as 56.00",
         );
     }
-    words(
+    if is_digits(t) {
+        let comma = words(out, next, b", a level without decimals, expected ");
+        let end = words(out, comma, decimals);
+        return words(out, end, b", as 56.00");
+    }
+    let comma = words(
         out,
         next,
-        b", expected one to three digits, a point and two decimals, as 56.00",
-    )
+        b", expected one to three digits, a point and ",
+    );
+    let end = words(out, comma, decimals);
+    words(out, end, b" decimals, as 56.00")
+}
+
+// A field that should be a level, and one that should be a level of a network.
+pub fn level(out: &mut [u8; ROOM], at: usize, t: &[u8]) -> usize {
+    with_decimals(out, at, t, b"two")
+}
+
+pub fn network_level(out: &mut [u8; ROOM], at: usize, t: &[u8]) -> usize {
+    with_decimals(out, at, t, b"two or three")
 }

@@ -40,12 +40,13 @@ pub fn number(out: &mut [u8; ROOM], at: usize, n: u64) -> usize {
     words(out, at, &digits[..size])
 }
 
-// A level, with its two decimals.
-pub fn level(out: &mut [u8; ROOM], at: usize, v: u32) -> usize {
-    let units = number(out, at, (v / 100) as u64);
+// A level of a network, with its three decimals.
+pub fn thousandths(out: &mut [u8; ROOM], at: usize, v: u32) -> usize {
+    let units = number(out, at, (v / 1000) as u64);
     let point = byte(out, units, b'.');
-    let tenth = byte(out, point, b'0' + (v / 10 % 10) as u8);
-    byte(out, tenth, b'0' + (v % 10) as u8)
+    let tenth = byte(out, point, b'0' + (v / 100 % 10) as u8);
+    let hundredth = byte(out, tenth, b'0' + (v / 10 % 10) as u8);
+    byte(out, hundredth, b'0' + (v % 10) as u8)
 }
 
 // A digit of a byte's two in base 16.

@@ -1,9 +1,9 @@
 // Warnings on the contours of a level: none at all, or lines that are open at the map's edge.
 use said::note::ROOM;
 use said::note::byte;
-use said::note::level;
 use said::note::number;
 use said::note::send;
+use said::note::thousandths;
 use said::note::words;
 
 // How many lines are open: their marks are 0.
@@ -19,10 +19,10 @@ fn open_lines(closed: &[u32]) -> usize {
     count
 }
 
-// `level 56.00: `
+// `level 56.000: `
 fn start_of(out: &mut [u8; ROOM], v: u32) -> usize {
     let word = words(out, 0, b"level ");
-    let end = level(out, word, v);
+    let end = thousandths(out, word, v);
     words(out, end, b": ")
 }
 

@@ -37,7 +37,7 @@ fn value_off(out: &mut [u8; ROOM], at: usize, number: u64, row: &[u8], nodata: &
             b" is blank, expected one space between values and none around them",
         );
     }
-    field::level(out, name, &row[start..end])
+    field::network_level(out, name, &row[start..end])
 }
 
 // Why line `number` is off its layout, where rows stand behind `before` lines.
@@ -135,7 +135,7 @@ pub fn overlong(file: &[u8], number: u64, text: &[u8]) {
     let end = words(
         &mut out,
         name,
-        b": 600,000 bytes or more, and no network of 256 rows of 256 values has as many",
+        b": 590,176 bytes or more, and no network of 256 rows of 256 values has as many",
     );
     let size = rule(&mut out, end, 12);
     send(&out, size);

@@ -9,7 +9,7 @@ use text::number::Number;
 
 // Whether a word is a level.
 fn is_level(word: &[u8]) -> bool {
-    match text::number::level(word) {
+    match text::number::thousandths(word) {
         Number::Got(_) => true,
         Number::Off => false,
     }
@@ -19,9 +19,9 @@ fn is_level(word: &[u8]) -> bool {
 fn reason(out: &mut [u8; ROOM], at: usize, word: &[u8]) -> usize {
     if is_level(word) {
         let next = field::found(out, at, word);
-        return words(out, next, b", expected 0.01 to 150.00");
+        return words(out, next, b", expected 0.001 to 150.000");
     }
-    field::level(out, at, word)
+    field::network_level(out, at, word)
 }
 
 // Argument number i, which has this text, is no contour level.
@@ -50,7 +50,7 @@ pub fn too_few() {
     let end = words(
         &mut out,
         0,
-        b"arguments: no contour level, expected one or more from 0.01 to 150.00, as 45.00 56.00",
+        b"arguments: no contour level, expected one or more from 0.001 to 150.000, as 45.00 56.00",
     );
     let size = rule(&mut out, end, 15);
     send(&out, size);

@@ -18,7 +18,7 @@ pub struct Place {
     pub end: usize,
 }
 
-// What is looked for: a value that is none, a level over 150.00 or no data, a row without this many values, or nothing.
+// What is looked for: a value that is none, a level over 150.000 or no data, a row without this many values, or nothing.
 pub enum Sought {
     Off,
     Over,
@@ -28,15 +28,15 @@ pub enum Sought {
 
 // Whether a text is a level.
 fn is_level(t: &[u8]) -> bool {
-    match text::number::level(t) {
+    match text::number::thousandths(t) {
         Number::Got(_) => true,
         Number::Off => false,
     }
 }
 
-// Whether a text is a level over 150.00.
+// Whether a text is a level over 150.000.
 pub(crate) fn is_over(t: &[u8]) -> bool {
-    match text::number::level(t) {
+    match text::number::thousandths(t) {
         Number::Got(v) => MAX_NETWORK_LEVEL < v,
         Number::Off => false,
     }

@@ -177,7 +177,7 @@ fn value_is(out: &mut [u8; ROOM], at: usize, t: &[u8], nodata: &[u8]) -> usize {
     if same_text(t, nodata) {
         return words(out, next, b", which is no data, expected a level");
     }
-    words(out, next, b", expected 150.00 or less")
+    words(out, next, b", expected 150.000 or less")
 }
 
 // A value is refused, in row `number` of the text, which stands behind `before` lines.

@@ -29,9 +29,9 @@ sentences =
     ∷ bytes "the days have to be from 1 to 366"
     ∷ ofNetwork
     (bytes "size (2 to 256 a side), spacing (1 to 500 m), origin (0 to 900,000 m) or the count of values is wrong")
-    ∷ ofNetwork (bytes "a level is over 150.00, or is the no-data value")
+    ∷ ofNetwork (bytes "a level is over 150.000, or is the no-data value")
     ∷ bytes "the room lent for the answer is too small"
-    ∷ bytes "a limit is over 120.00, or a contour level is not from 0.01 to 150.00"
+    ∷ bytes "a limit is over 120.00, or a contour level is not from 0.001 to 150.000"
     ∷ bytes "the register, limits.csv, movements, tracks.csv or the journal is off its layout"
     ∷ ofNetwork (bytes "a line is off its layout, or its line end is LF where CRLF is expected")
     ∷ ofFlights

@@ -100,13 +100,13 @@ fn of_file(out: &mut [u8], number: u32) -> usize
         13 => put_about(
             out,
             b"network: ",
-            b"a level is over 150.00, or is the no-data value",
+            b"a level is over 150.000, or is the no-data value",
         ),
         14 => put_text(out, 0, b"the room lent for the answer is too small"),
         15 => put_text(
             out,
             0,
-            b"a limit is over 120.00, or a contour level is not from 0.01 to 150.00",
+            b"a limit is over 120.00, or a contour level is not from 0.001 to 150.000",
         ),
         16 => put_text(
             out,

@@ -2,6 +2,7 @@
 pub mod Digits
 pub mod Shown
 pub mod Exact
+pub mod Thousandths
 pub mod Free
 pub mod Fields
 pub mod Lines

@@ -11,9 +11,12 @@ longestNumber = 20
 abbrev pub longestField : ℕ
 longestField = 21
 
--- a level under 1000 has at most 6 bytes
+-- a level under 1000 has at most 6 bytes, and with three decimals 7
 abbrev pub longestLevel : ℕ
 longestLevel = 6
+
+abbrev pub longestThousandths : ℕ
+longestThousandths = 7
 
 -- a refusal's one line: its word, two numbers with their commas, and the CRLF
 abbrev pub longestRefused : ℕ

@@ -1,6 +1,8 @@
 -- Numbers as text: whole ones, and numbers with decimals, which are read and written over the number of their decimals.
 -- RULES, "Files and the report program". Assumes nothing.
 use Prim.Native.Nat.{ℕ, zero, suc, _+_, _-_, _*_, _/_, _%_, _^_}
+use mathlib.Core.Path.{_≡_}
+use mathlib.Core.Logic.{_⊎_}
 use mathlib.Core.List.{List, [], _∷_, _++_}
 use mathlib.Core.Bool.{Bool, true, false, _&&_, not, cond}
 use lib.ListN.{length, getD, take, drop}
@@ -89,3 +91,27 @@ levelOf s = decimalOf 2 s
 
 abbrev pub showLevel : ℕ → List ℕ
 showLevel n = showDecimal 2 n
+
+-- ---- levels of a network, counted in thousandths
+
+-- they are written with three decimals
+abbrev pub showThousandths : ℕ → List ℕ
+showThousandths n = showDecimal 3 n
+
+-- hundredths as thousandths
+abbrev pub tenfold : Number → Number
+tenfold (Got n) = Got (n * 10)
+tenfold Off = Off
+
+-- the first, or the second where the first is off
+abbrev pub orElse : Number → Number → Number
+orElse (Got n) other = Got n
+orElse Off other = other
+
+-- and read with three decimals or with two
+unfoldable pub thousandthsOf : List ℕ → Number
+thousandthsOf s = orElse (decimalOf 3 s) (tenfold (decimalOf 2 s))
+
+-- so many thousandths, spelled with three decimals, or with two, behind which a zero is left out
+abbrev pub InThousandths : List ℕ → ℕ → Type 0
+InThousandths t n = (t ≡ showThousandths n) ⊎ (t ++ (byte "0" ∷ []) ≡ showThousandths n)

@@ -8,13 +8,14 @@ ghost use Prim.Native.Nat.{_+_, _*_, _^_, _≤_, _<_};
 ghost use mathlib.Core.List.{[], _∷_};
 ghost use lib.ListN.{length, drop};
 ghost use Rattle.text.specs.Number.{digitsOf, maxDecimals, decimalOf, showNumber, showWhole};
-ghost use Rattle.text.specs.Number.{showDigits, showDecimal, showLevel};
+ghost use Rattle.text.specs.Number.{showDigits, showDecimal, showLevel, showThousandths};
 ghost use Rattle.text.specs.Letter.{letterOf};
 ghost use Rattle.text.specs.Field.{upTo};
 ghost use Rattle.text.specs.Line.{endAt, firstLine};
 ghost use Rattle.text.specs.Spelled.{byte, crlf};
 ghost use Rattle.text.specs.Sheet.{refusedText};
-ghost use Rattle.text.specs.InnerWithin.{longestNumber, longestField, longestLevel, longestRefused, WroteWithin};
+ghost use Rattle.text.specs.InnerWithin.{longestNumber, longestField, longestLevel, longestThousandths};
+ghost use Rattle.text.specs.InnerWithin.{longestRefused, WroteWithin};
 ghost use Rattle.room.specs.Room.{Wrote};
 
 // The value of a run of at most seven digits.
@@ -221,6 +222,14 @@ pub fn put_level(out: &mut [u8], at: usize, n: u32) -> usize
     put_decimal(out, at, n, 2)
 }
 
+// A level of a network, which has three.
+pub fn put_thousandths(out: &mut [u8], at: usize, n: u32) -> usize
+    requires { ⌜ (n < 1000000) × (at + length (showThousandths n) ≤ length (now out)) ⌝ }
+    ensures { λ r. ⌜ Wrote (now (out .entry)) at (showThousandths n) (now (out .exit)) r ⌝ }
+{
+    put_decimal(out, at, n, 3)
+}
+
 // A number, in room for the longest; and with a comma before it.
 pub fn put_any_number(out: &mut [u8], at: usize, n: u64) -> usize
     requires { ⌜ at + longestNumber ≤ length (now out) ⌝ }
@@ -247,12 +256,20 @@ pub fn put_word(out: &mut [u8], at: usize, text: &[u8]) -> usize
     put_text(out, next, text)
 }
 
-// A level, in room for the longest.
+// A level, in room for the longest; and one of a network.
 pub fn put_any_level(out: &mut [u8], at: usize, n: u32) -> usize
     requires { ⌜ (n < 100000) × (at + longestLevel ≤ length (now out)) ⌝ }
     ensures { λ r. ⌜ WroteWithin longestLevel (now (out .entry)) at (showLevel n) (now (out .exit)) r ⌝ }
 {
     put_level(out, at, n)
+}
+
+pub fn put_any_thousandths(out: &mut [u8], at: usize, n: u32) -> usize
+    requires { ⌜ (n < 1000000) × (at + longestThousandths ≤ length (now out)) ⌝ }
+    ensures { λ r. ⌜ WroteWithin longestThousandths (now (out .entry)) at (showThousandths n)
+        (now (out .exit)) r ⌝ }
+{
+    put_thousandths(out, at, n)
 }
 
 // The end of a line.

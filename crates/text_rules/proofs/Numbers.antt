@@ -4,9 +4,10 @@ use Prim.Native.Nat.{ℕ, zero, suc, _+_, _-_, _/_, _%_, _^_, _≤_, _<_}
 use native.Mathlib.{Omega.arith, Nat.pow-zero, Nat.pow-suc, Nat.div-div-eq-div-mul, Nat.mul-comm}
 use lib.{Dec.ltb, ListN.length, ListN.getD, ListN.length-append, ListN.List·getD-append, Seq.getD-append-seam}
 use borrow.Author.Tests.{ltb-true, ltb-false}
-use Rattle.text.specs.Number.{wholeOf, levelOf, shown, showWhole, showLevel}
+use Rattle.text.specs.Number.{wholeOf, levelOf, shown, showWhole, showLevel, showThousandths}
 use Rattle.text.proofs.{Digits.either, Digits.whole-small, Exact.whole-exact, Exact.level-exact, Exact.level-small}
 use Rattle.text.proofs.Shown.{shown-one, shown-more, whole-back, level-back}
+use Rattle.text.proofs.Thousandths.{thousandths-read, thousandths-exact}
 use Rattle.text_rules.specs.Texts.{InDigits, NumbersAre}
 
 -- one digit
@@ -80,6 +81,14 @@ level-digits n =
     let last : n % 100 % 10 ≡ n % 10 = omega arith in
     rw (tenth, last) refl
 
+thousandths-digits : (n : ℕ) → showThousandths n ≡ showWhole (n / 1000)
+    ++ (46 ∷ ((48 + n / 100 % 10) ∷ ((48 + n / 10 % 10) ∷ ((48 + n % 10) ∷ []))))
+thousandths-digits n =
+    let first : n % 1000 / 100 ≡ n / 100 % 10 = omega arith in
+    let second : n % 1000 % 100 / 10 ≡ n / 10 % 10 = omega arith in
+    let last : n % 1000 % 100 % 10 ≡ n % 10 = omega arith in
+    rw (first, second, last) refl
+
 pub numbers-are : NumbersAre
 numbers-are =
     record {
@@ -87,6 +96,7 @@ numbers-are =
       whole = λ n h. in-digits 6 n h;
       two = λ n h. refl;
       level = level-digits;
+      thousandths = thousandths-digits;
       whole-read = λ s n. (
         λ e. (whole-small s n e, whole-exact s n e),
         λ h. ap wholeOf (h .1)
@@ -97,4 +107,5 @@ numbers-are =
         λ h. ap levelOf (h .1)
             ∙ level-back n (h .0),
       );
+      thousandths-read = λ s n. (thousandths-exact s n, λ h. thousandths-read s n (h .0) (h .1));
     }

@@ -2,12 +2,13 @@
 -- "Files and the report program". Each says all that a definition can mean. Assumes nothing.
 use Prim.Native.Nat.{ℕ, suc, _+_, _-_, _/_, _%_, _^_, _≤_, _<_}
 use mathlib.Core.Path.{_≡_}
-use mathlib.Core.Logic.{_↔_}
+use mathlib.Core.Logic.{_↔_, _⊎_}
 use mathlib.Core.List.{List, [], _∷_, _++_}
 use lib.ListN.{length, getD}
 use Rattle.text.specs.Line.{linesOf, bareLine}
 use Rattle.text.specs.Field.{countOf, fieldOf}
-use Rattle.text.specs.Number.{wholeOf, levelOf, showWhole, showNumber, showDigits, showLevel}
+use Rattle.text.specs.Number.{wholeOf, levelOf, thousandthsOf, showWhole, showNumber, showDigits, showLevel}
+use Rattle.text.specs.Number.{showThousandths}
 use Rattle.text.specs.declared.number.Number.the-variants.{Got}
 
 -- Lines
@@ -66,6 +67,12 @@ pub record NumbersAre : Type 0 where
   -- a level: the whole dB, a point, 46, tenths and hundredths
   pub level : (n : ℕ)
       → showLevel n ≡ showWhole (n / 100) ++ (46 ∷ ((48 + n / 10 % 10) ∷ ((48 + n % 10) ∷ [])))
+  -- a level of a network: the whole dB, a point, tenths, hundredths and thousandths
+  pub thousandths : (n : ℕ) → showThousandths n
+      ≡ showWhole (n / 1000) ++ (46 ∷ ((48 + n / 100 % 10) ∷ ((48 + n / 10 % 10) ∷ ((48 + n % 10) ∷ []))))
   -- a text is read as a number exactly if it is how the number is spelled: up to seven digits, up to 999.99
   pub whole-read : (s : List ℕ) (n : ℕ) → wholeOf s ≡ Got n ↔ (n < 10 ^ 7) × (s ≡ showWhole n)
   pub level-read : (s : List ℕ) (n : ℕ) → levelOf s ≡ Got n ↔ (n < 100000) × (s ≡ showLevel n)
+  -- a level of a network with three decimals, or with two, where the third would be a zero, 48: up to 999.999
+  pub thousandths-read : (s : List ℕ) (n : ℕ)
+      → thousandthsOf s ≡ Got n ↔ (n < 1000000) × ((s ≡ showThousandths n) ⊎ (s ++ (48 ∷ []) ≡ showThousandths n))

@@ -21,7 +21,7 @@ use Rattle.contour_rules.specs.Contours.{waiting, follow, without, swept, cross
 use Rattle.text.specs.Number.{shown}
 use Rattle.wkt.specs.Text.{placeText, pointsText, linesText, textOf}
 use Rattle.worked.specs.Cases.{InPeriod, EnterAnswered, CaseHolds, AllHold, cases, hill, hillFrame}
-use Rattle.worked.specs.Cases.{hillContours, hillText}
+use Rattle.worked.specs.Cases.{hillContours, hillText, innerText}
 use Rattle.worked.specs.Cases.Case.{contour}
 
 -- a group's period is read from its number
@@ -104,9 +104,13 @@ unfolding energyOf
 of-energy c a e = rw e
 
 -- the hill, whose contours and text antt computes
-of-hill : CaseHolds (contour hill hillFrame 4500 hillContours hillText)
+of-hill : CaseHolds (contour hill hillFrame 45000 hillContours hillText)
 unfolding waiting follow without swept crossedTo shown placeText pointsText linesText textOf
 of-hill = (refl, refl)
+
+of-inner : CaseHolds (contour hill hillFrame 45001 hillContours innerText)
+unfolding waiting follow without swept crossedTo shown placeText pointsText linesText textOf
+of-inner = (refl, refl)
 
 -- one case more
 also : {A B : Type 0} → A → B → A × B
@@ -131,4 +135,5 @@ all-hold =
     (also (of-energy 6500 _ a-500)
     (also (of-energy 7500 _ a-500)
     (also (of-energy 13000 _ a-0)
-    (also of-hill tt))))))))))))))))
+    (also of-hill
+    (also of-inner tt)))))))))))))))))

@@ -54,9 +54,9 @@ abbrev pub AllHold : List Case → Type 0
 AllHold [] = Unit {0}
 AllHold (x ∷ xs) = CaseHolds x × AllHold xs
 
--- three by three points, 100 m, origin 0, the middle 50.00 and the others 40.00
+-- three by three points, 100 m, origin 0, the middle 50.000 and the others 40.000
 abbrev pub hill : List ℕ
-hill = 4000 ∷ 4000 ∷ 4000 ∷ 4000 ∷ 5000 ∷ 4000 ∷ 4000 ∷ 4000 ∷ 4000 ∷ []
+hill = 40000 ∷ 40000 ∷ 40000 ∷ 40000 ∷ 50000 ∷ 40000 ∷ 40000 ∷ 40000 ∷ 40000 ∷ []
 
 abbrev pub hillFrame : Frame
 hillFrame = record { columns = 3; rows = 3; spacing = 100; west = 0; south = 0 }
@@ -68,6 +68,11 @@ hillContours = record { edges = 2 ∷ 7 ∷ 3 ∷ 10 ∷ []; closes = true } ∷
 abbrev pub hillText : List ℕ
 hillText =
     bytes "MULTILINESTRING ((50.000 100.000, 100.000 50.000, 150.000 100.000, 100.000 150.000, 50.000 100.000))"
+
+-- a thousandth higher the line lies 10 mm further in
+abbrev pub innerText : List ℕ
+innerText =
+    bytes "MULTILINESTRING ((50.010 100.000, 100.000 50.010, 149.990 100.000, 100.000 149.990, 50.010 100.000))"
 
 abbrev pub cases : List Case
 cases =
@@ -87,5 +92,6 @@ cases =
     ∷ energy 6500 3162277
     ∷ energy 7500 31622770
     ∷ energy 13000 (10 ^ 13)
-    ∷ contour hill hillFrame 4500 hillContours hillText
+    ∷ contour hill hillFrame 45000 hillContours hillText
+    ∷ contour hill hillFrame 45001 hillContours innerText
     ∷ []

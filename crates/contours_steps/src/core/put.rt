@@ -1,6 +1,6 @@
 // What stands around the texts of contours, put into a lent buffer that has room. A writer writes from a place on and
 // answers the place past its text.
-use text::core::put_any_level;
+use text::core::put_any_thousandths;
 use text::core::put_byte;
 use text::core::put_end;
 use text::core::put_field;
@@ -10,12 +10,12 @@ ghost use lib.ListN.{length};
 ghost use Rattle.room.specs.Room.{Wrote};
 ghost use Rattle.contours_steps.specs.Sheet.{lineStart, refusedLine};
 
-// A level and its semicolon.
+// A level in thousandths and its semicolon.
 pub fn put_start(out: &mut [u8], v: u32) -> usize
-    requires { ⌜ (v < 100000) × (7 ≤ length (now out)) ⌝ }
+    requires { ⌜ (v < 1000000) × (8 ≤ length (now out)) ⌝ }
     ensures { λ r. ⌜ Wrote (now (out .entry)) 0 (lineStart v) (now (out .exit)) r ⌝ }
 {
-    let next = put_any_level(out, 0, v);
+    let next = put_any_thousandths(out, 0, v);
     put_byte(out, next, b';')
 }
 

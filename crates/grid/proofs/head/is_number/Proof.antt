@@ -11,14 +11,14 @@ returns-2 : tie.Need-returns-2
 returns-2 c =
     let off = sym (c .before .before .before .before .before .whole .ensures)
     ∙ c .before .before .before .enum-told2 .given .1 in
-    let got = sym (c .before .before .level .ensures) ∙ c .enum-told3 .given .1 in
+    let got = sym (c .before .before .thousandths .ensures) ∙ c .enum-told3 .given .1 in
     rw (off, got)
 
 returns-3 : tie.Need-returns-3
 returns-3 c =
     let off = sym (c .before .before .before .before .before .whole .ensures)
     ∙ c .before .before .before .enum-told2 .given .1 in
-    let too = sym (c .before .before .level .ensures) ∙ c .enum-told4 .given .1 in
+    let too = sym (c .before .before .thousandths .ensures) ∙ c .enum-told4 .given .1 in
     rw (off, too)
 
 pub is-number-spec : {M : Type 1} → statement M

@@ -14,7 +14,7 @@ other c = sym (c .before .same-text .ensures) ∙ c .if1 .left
 returns-2 : tie.Need-returns-2
 returns-2 c =
     let read = c .before .before .before .before in
-    sym (level-here _ _ _ (other (read .before)) (sym (read .level .ensures) ∙ c .before .before .v .given .1)
+    sym (level-here _ _ _ (other (read .before)) (sym (read .thousandths .ensures) ∙ c .before .before .v .given .1)
     (c .if2 .taken))
 
 enum-told : tie.Need-enum-told
@@ -23,13 +23,13 @@ enum-told c = search needs
 returns-3 : tie.Need-returns-3
 returns-3 c =
     let read = c .before .before .before .before in
-    sym (high-here _ _ _ (other (read .before)) (sym (read .level .ensures) ∙ c .before .before .v .given .1)
+    sym (high-here _ _ _ (other (read .before)) (sym (read .thousandths .ensures) ∙ c .before .before .v .given .1)
     (c .if2 .left))
 
 returns-4 : tie.Need-returns-4
 returns-4 c =
     let read = c .before .before in
-    sym (neither-here _ _ (other (read .before)) (sym (read .level .ensures) ∙ c .enum-told .given .1))
+    sym (neither-here _ _ (other (read .before)) (sym (read .thousandths .ensures) ∙ c .enum-told .given .1))
 
 pub value-refusal-spec : {M : Type 1} → statement M
 value-refusal-spec =

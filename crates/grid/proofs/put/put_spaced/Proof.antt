@@ -8,7 +8,7 @@ returns : tie.Need-returns
 returns c =
     let at-put-byte = c .before .before .before .before .before .before in
     let start = at-put-byte .before .before .before in
-    wrote-then (start .pre .1) (at-put-byte .put-byte .ensures) (c .before .before .put-level .ensures)
+    wrote-then (start .pre .1) (at-put-byte .put-byte .ensures) (c .before .before .put-thousandths .ensures)
 
 pub put-spaced-spec : {M : Type 1} → statement M
 put-spaced-spec = tie.close (tie.spec (λ c κs. search needs) (λ c κs. search needs) (λ c. search needs) returns)

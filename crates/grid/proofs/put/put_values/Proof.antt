@@ -5,7 +5,7 @@ use mathlib.Core.{Path._≡_, Path.refl, Path.ap, Path._∙_, List.List, List._�
 use native.Mathlib.Omega.{arith}
 use borrow.Author.Needs.{needs}
 use lib.ListN.{length, getD, drop, length-append}
-use Rattle.text.specs.Number.{showLevel}
+use Rattle.text.specs.Number.{showThousandths}
 use Rattle.room.proofs.Laws.{wrote-then}
 use Rattle.room.proofs.Writing.{Writing, writing-start, writing-room, writing-more, writing-end}
 use Rattle.grid.proofs.WriteLaws.{spacedOf, spaced-more, spaced-none, row-first}
@@ -20,8 +20,8 @@ Inv-loop out₀ from row at₀ i₀ out at i =
 abbrev μ-loop : tie.MeasureT-loop
 μ-loop out₀ from row at₀ i₀ out at i = length row - i
 
-put-level-requires : tie.Need-put-level-requires Inv-loop μ-loop
-put-level-requires c κs =
+put-thousandths-requires : tie.Need-put-thousandths-requires Inv-loop μ-loop
+put-thousandths-requires c κs =
     let a = c .before .before .before .before in
     let row = a .args .row .now in (
       omega (arith, a .pre .1 0),
@@ -29,7 +29,7 @@ put-level-requires c κs =
         arith,
         a .pre .2,
         ap length (row-first row (a .pre .0)),
-        length-append (showLevel (getD row 0 0))
+        length-append (showThousandths (getD row 0 0))
             (spacedOf (drop 1 row)),
       ),
     )
@@ -44,29 +44,29 @@ loop-holds c = (
 
 -- past the first level there is room for the others
 started : (c : tie.After-slice-known2 Inv-loop μ-loop)
-    → c .before .before .put-level .result + length
+    → c .before .before .put-thousandths .result + length
     (spacedOf (drop 1 (c .before .before .before .before .before .before .before .args .row .now))) ≤ length
-    (c .before .before .put-level .last .0)
+    (c .before .before .put-thousandths .last .0)
 started c =
     let a = c .before .before .before .before .before .before .before in
     let row = a .args .row .now in
-    let p = c .before .before .put-level in
+    let p = c .before .before .put-thousandths in
     omega (
       arith,
       a .pre .2,
       ap length (row-first row (a .pre .0)),
-      length-append (showLevel (getD row 0 0))
+      length-append (showThousandths (getD row 0 0))
           (spacedOf (drop 1 row)),
       p .ensures .place,
       p .kept .0,
     )
 
 -- what is left begins with the next space and level
-next : (c : tie.In-loop Inv-loop μ-loop) → let at-put-level = c .before .before .before .before in
-    let start = at-put-level .before .before .before .before .before in
-    let a = start .args in let l = c .before .loop in let p = at-put-level .put-level in
+next : (c : tie.In-loop Inv-loop μ-loop) → let at-put-thousandths = c .before .before .before .before in
+    let start = at-put-thousandths .before .before .before .before .before in
+    let a = start .args in let l = c .before .loop in let p = at-put-thousandths .put-thousandths in
     Writing (p .last .0) (p .result) (spacedOf (drop 1 (a .row .now))) (l .out) (l .at)
-    ((32 ∷ showLevel (getD (a .row .now) (l .i) 0)) ++ spacedOf (drop (l .i + 1) (a .row .now)))
+    ((32 ∷ showThousandths (getD (a .row .now) (l .i) 0)) ++ spacedOf (drop (l .i + 1) (a .row .now)))
 next c =
     let at-loop = c .before in
     let start = at-loop .before .before .before .before .before .before .before .before in
@@ -77,7 +77,7 @@ put-spaced-requires c κs =
     let at-slice-known2 = c .before .before .before .before in
     let a = at-slice-known2 .before .before .before .before .before .before .before in
     let l = c .before .before .before .loop in
-    let piece : List ℕ = 32 ∷ showLevel (getD (a .args .row .now) (l .i) 0) in (
+    let piece : List ℕ = 32 ∷ showThousandths (getD (a .args .row .now) (l .i) 0) in (
       a .pre .1 (l .i),
       omega (
         arith,
@@ -94,7 +94,7 @@ loop-again c =
     let start = at-slice-known2 .before .before .before .before .before .before .before in
     let a = start .args in
     let l = at-loop .loop in
-    let piece : List ℕ = 32 ∷ showLevel (getD (a .row .now) (l .i) 0) in (
+    let piece : List ℕ = 32 ∷ showThousandths (getD (a .row .now) (l .i) 0) in (
       writing-more piece (spacedOf (drop (l .i + 1) (a .row .now))) (next at-loop-test) (started at-slice-known2)
           (c .before .before .put-spaced .ensures),
       omega arith,
@@ -104,17 +104,17 @@ loop-again c =
 
 returns : tie.Need-returns Inv-loop μ-loop
 returns c =
-    let at-put-level = c .before .before .before .before in
-    let a = at-put-level .before .before .before .before .before in
+    let at-put-thousandths = c .before .before .before .before in
+    let a = at-put-thousandths .before .before .before .before .before in
     let row = a .args .row .now in
     let l = c .before .loop in
     let first = row-first row (a .pre .0) in
     let rest = writing-end (rw (spaced-none row (l .i) (c .loop-test .left)) at (l .inv .0)) in
-    rw first (wrote-then (omega (arith, a .pre .2, ap length first)) (at-put-level .put-level .ensures) rest)
+    rw first (wrote-then (omega (arith, a .pre .2, ap length first)) (at-put-thousandths .put-thousandths .ensures) rest)
 
 pub put-values-spec : {M : Type 1} → statement M
 put-values-spec =
     tie.close (tie.spec Inv-loop μ-loop (λ c. omega (arith, c .before .before .before .before .pre .0))
-    put-level-requires loop-holds (λ c. search needs) (λ c. search needs) put-spaced-requires (λ c. search needs)
+    put-thousandths-requires loop-holds (λ c. search needs) (λ c. search needs) put-spaced-requires (λ c. search needs)
     (λ c. search needs) loop-again
-    (λ c. c .before .loop .inv .3 ∙ c .before .before .before .before .put-level .kept .0) returns)
+    (λ c. c .before .loop .inv .3 ∙ c .before .before .before .before .put-thousandths .kept .0) returns)

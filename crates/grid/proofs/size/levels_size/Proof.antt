@@ -5,14 +5,14 @@ use mathlib.Core.Path.{_≡_}
 use native.Mathlib.Omega.{arith}
 use borrow.Author.Needs.{needs}
 use lib.ListN.{length, getD, drop}
-use Rattle.text.proofs.Shown.{level-most}
+use Rattle.text.proofs.Thousandths.{thousandths-most}
 use Rattle.grid.specs.InnerSteps.{sizesOf}
 use Rattle.grid.proofs.WriteSizes.{sizes-more, sizes-none}
 use Rattle.grid.proofs.size.levels_size.Statement.{statement}
 use Rattle.grid.proofs.size.levels_size.Tie as tie
 
 abbrev Inv-loop : tie.InvT-loop
-Inv-loop levels total₀ i₀ total i = (total + sizesOf (drop i levels) ≡ sizesOf levels) × (total ≤ 7 * i)
+Inv-loop levels total₀ i₀ total i = (total + sizesOf (drop i levels) ≡ sizesOf levels) × (total ≤ 8 * i)
     × (i ≤ length levels)
 
 abbrev μ-loop : tie.MeasureT-loop
@@ -21,19 +21,19 @@ abbrev μ-loop : tie.MeasureT-loop
 -- what one level adds
 added : (c : tie.After-level-size Inv-loop μ-loop) → let a = c .before .before .before .before .before .args in
     let l = c .before .before .before .loop in
-    (c .level-size .result ≤ 6)
+    (c .level-size .result ≤ 7)
     × (sizesOf (drop (l .i) (a .levels .now)) ≡ c .level-size .result + 1 + sizesOf
     (drop (l .i + 1) (a .levels .now)))
 added c =
     let a = c .before .before .before .before .before .args in
     let l = c .before .before .before .loop in
     let quiet = c .before .before .before .before .before .pre .1 (l .i) in (
-      omega (arith, c .level-size .ensures, level-most (getD (a .levels .now) (l .i) 0) (omega arith)),
+      omega (arith, c .level-size .ensures, thousandths-most (getD (a .levels .now) (l .i) 0) (omega arith)),
       rw (c .level-size .ensures) (sizes-more (a .levels .now) (l .i) (c .before .before .loop-test .taken)),
     )
 
 -- what is added up stays small
-small : (c : tie.After-level-size Inv-loop μ-loop) → c .before .before .before .loop .total + 7 < 2 ^ 64
+small : (c : tie.After-level-size Inv-loop μ-loop) → c .before .before .before .loop .total + 8 < 2 ^ 64
 small c =
     let i = c .before .before .before .loop .inv in
     omega (arith, i .1, i .2, c .before .before .before .before .before .pre .0)

@@ -8,7 +8,7 @@ use Rattle.grid.proofs.size.text_size.Statement.{statement}
 use Rattle.grid.proofs.size.text_size.Tie as tie
 
 -- the sizes are small
-most : (c : tie.After-levels-size) → (c .before .head-size .result ≤ 86) × (c .levels-size .result ≤ 458752)
+most : (c : tie.After-levels-size) → (c .before .head-size .result ≤ 86) × (c .levels-size .result ≤ 524288)
 most c =
     let s = c .before .before .before in (
       omega (arith, c .before .head-size .ensures, head-most (s .args .frame) (near _ _ (s .pre))),

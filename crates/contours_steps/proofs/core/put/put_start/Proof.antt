@@ -9,7 +9,7 @@ returns : tie.Need-returns
 returns c =
     let byte = c .before .before in
     let level = byte .before .before .before .before in
-    within-then (level .before .before .before .pre .1) (level .put-any-level .ensures)
+    within-then (level .before .before .before .pre .1) (level .put-any-thousandths .ensures)
     (within {m = 1} (omega arith) (byte .put-byte .ensures)) .wrote
 
 pub put-start-spec : {M : Type 1} → statement M
