@@ -85,15 +85,12 @@ joined-free : (n : ℕ) → countOf 13 (joined n) ≡ 0
 unfolding spelling countOf
 joined-free zero = ap (countOf 13) joined-one
 joined-free (suc n) =
-    ap (countOf 13) (joined-more n) ∙ count-append 13 spelling (32 ∷ joined n) ∙ joined-free n
+    ap (countOf 13) (joined-more n) ∙ count-append 13 spelling (32 ∷ joined n)
+    ∙ omega (arith, joined-free n)
 
 joined-values : (n : ℕ) → valuesOf (joined n) ≡ times (suc n) spelling
-unfolding spelling countOf
-joined-values zero = ap valuesOf joined-one ∙ value-alone spelling refl ∙ sym (one spelling)
-  where
-    one : (t : List ℕ) → times 1 t ≡ t ∷ []
-    unfolding times
-    one t = refl
+unfolding spelling countOf times
+joined-values zero = ap valuesOf joined-one ∙ value-alone spelling refl
 joined-values (suc n) =
     ap valuesOf (joined-more n) ∙ value-apart spelling (joined n) refl
     ∙ ap (λ (ts : List (List ℕ)). spelling ∷ ts) (joined-values n) ∙ sym (times-more (suc n) spelling)

@@ -25,7 +25,7 @@ use Rattle.contours_steps.specs.Sheet.{textRefusal, maxText}
 
 -- ---- lists of texts, each with `more` bytes behind it
 
-pub total : ℕ → List (List ℕ) → ℕ
+unfoldable pub total : ℕ → List (List ℕ) → ℕ
 total more [] = 0
 total more (l ∷ ls) = length l + more + total more ls
 

@@ -3,8 +3,8 @@
 use network::Frame;
 use text::core::put_byte;
 use text::core::put_end;
-use text::core::put_thousandths;
 use text::core::put_text;
+use text::core::put_thousandths;
 use text::core::put_whole;
 ghost use mathlib.Core.List.{_∷_};
 ghost use Prim.Native.Nat.{_+_, _≤_};

@@ -58,7 +58,7 @@ module _ (spells : List ℕ → ℕ → Type 0) (lines : List (List ℕ)) (first
     (fits : rowsFit (frameOf lines) (rowsOf lines) ≡ true)
     (start : rowsOf lines ≡ drop first lines) (there : first ≤ length lines)
     (each : (k c : ℕ) → k < length (rowsOf lines) → c < frameOf lines .columns
-        → let t = getD (valuesOf (getD (rowsOf lines) k [])) c [] in spells t (levelIn t)) where
+    → let t = getD (valuesOf (getD (rowsOf lines) k [])) c [] in spells t (levelIn t)) where
   level : (r c : ℕ) → r < frameOf lines .rows → c < frameOf lines .columns
       → spells (fieldOf 32 c (getD lines (first + (frameOf lines .rows - suc r)) []))
       (getD (levelsOf (rowsOf lines)) (r * frameOf lines .columns + c) 0)

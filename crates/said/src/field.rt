@@ -73,11 +73,7 @@ fn with_decimals(out: &mut [u8; ROOM], at: usize, t: &[u8], decimals: &[u8]) -> 
         let end = words(out, comma, decimals);
         return words(out, end, b", as 56.00");
     }
-    let comma = words(
-        out,
-        next,
-        b", expected one to three digits, a point and ",
-    );
+    let comma = words(out, next, b", expected one to three digits, a point and ");
     let end = words(out, comma, decimals);
     words(out, end, b" decimals, as 56.00")
 }

@@ -64,8 +64,7 @@ shortened t n e =
     omega (arith, ap length e, length-append t (48 ∷ []), decimal-long 3 n) in
     let zero : getD (t ++ (48 ∷ [])) (length t) 0 ≡ 48 = getD-append-seam t 48 [] 0 in
     let last : getD (showDecimal 3 n) (length t) 0 ≡ 48 + n % 1000 % 100 % 10 = rw long (three-at n 3) in
-    let ten : n ≡ n / 10 * 10 = omega (arith, zero, last, ap (λ (s : List ℕ). getD s (length t) 0) e) in
-    (
+    let ten : n ≡ n / 10 * 10 = omega (arith, zero, last, ap (λ (s : List ℕ). getD s (length t) 0) e) in (
       ten,
       append-cancel-right t (showDecimal 2 (n / 10)) (48 ∷ [])
           (e ∙ ap (showDecimal 3) ten ∙ sym (zero-behind (n / 10))),
