@@ -30,8 +30,7 @@ pub fn damage(random: &mut Random, text: &mut Vec<u8>) {
 /// Gives one of the numbers of a text a digit more at its end, or a digit less.
 pub fn damage_decimals(random: &mut Random, text: &mut Vec<u8>) {
     let goes_on = |end: usize| text.get(end).is_some_and(|next| next.is_ascii_digit() || *next == b'.');
-    let ends: Vec<usize> =
-        (1..=text.len()).filter(|&end| text[end - 1].is_ascii_digit() && !goes_on(end)).collect();
+    let ends: Vec<usize> = (1..=text.len()).filter(|&end| text[end - 1].is_ascii_digit() && !goes_on(end)).collect();
     if ends.is_empty() {
         return;
     }
