@@ -2,7 +2,8 @@
 
 Prints lines of the benchmark's table.
 
-contourpy_side.py FOLDER: a folder with the networks smooth, noisy and checkerboard, 256 by 256 levels, one a line.
+contourpy_side.py FOLDER: a folder with the networks smooth, noisy and checkerboard, 256 by 256 levels in thousandths of
+a dB, one a line.
 """
 
 import ctypes
@@ -10,7 +11,7 @@ import os
 import sys
 import time
 
-SIDE, LEVEL, GOAL, TURNS = 256, 5000, 0.25, 40
+SIDE, LEVEL, GOAL, TURNS = 256, 50_000, 0.25, 40
 
 
 def least_times(own, other):

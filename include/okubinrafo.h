@@ -6,7 +6,11 @@
  *
  * A slice is a pointer and the number of its elements (not of bytes). The pointer is not null, not even for a slice of
  * no elements, and aligned for its type. A slice that a call may write to overlaps no other slice of that call.
- * Points are counted from 0 here and from 1 in files. Levels are hundredths of a dB.
+ * Points are counted from 0 here and from 1 in files.
+ *
+ * Two units: the levels of a book, of a load and of a limit are hundredths of a dB; the levels of a network and of its
+ * contours are thousandths of a dB, in every call that takes or gives them. No call can tell one unit from the other:
+ * 4500, meant as 45.00 dB, is a network or contour level of 4.500 dB.
  */
 #ifndef OKUBINRAFO_H
 #define OKUBINRAFO_H
@@ -24,15 +28,15 @@ enum {
     OKUBINRAFO_ALREADY_STANDS = 4,        /* the identity already stands */
     OKUBINRAFO_DOES_NOT_STAND = 5,        /* the identity doesn't stand */
     OKUBINRAFO_NO_UNUSED_ROW = 6,         /* the book is full */
-    OKUBINRAFO_WRONG_LEVELS = 7,          /* another number of levels than points, or one over 12,000 */
+    OKUBINRAFO_WRONG_LEVELS = 7,          /* another number of levels than points, or one over 12,000 hundredths */
     OKUBINRAFO_NO_LEVELS_HELD = 8,        /* nothing to take back */
     OKUBINRAFO_NOT_SOUND = 9,             /* the book, its number of points, the point asked for, or yes and no */
     OKUBINRAFO_NONE_COMPUTED = 10,        /* movements count at the point and none of them is computed */
     OKUBINRAFO_WRONG_DAYS = 11,           /* outside 1 to 366 */
     OKUBINRAFO_WRONG_NETWORK = 12,        /* size, spacing, origin or count of values */
-    OKUBINRAFO_WRONG_NETWORK_LEVEL = 13,  /* over 15,000, or no data */
+    OKUBINRAFO_WRONG_NETWORK_LEVEL = 13,  /* over 150,000 thousandths, or no data */
     OKUBINRAFO_TOO_LITTLE_ROOM = 14,      /* less room is lent than the answer needs */
-    OKUBINRAFO_WRONG_LEVEL_ASKED = 15,    /* a limit or contour level outside its range */
+    OKUBINRAFO_WRONG_LEVEL_ASKED = 15,    /* limit over 12,000 hundredths, contour level not 1..150,000 thousandths */
     OKUBINRAFO_REGISTER_OFF_LAYOUT = 16,  /* the text of a register, or a journal's numbers */
     OKUBINRAFO_NETWORK_OFF_LAYOUT = 17,   /* the text of a network */
     OKUBINRAFO_WRONG_FLIGHTS = 18,        /* movements or tracks: too many, columns of unequal length, a value */
@@ -45,7 +49,7 @@ extern "C" {
 
 /* A book: five columns lent by the caller, all zero at first. Rows: identities_len, 1 to 50,000; groups and marks have
  * as many numbers, counts and levels have points (1 to 8) numbers a row. counts: 1 where the movement counts; 0 where
- * it doesn't, and there its level is 0 too. */
+ * it doesn't, and there its level is 0 too. levels: hundredths of a dB, 0 to 12,000. */
 #define OKUBINRAFO_BOOK                                                                              \
     uint32_t *identities, size_t identities_len, uint32_t *groups, size_t groups_len,                \
     uint32_t *marks, size_t marks_len, uint32_t *counts, size_t counts_len,                          \
@@ -60,7 +64,7 @@ extern "C" {
  * 1, is refused with 9. */
 uint32_t okubinrafo_enter(OKUBINRAFO_BOOK, uint32_t identity, uint32_t type, uint32_t kind, uint32_t time,
                           uint32_t mass, const uint32_t *given, size_t given_len);
-/* given: one level a point, 0 where the movement doesn't count. */
+/* given: one level a point in hundredths of a dB, 0 to 12,000; 0 where the movement doesn't count. */
 uint32_t okubinrafo_supply(OKUBINRAFO_BOOK, uint32_t identity, const uint32_t *given, size_t given_len);
 uint32_t okubinrafo_take_back(OKUBINRAFO_BOOK, uint32_t identity);
 uint32_t okubinrafo_withdraw(OKUBINRAFO_BOOK, uint32_t identity);
@@ -77,42 +81,48 @@ uint32_t okubinrafo_replay(OKUBINRAFO_BOOK, const uint32_t *journal, size_t jour
                            uint32_t *answers, size_t answers_len);
 
 /* Over the movements that count at the point. answer: 39 numbers: total; 1 if a level is given, 0 if below zero; the
- * level (0 if below zero); V of the 18 groups; U of the 18 groups. */
+ * level in hundredths of a dB (0 if below zero); V of the 18 groups; U of the 18 groups. */
 uint32_t okubinrafo_load(OKUBINRAFO_BOOK_READ, uint32_t point, uint32_t days, uint64_t *answer, size_t answer_len);
 /* How that load comes about, refused as it is. answer: 78 numbers: V, U, S and the scaled energy of each of the 18
  * groups, four a group; upper and lower of the general factor (0 and 0 where no movement counts); P; total; 1 if a
- * level is given, 0 if below zero; the level (0 if below zero). */
+ * level is given, 0 if below zero; the level in hundredths of a dB (0 if below zero). */
 uint32_t okubinrafo_account(OKUBINRAFO_BOOK_READ, uint32_t point, uint32_t days, uint64_t *answer, size_t answer_len);
-/* answer: 1 number: 1 over, 0 within. */
+/* limit: hundredths of a dB, 0 to 12,000. answer: 1 number: 1 over, 0 within. */
 uint32_t okubinrafo_verdict(OKUBINRAFO_BOOK_READ, uint32_t point, uint32_t days, uint32_t limit,
                             uint32_t *answer, size_t answer_len);
 
-/* A network: levels row by row from the south, west to east; spacing and the south-west point in metres. */
+/* A network: levels in thousandths of a dB, 0 to 150,000, row by row from the south, west to east; spacing and the
+ * south-west point in metres. */
 #define OKUBINRAFO_NETWORK                                                                           \
     const uint32_t *levels, size_t levels_len, uint32_t columns, uint32_t rows,                      \
     uint32_t spacing, uint32_t west, uint32_t south
 
-/* edges: edge numbers, contour after contour. counts, closed: one a contour (closed is 0 or 1). sizes: 2 numbers: edges
+/* levels: thousandths of a dB, 0 to 150,000. level: the contour level, thousandths of a dB, 1 to 150,000.
+ * edges: edge numbers, contour after contour. counts, closed: one a contour (closed is 0 or 1). sizes: 2 numbers: edges
  * listed, contours. No answer has more edges than the network, rows*(columns-1) + (rows-1)*columns. */
 uint32_t okubinrafo_contours(OKUBINRAFO_NETWORK, uint32_t level, uint32_t *edges, size_t edges_len,
                              uint32_t *counts, size_t counts_len, uint32_t *closed, size_t closed_len,
                              uint32_t *sizes, size_t sizes_len);
-/* Well-known text; size: 1 number, the bytes written. */
+/* levels: thousandths of a dB, 0 to 150,000. level: thousandths of a dB, 1 to 150,000.
+ * text: well-known text; size: 1 number, the bytes written. */
 uint32_t okubinrafo_print_contours(OKUBINRAFO_NETWORK, uint32_t level, uint8_t *text, size_t text_len,
                                    uint32_t *size, size_t size_len);
 
-/* which: 1 number: 0 none, 1 along a horizontal edge, 2 along a vertical edge. fraction: 1 number (0.0 for none). */
+/* levels: thousandths of a dB, 0 to 150,000. level: thousandths of a dB, 1 to 150,000.
+ * which: 1 number: 0 none, 1 along a horizontal edge, 2 along a vertical edge. fraction: 1 number (0.0 for none). */
 uint32_t okubinrafo_crossing(OKUBINRAFO_NETWORK, uint32_t level, uint32_t edge, uint32_t *which, size_t which_len,
                              double *fraction, size_t fraction_len);
-/* which as above; place: 2 numbers, x and y (0.0 and 0.0 for none). */
+/* levels: thousandths of a dB, 0 to 150,000. level: thousandths of a dB, 1 to 150,000.
+ * which as above; place: 2 numbers, x and y (0.0 and 0.0 for none). */
 uint32_t okubinrafo_map_point(OKUBINRAFO_NETWORK, uint32_t level, uint32_t edge, uint32_t *which, size_t which_len,
                               double *place, size_t place_len);
-/* Many edges in one call: which: one number an edge; places: two numbers an edge. */
+/* Many edges in one call. levels: thousandths of a dB, 0 to 150,000. level: thousandths of a dB, 1 to 150,000.
+ * which: one number an edge; places: two numbers an edge. */
 uint32_t okubinrafo_map_points(OKUBINRAFO_NETWORK, uint32_t level, const uint32_t *edges, size_t edges_len,
                                uint32_t *which, size_t which_len, double *places, size_t places_len);
 
 /* A register row, with its CRLF or without. fields: 6 numbers: identity, type, mass, kind, time, 1 if computed.
- * levels: one a point (0 where not computed). */
+ * levels: one a point in hundredths of a dB, 0 to 12,000 (0 where not computed). */
 uint32_t okubinrafo_read_row(const uint8_t *line, size_t line_len, uint32_t points, uint32_t *fields, size_t fields_len,
                              uint32_t *levels, size_t levels_len);
 /* fields and levels as above (a number of fields other than 6 is 9); the text has its CRLF, at most 86 bytes in all;
@@ -120,10 +130,11 @@ uint32_t okubinrafo_read_row(const uint8_t *line, size_t line_len, uint32_t poin
 uint32_t okubinrafo_write_row(const uint32_t *fields, size_t fields_len, const uint32_t *levels, size_t levels_len,
                               uint32_t points, uint8_t *text, size_t text_len, uint32_t *size, size_t size_len);
 
-/* header: 5 numbers: columns, rows, spacing, west, south. levels: at most 65,536. */
+/* header: 5 numbers: columns, rows, spacing, west, south. levels: at most 65,536, in thousandths of a dB, 0 to 150,000.
+ * A value has two or three decimals, in one file as it comes: 45.00 is read as 45000 and 45.001 as 45001. */
 uint32_t okubinrafo_read_network(const uint8_t *text, size_t text_len, uint32_t *header, size_t header_len,
                                  uint32_t *levels, size_t levels_len);
-/* size: 1 number, the bytes written. */
+/* levels: thousandths of a dB, 0 to 150,000. text: each with three decimals. size: 1 number, the bytes written. */
 uint32_t okubinrafo_write_network(OKUBINRAFO_NETWORK, uint8_t *text, size_t text_len, uint32_t *size, size_t size_len);
 
 /* Radar tracks (RULES, Radar tracks). A movement has eight columns and a track seven, up to 50,000 of each; either list

@@ -8,7 +8,7 @@ import unittest
 import okubinrafo
 from okubinrafo import Book, Network, Refused, Row, couple, write_row
 
-HILL = [4000] * 4 + [5000] + [4000] * 4
+HILL = [40_000] * 4 + [50_000] + [40_000] * 4
 GRID = b"ncols 2\r\nnrows 2\r\nxllcenter 5\r\nyllcenter 6\r\ncellsize 100\r\n1.00 2.00\r\n3.00 4.00\r\n"
 LINE = b"4,H,3000,L,23:00:00,"
 
@@ -51,12 +51,12 @@ def calls():
         "replayed enter": (lambda *given: book.replay([("enter", *given)]), "nnnnno", (6, 0, 0, 0, 7000, [0])),
         "replayed supply": (lambda *given: book.replay([("supply", *given)]), "nl", (1, [100])),
         "Network": (lambda *arguments: Network(*arguments).write(), "lnnnnn", (HILL, 3, 3, 100, 0, 0)),
-        "contours": (hill.contours, "n", (4500,)),
-        "print_contours": (hill.print_contours, "n", (4500,)),
-        "lines": (hill.lines, "n", (4500,)),
-        "crossing": (hill.crossing, "nn", (4500, 2)),
-        "map_point": (hill.map_point, "nn", (4500, 2)),
-        "map_points": (hill.map_points, "nl", (4500, [2, 3])),
+        "contours": (hill.contours, "n", (45_000,)),
+        "print_contours": (hill.print_contours, "n", (45_000,)),
+        "lines": (hill.lines, "n", (45_000,)),
+        "crossing": (hill.crossing, "nn", (45_000, 2)),
+        "map_point": (hill.map_point, "nn", (45_000, 2)),
+        "map_points": (hill.map_points, "nl", (45_000, [2, 3])),
         "read_network": (lambda content: okubinrafo.read_network(content).write(), "b", (GRID,)),
         "read_row": (okubinrafo.read_row, "bn", (LINE, 1)),
         "write_row": (lambda *given: write_row(Row(*given[:-1], None), given[-1]), "nnnnnn", (4, 2, 300, 1, 8, 1)),
@@ -118,7 +118,7 @@ class Arguments(unittest.TestCase):
         for kind in (numpy.int64, numpy.uint32, numpy.int32):
             self.same_answers(kind)
         hill = Network(numpy.array(HILL), numpy.int64(3), 3, 100)
-        self.assertEqual(hill.contours(numpy.uint16(4500)), [((2, 7, 3, 10), True)])
+        self.assertEqual(hill.contours(numpy.uint16(45_000)), [((2, 7, 3, 10), True)])
 
     def test_journals(self):
         book = Book(1, 1)
@@ -144,14 +144,14 @@ class Arguments(unittest.TestCase):
             hill.levels = wrong
             for call in (hill.contours, hill.print_contours, hill.lines):
                 with self.subTest(levels=type(wrong).__name__, call=call.__name__), self.assertRaises(TypeError):
-                    call(4500)
+                    call(45_000)
 
         class Longer(ctypes.c_uint32 * 9):
             def __len__(self):
                 return 10**9
 
         hill.levels = Longer(*HILL)
-        self.assertEqual(hill.crossing(4500, 2), ("horizontal", 0.5))
+        self.assertEqual(hill.crossing(45_000, 2), ("horizontal", 0.5))
         book = Book(3, 2)
         book.points = 8
         with self.assertRaises(Refused) as caught:
@@ -177,10 +177,10 @@ class Threads(unittest.TestCase):
         return found
 
     def test_a_small_stack(self):
-        board = Network([15000 * ((i + i // 256) % 2) for i in range(256 * 256)], 256, 256, 500, 900000, 900000)
-        text = board.print_contours(7501)
+        board = Network([150_000 * ((i + i // 256) % 2) for i in range(256 * 256)], 256, 256, 500, 900000, 900000)
+        text = board.print_contours(75_001)
         self.assertGreater(len(text), 3_000_000)
-        asked = self.answers(4, lambda: (len(board.contours(7501)), board.print_contours(7501) == text))
+        asked = self.answers(4, lambda: (len(board.contours(75_001)), board.print_contours(75_001) == text))
         self.assertEqual(asked, [(32768, True)] * 4)
 
     def test_a_coupling_from_a_small_stack(self):

@@ -38,8 +38,8 @@ class Grids(unittest.TestCase):
             return read("network.asc")
 
     def test_a_grid_of_gdal(self):
-        network = read_network(self.converted(self.HEAD + "NODATA_value  -9999\n 40.00 50.004\n 0.126 60\n"))
-        self.assertEqual(list(network.levels), [13, 6000, 4000, 5000])
+        network = read_network(self.converted(self.HEAD + "NODATA_value  -9999\n 40.00 50.004\n 0.1264 60\n"))
+        self.assertEqual(list(network.levels), [126, 60_000, 40_000, 50_004])
         self.assertEqual((network.spacing, network.west, network.south), (100, 1000, 2000))
 
     def test_a_point_without_data(self):
@@ -57,7 +57,8 @@ class Gdal(unittest.TestCase):
     def test_contours_as_a_layer(self):
         with folder_with_examples():
             network = read_network(read("network.asc"))
-            lines = [f"{level // 100}.{level % 100:02};{network.print_contours(level)}\r\n" for level in (4800, 5600)]
+            levels = (48_000, 56_125)
+            lines = [f"{level / 1000:.3f};{network.print_contours(level)}\r\n" for level in levels]
             with open("contours.csv", "w", newline="") as file:
                 file.write("level;wkt\r\n" + "".join(lines))
             run_sh(block("sh", "ogr2ogr"))
@@ -67,8 +68,8 @@ class Gdal(unittest.TestCase):
             self.assertIn('"EPSG",28992', summary)
             self.assertNotIn("wkt:", summary)
             drawn = json.loads(output("ogr2ogr", "-f", "GeoJSON", "/vsistdout/", "contours.gpkg"))
-            self.assertEqual([feature["properties"]["level"] for feature in drawn["features"]], [48.0, 56.0])
-            for feature, level in zip(drawn["features"], (4800, 5600)):
+            self.assertEqual([feature["properties"]["level"] for feature in drawn["features"]], [48.0, 56.125])
+            for feature, level in zip(drawn["features"], levels):
                 found = [len(line) for line in feature["geometry"]["coordinates"]]
                 self.assertEqual(found, [len(line) for line in network.lines(level)])
 

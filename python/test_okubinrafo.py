@@ -9,7 +9,7 @@ from okubinrafo import Book, Network, Refused, Row
 
 HEADER = "id,type,mtow,kind,time,l1\r\n"
 ROWS = "1,G,70000,S,07:00:00,100.00\r\n2,G,70000,S,18:59:59,100.00\r\n3,G,70000,S,12:00:00,\r\n4,H,3000,L,23:00:00,\r\n"
-HILL = [4000] * 4 + [5000] + [4000] * 4
+HILL = [40_000] * 4 + [50_000] + [40_000] * 4
 
 
 class Case(unittest.TestCase):
@@ -158,48 +158,70 @@ class Registers(Case):
 class Networks(Case):
     def test_the_documents_hill(self):
         hill = Network(HILL, 3, 3, 100)
-        self.assertEqual(hill.contours(4500), [((2, 7, 3, 10), True)])
+        self.assertEqual(hill.contours(45_000), [((2, 7, 3, 10), True)])
         text = "MULTILINESTRING ((50.000 100.000, 100.000 50.000, 150.000 100.000, 100.000 150.000, 50.000 100.000))"
-        self.assertEqual(hill.print_contours(4500), text)
+        self.assertEqual(hill.print_contours(45_000), text)
         line = [(50.0, 100.0), (100.0, 50.0), (150.0, 100.0), (100.0, 150.0), (50.0, 100.0)]
-        self.assertEqual(hill.lines(4500), [line])
-        self.assertEqual(hill.print_contours(4000), "MULTILINESTRING EMPTY")
-        self.assertEqual((hill.contours(4000), hill.lines(4000)), ([], []))
+        self.assertEqual(hill.lines(45_000), [line])
+        self.assertEqual(hill.print_contours(40_000), "MULTILINESTRING EMPTY")
+        self.assertEqual((hill.contours(40_000), hill.lines(40_000)), ([], []))
 
     def test_crossings(self):
         hill = Network(HILL, 3, 3, 100, 1000, 2000)
-        self.assertEqual(hill.crossing(4500, 2), ("horizontal", 0.5))
-        self.assertEqual(hill.crossing(4001, 10), ("vertical", 0.999))
-        self.assertIsNone(hill.crossing(4500, 0))
-        self.assertEqual(hill.map_point(4500, 10), (1100.0, 2150.0))
-        self.assertIsNone(hill.map_point(4500, 99))
-        self.assertEqual(hill.map_points(4500, [2, 0, 10, 99]), [(1050.0, 2100.0), None, (1100.0, 2150.0), None])
-        self.assertEqual(hill.map_points(4500, []), [])
+        self.assertEqual(hill.crossing(45_000, 2), ("horizontal", 0.5))
+        self.assertEqual(hill.crossing(40_001, 10), ("vertical", 0.9999))
+        self.assertIsNone(hill.crossing(45_000, 0))
+        self.assertEqual(hill.map_point(45_000, 10), (1100.0, 2150.0))
+        self.assertIsNone(hill.map_point(45_000, 99))
+        self.assertEqual(hill.map_points(45_000, [2, 0, 10, 99]), [(1050.0, 2100.0), None, (1100.0, 2150.0), None])
+        self.assertEqual(hill.map_points(45_000, []), [])
 
     def test_the_longest_text_has_room(self):
-        board = Network([15000 * ((i + i // 256) % 2) for i in range(256 * 256)], 256, 256, 500, 900000, 900000)
-        self.assertEqual(sum(len(contour.edges) for contour in board.contours(7501)), 2 * 256 * 255)
-        self.assertTrue(board.print_contours(7501).endswith("))"))
-        self.assertTrue(board.print_contours(7500).startswith("MULTILINESTRING (("))
+        board = Network([150_000 * ((i + i // 256) % 2) for i in range(256 * 256)], 256, 256, 500, 900000, 900000)
+        self.assertEqual(sum(len(contour.edges) for contour in board.contours(75_001)), 2 * 256 * 255)
+        self.assertTrue(board.print_contours(75_001).endswith("))"))
+        self.assertTrue(board.print_contours(75_000).startswith("MULTILINESTRING (("))
+        for columns, rows in ((256, 256), (2, 256)):
+            loud = Network([150_000] * (columns * rows), columns, rows, 500, 900000, 900000)
+            self.assertEqual(list(okubinrafo.read_network(loud.write()).levels), list(loud.levels))
 
     def test_texts(self):
         header = b"ncols 2\r\nnrows 3\r\nxllcenter 5\r\nyllcenter 6\r\ncellsize 100\r\n"
-        text = header + b"1.00 2.00\r\n3.00 4.00\r\n5.00 150.00\r\n"
+        text = header + b"1.000 2.000\r\n0.000 0.001\r\n5.010 150.000\r\n"
         network = okubinrafo.read_network(text)
-        self.assertEqual(list(network.levels), [500, 15000, 300, 400, 100, 200])
+        self.assertEqual(list(network.levels), [5_010, 150_000, 0, 1, 1_000, 2_000])
         self.assertEqual((network.columns, network.rows, network.spacing), (2, 3, 100))
         self.assertEqual((network.west, network.south), (5, 6))
         self.assertEqual(network.write(), text)
+        mixed = text.replace(b"2.000", b"2.00").replace(b"5.010", b"5.01")
+        self.assertEqual(okubinrafo.read_network(mixed).write(), text)
         self.refused(17, okubinrafo.read_network, b"")
         self.refused(17, okubinrafo.read_network, text.replace(b"\r", b""))
         self.refused(12, okubinrafo.read_network, text.replace(b"nrows 3", b"nrows 2"))
-        self.refused(13, okubinrafo.read_network, text.replace(b"2.00", b"-9999"))
+        for value, number in ((b"-9999", 13), (b"150.001", 13), (b"2", 17), (b"2.0", 17), (b"2.0000", 17)):
+            self.refused(number, okubinrafo.read_network, text.replace(b"2.000", value))
+
+    def test_no_data_is_what_is_spelled_alike(self):
+        header = b"ncols 2\r\nnrows 2\r\nxllcenter 5\r\nyllcenter 6\r\ncellsize 1\r\n"
+        text = header + b"NODATA_value %b\r\n%b 1.00\r\n1.00 2.00"
+        for spelling, value in ((b"0.00", b"0.000"), (b"0.000", b"0.00"), (b"-999.999", b"0.00"), (b"0", b"0.000")):
+            self.assertEqual(list(okubinrafo.read_network(text % (spelling, value)).levels), [1000, 2000, 0, 1000])
+        for spelling in (b"0.00", b"0.000", b"-0.001", b"7"):
+            self.refused(13, okubinrafo.read_network, text % (spelling, spelling))
+        self.refused(17, okubinrafo.read_network, text % (b"-1.0000", b"0.00"))
 
     def test_refusals(self):
-        self.refused(12, Network(HILL, 3, 3, 0).contours, 4500)
-        self.refused(12, Network([], 2**31, 2, 1).print_contours, 4500)
-        self.refused(13, Network([15001] * 9, 3, 3, 1).map_point, 4500, 0)
+        self.refused(12, Network(HILL, 3, 3, 0).contours, 45_000)
+        self.refused(12, Network([], 2**31, 2, 1).print_contours, 45_000)
+        self.refused(13, Network([150_001] * 9, 3, 3, 1).map_point, 45_000, 0)
+        for call in ("contours", "print_contours", "lines"):
+            self.refused(15, getattr(Network(HILL, 3, 3, 1), call), 0)
+            self.refused(15, getattr(Network(HILL, 3, 3, 1), call), 150_001)
+            self.refused(13, getattr(Network([150_001] * 9, 3, 3, 1), call), 150_000)
+        self.assertEqual(Network([150_000] * 8 + [0], 3, 3, 1).contours(150_000), [((11, 5), False)])
         self.refused(15, Network(HILL, 3, 3, 1).crossing, 0, 0)
+        self.assertIn("150.000", okubinrafo.sentence(13))
+        self.assertIn("0.001 to 150.000", okubinrafo.sentence(15))
         self.refused(12, Network(HILL, 3, 2, 1).write)
 
 

@@ -130,8 +130,8 @@ pub fn flights(count: usize, spread: Spread) -> Flights {
     flights
 }
 
-/// The level of the contours measured.
-pub const LEVEL: u32 = 5_000;
+/// The level of the contours measured, in thousandths of a dB as those of the networks.
+pub const LEVEL: u32 = 50_000;
 
 pub const NETWORKS: [(&str, fn(u32) -> Vec<u32>); 3] =
     [("smooth", smooth), ("noisy", noisy), ("checkerboard", checkerboard)];
@@ -140,18 +140,18 @@ pub const NETWORKS: [(&str, fn(u32) -> Vec<u32>); 3] =
 fn smooth(side: u32) -> Vec<u32> {
     let hill = |row: u32, column: u32, at: (f64, f64)| {
         let (y, x) = (f64::from(row) / f64::from(side) - at.0, f64::from(column) / f64::from(side) - at.1);
-        5_000.0 / (1.0 + 30.0 * (x * x + 2.0 * y * y))
+        50_000.0 / (1.0 + 30.0 * (x * x + 2.0 * y * y))
     };
     points(side, |row, column| (hill(row, column, (0.4, 0.3)) + hill(row, column, (0.6, 0.7))) as u32)
 }
 
 fn noisy(side: u32) -> Vec<u32> {
     let mut numbers = Numbers::new();
-    points(side, |_, _| 4_000 + numbers.below(2_001))
+    points(side, |_, _| 40_000 + numbers.below(20_001))
 }
 
 fn checkerboard(side: u32) -> Vec<u32> {
-    points(side, |row, column| 4_000 + (row + column) % 2 * 2_000)
+    points(side, |row, column| 40_000 + (row + column) % 2 * 20_000)
 }
 
 fn points(side: u32, mut level: impl FnMut(u32, u32) -> u32) -> Vec<u32> {

@@ -17,6 +17,7 @@ pub struct Book<'a> {
     pub marks: &'a mut [u32],
     /// 1 where the movement counts; 0 where it doesn't, and there its level is 0 too.
     pub counts: &'a mut [u32],
+    /// Hundredths of a dB, 0 to 12,000.
     pub levels: &'a mut [u32],
     pub points: u32,
 }
@@ -25,7 +26,7 @@ pub struct Book<'a> {
 #[derive(Clone, Debug, PartialEq, Eq)]
 pub struct Load {
     pub total: u64,
-    /// None: below zero.
+    /// Hundredths of a dB; None: below zero.
     pub level: Option<u64>,
     /// V of each group.
     pub computed: [u64; GROUPS],
@@ -55,7 +56,7 @@ pub struct Account {
     /// P, the sum of the scaled energies.
     pub energy: u64,
     pub total: u64,
-    /// None: below zero.
+    /// Hundredths of a dB; None: below zero.
     pub level: Option<u64>,
 }
 
@@ -89,7 +90,8 @@ impl Book<'_> {
         with_book!(okubinrafo_enter, as_mut_ptr, self, [identity, aircraft, kind, time, mass], [given], [])
     }
 
-    /// Supplies all levels of a standing movement, 0 where it doesn't count, which marks it computed.
+    /// Supplies all levels of a standing movement in hundredths of a dB, 0 where it doesn't count, which marks it
+    /// computed.
     pub fn supply(&mut self, identity: u32, given: &[u32]) -> Answer<()> {
         with_book!(okubinrafo_supply, as_mut_ptr, self, [identity], [given], [])
     }
@@ -134,7 +136,7 @@ impl Book<'_> {
         Ok(Account { groups, factor, energy: whole[2], total: whole[3], level })
     }
 
-    /// Whether the level at a point is over a limit.
+    /// Whether the level at a point is over a limit, in hundredths of a dB.
     pub fn verdict(&self, point: u32, days: u32, limit: u32) -> Answer<bool> {
         let mut answer = [0];
         with_book!(okubinrafo_verdict, as_ptr, self, [point, days, limit], [], [answer])?;

@@ -1,7 +1,10 @@
 //! Okubinrafo from Rust: the functions of include/okubinrafo.h as safe functions over slices.
 //!
-//! Every answer is the proved library's. The caller lends all memory; a refused call changes none of it. Levels are
-//! hundredths of a dB, times seconds of the local day, points are counted from 0. `tests/document.rs` is an example.
+//! Every answer is the proved library's. The caller lends all memory; a refused call changes none of it. Times are
+//! seconds of the local day, points are counted from 0. `tests/document.rs` is an example.
+//!
+//! Levels of a [`Book`], its loads and its limits are hundredths of a dB. Levels of a [`Network`] and of its contours
+//! are thousandths of a dB. No call can tell one unit from the other: 4500 is a network or contour level of 4.500 dB.
 
 mod book;
 mod flights;

@@ -17,7 +17,8 @@ pub struct Row {
     pub computed: bool,
 }
 
-/// Reads a register row, with its CRLF or without; `levels` gets one a point, 0 where not computed.
+/// Reads a register row, with its CRLF or without; `levels` gets one a point, in hundredths of a dB, 0 where not
+/// computed.
 pub fn read_row(line: &[u8], points: u32, levels: &mut [u32]) -> Answer<Row> {
     let mut fields = [0; 6];
     let (room, many) = (levels.as_mut_ptr(), levels.len());
@@ -29,8 +30,8 @@ pub fn read_row(line: &[u8], points: u32, levels: &mut [u32]) -> Answer<Row> {
     Ok(Row { identity, aircraft, mass, kind, time, computed: computed == 1 })
 }
 
-/// Writes a register row with its CRLF and answers with the bytes written; `levels` has one a point, all zero where
-/// the row is not computed.
+/// Writes a register row with its CRLF and answers with the bytes written; `levels` has one a point in hundredths of a
+/// dB, all zero where the row is not computed.
 pub fn write_row<'a>(row: &Row, levels: &[u32], points: u32, text: &'a mut [u8]) -> Answer<&'a [u8]> {
     let fields = [row.identity, row.aircraft, row.mass, row.kind, row.time, u32::from(row.computed)];
     let mut size = [0];

@@ -6,7 +6,8 @@ use okubinrafo::{Account, Along, Book, Flights, Frame, Group, Network, Refusal, 
 const ROWS: usize = 10;
 const POINTS: usize = 1;
 const EVERYWHERE: [u32; POINTS] = [1; POINTS];
-const HILL: [u32; 9] = [4000, 4000, 4000, 4000, 5000, 4000, 4000, 4000, 4000];
+/// In thousandths of a dB, as the levels of its contours.
+const HILL: [u32; 9] = [40_000, 40_000, 40_000, 40_000, 50_000, 40_000, 40_000, 40_000, 40_000];
 const FRAME: Frame = Frame { columns: 3, rows: 3, spacing: 100, west: 0, south: 0 };
 
 /// The columns that a book is lent.
@@ -108,35 +109,58 @@ fn calls_one_by_one_and_in_a_journal() {
 fn the_documents_hill() {
     let hill = Network { levels: &HILL, frame: FRAME };
     let (mut edges, mut counts, mut closed, mut text) = ([0; 12], [0; 6], [0; 6], [0; 400]);
-    assert_eq!(hill.contours(4500, &mut edges, &mut counts, &mut closed), Ok(Sizes { edges: 4, contours: 1 }));
+    assert_eq!(hill.contours(45_000, &mut edges, &mut counts, &mut closed), Ok(Sizes { edges: 4, contours: 1 }));
     assert_eq!((&edges[..4], counts[0], closed[0]), (&[2, 7, 3, 10][..], 4, 1));
     let ring = "MULTILINESTRING ((50.000 100.000, 100.000 50.000, 150.000 100.000, 100.000 150.000, 50.000 100.000))";
-    assert_eq!(hill.print_contours(4500, &mut text), Ok(ring.as_bytes()));
-    assert_eq!(hill.print_contours(4500, &mut text[..9]), Err(Refusal::TOO_LITTLE_ROOM));
-    assert_eq!(hill.contours(0, &mut edges, &mut counts, &mut closed), Err(Refusal::WRONG_LEVEL_ASKED));
+    assert_eq!(hill.print_contours(45_000, &mut text), Ok(ring.as_bytes()));
+    assert_eq!(hill.print_contours(45_000, &mut text[..9]), Err(Refusal::TOO_LITTLE_ROOM));
+}
+
+/// A network level is 0 to 150,000 thousandths of a dB, a contour level 1 to 150,000.
+#[test]
+fn levels_at_the_ends_of_their_ranges() {
+    let (mut edges, mut counts, mut closed) = ([0; 12], [0; 6], [0; 6]);
+    let mut contours = |peak: u32, level: u32| {
+        let mut levels = HILL;
+        levels[4] = peak;
+        let network = Network { levels: &levels, frame: FRAME };
+        network.contours(level, &mut edges, &mut counts, &mut closed).map(|sizes| sizes.contours)
+    };
+    for (level, lines) in [(1, 0), (40_001, 1), (50_000, 1), (50_001, 0), (150_000, 0)] {
+        assert_eq!(contours(50_000, level), Ok(lines), "{level}");
+    }
+    for level in [0, 150_001] {
+        assert_eq!(contours(50_000, level), Err(Refusal::WRONG_LEVEL_ASKED), "{level}");
+    }
+    assert_eq!((contours(0, 40_000), contours(150_000, 150_000)), (Ok(1), Ok(1)));
+    assert_eq!(contours(150_001, 0), Err(Refusal::WRONG_NETWORK_LEVEL));
 }
 
 #[test]
 fn crossings() {
     let frame = Frame { west: 1000, south: 2000, ..FRAME };
     let hill = Network { levels: &HILL, frame };
-    assert_eq!(hill.crossing(4500, 2), Ok(Some((Along::Horizontal, 0.5))));
-    assert_eq!(hill.crossing(4001, 10), Ok(Some((Along::Vertical, 0.999))));
-    assert_eq!(hill.crossing(4500, 0), Ok(None));
-    assert_eq!(hill.map_point(4500, 10), Ok(Some([1100.0, 2150.0])));
-    assert_eq!(hill.map_point(4500, 99), Ok(None));
+    assert_eq!(hill.crossing(45_000, 2), Ok(Some((Along::Horizontal, 0.5))));
+    assert_eq!(hill.crossing(40_001, 10), Ok(Some((Along::Vertical, 0.9999))));
+    assert_eq!(hill.crossing(45_000, 0), Ok(None));
+    assert_eq!(hill.map_point(45_000, 10), Ok(Some([1100.0, 2150.0])));
+    assert_eq!(hill.map_point(45_000, 99), Ok(None));
     let (mut which, mut places) = ([9; 3], [9.0; 6]);
-    assert_eq!(hill.map_points(4500, &[2, 0, 10], &mut which, &mut places), Ok(()));
+    assert_eq!(hill.map_points(45_000, &[2, 0, 10], &mut which, &mut places), Ok(()));
     assert_eq!((which, places), ([1, 0, 2], [1050.0, 2100.0, 0.0, 0.0, 1100.0, 2150.0]));
     let wrong = Network { levels: &HILL, frame: Frame { rows: 2, ..frame } };
-    assert_eq!(wrong.crossing(4500, 2), Err(Refusal::WRONG_NETWORK));
+    assert_eq!(wrong.crossing(45_000, 2), Err(Refusal::WRONG_NETWORK));
 }
 
 #[test]
 fn texts() {
     let (mut levels, mut text) = ([0; 9], [0; 200]);
     let written = Network { levels: &HILL, frame: FRAME }.write(&mut text).expect("a text").to_vec();
+    assert!(written.ends_with(b"\r\n40.000 50.000 40.000\r\n40.000 40.000 40.000\r\n"));
     assert_eq!(read_network(&written, &mut levels), Ok(Network { levels: &HILL, frame: FRAME }));
+    let mixed = String::from_utf8_lossy(&written).replace("50.000", "50.001").replace("40.000 ", "40.00 ");
+    let read = read_network(mixed.as_bytes(), &mut levels).expect("two and three decimals");
+    assert_eq!(read.levels, [40_000, 40_000, 40_000, 40_000, 50_001, 40_000, 40_000, 40_000, 40_000]);
     assert_eq!(read_network(&written[..20], &mut levels), Err(Refusal::NETWORK_OFF_LAYOUT));
     assert_eq!(read_network(&written, &mut levels[..8]), Err(Refusal::TOO_LITTLE_ROOM));
     let (row, mut text) = (b"4,H,3000,L,23:00:00,\r\n", [0; ROW_BYTES]);
@@ -186,7 +210,7 @@ fn radar_tracks_from_a_small_stack() {
 /// The largest network with the most contours, from a thread with a small stack.
 #[test]
 fn contours_from_a_small_stack() {
-    let board: Vec<u32> = (0..256 * 256).map(|point| 15_000 * ((point + point / 256) % 2)).collect();
+    let board: Vec<u32> = (0..256 * 256).map(|point| 150_000 * ((point + point / 256) % 2)).collect();
     let frame = Frame { columns: 256, rows: 256, spacing: 500, west: 900_000, south: 900_000 };
     let small = std::thread::Builder::new().stack_size(64 << 10).spawn(move || {
         let network = Network { levels: &board, frame };
@@ -194,8 +218,8 @@ fn contours_from_a_small_stack() {
         let (edges, others) = room.split_at_mut(2 * 65_536);
         let (counts, closed) = others.split_at_mut(2 * 65_536);
         let mut text = vec![0; 6 << 20];
-        let sizes = network.contours(7501, edges, counts, closed);
-        (sizes, network.print_contours(7501, &mut text).map(|text| text.ends_with(b"))")))
+        let sizes = network.contours(75_001, edges, counts, closed);
+        (sizes, network.print_contours(75_001, &mut text).map(|text| text.ends_with(b"))")))
     });
     let answer = small.expect("a thread starts").join().expect("no fault");
     assert_eq!(answer, (Ok(Sizes { edges: 130_560, contours: 32_768 }), Ok(true)));

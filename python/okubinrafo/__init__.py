@@ -1,8 +1,9 @@
 """Okubinrafo from Python: the yearly noise load of regional airfields, by the proved library.
 
-Everything here is the shared library's answer; this package only lends it memory. Levels are whole hundredths of a dB,
-times are seconds of the local day, points and tracks are counted from 0. A refusal is the exception Refused with the
-rules' number. The library is the file that OKUBINRAFO_LIB names, or libokubinrafo.so beside this file.
+Everything here is the shared library's answer; this package only lends it memory. Levels of a Book, its loads and its
+limits are whole hundredths of a dB; levels of a Network and of its contours are whole thousandths of a dB. Times are
+seconds of the local day, points and tracks are counted from 0. A refusal is the exception Refused with the rules'
+number. The library is the file that OKUBINRAFO_LIB names, or libokubinrafo.so beside this file.
 """
 
 from .books import DAY, EVENING, HELICOPTER, LANDING, LARGE, NIGHT, SMALL, START, Account, Book, Group, Load

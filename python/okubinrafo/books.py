@@ -13,13 +13,13 @@ START, LANDING = 0, 1
 DAY, EVENING, NIGHT = 0, 1, 2
 
 Load = namedtuple("Load", "total level computed missing")
-Load.__doc__ = """A load of the movements that count at a point: level is None for below zero; computed and missing
-have V and U of the 18 groups."""
+Load.__doc__ = """A load of the movements that count at a point: level in hundredths of a dB, None for below zero;
+computed and missing have V and U of the 18 groups."""
 Group = namedtuple("Group", "computed missing energy counted")
 Group.__doc__ = "A group in an account: V, U, its energy S, and that energy scaled by (V+U)/V."
 Account = namedtuple("Account", "groups factor energy total level")
 Account.__doc__ = """How a load comes about: the 18 groups; the general factor as (upper, lower), None where no movement
-counts; P, the energy of all groups; the total; the level, None for below zero."""
+counts; P, the energy of all groups; the total; the level in hundredths of a dB, None for below zero."""
 
 _GROUPS = 18
 _LOAD_NUMBERS = 39
@@ -44,7 +44,10 @@ class Book:
         ask("enter", *self._columns, self.points, identity, type, kind, time, mass, self._counted(counts))
 
     def supply(self, identity, levels):
-        """Supplies all levels of a standing movement, 0 where it doesn't count, which marks it computed."""
+        """Supplies all levels of a standing movement, 0 where it doesn't count, which marks it computed.
+
+        A level is in hundredths of a dB, 0 to 12,000.
+        """
         ask("supply", *self._columns, self.points, identity, numbers(levels))
 
     def take_back(self, identity):
@@ -71,7 +74,7 @@ class Book:
         return Account(groups, (upper, lower) if lower else None, energy, total, level if given else None)
 
     def verdict(self, point, days, limit):
-        """True if the level at the point is over the limit."""
+        """True if the level at the point is over the limit, in hundredths of a dB, 0 to 12,000."""
         answer = (U32 * 1)()
         ask("verdict", *self._columns, self.points, point, days, limit, answer)
         return answer[0] == 1

@@ -8,9 +8,9 @@ from .library import U8, U32, numbers, octets, whole
 from .refusals import Refused, ask
 
 Row = namedtuple("Row", "identity type mass kind time levels")
-Row.__doc__ = "A register row: levels is None where not computed."
+Row.__doc__ = "A register row: levels in hundredths of a dB, None where not computed."
 Limits = namedtuple("Limits", "days limits")
-Limits.__doc__ = "What limits.csv holds: the days of the period and a limit for each point."
+Limits.__doc__ = "What limits.csv holds: the days of the period and a limit in hundredths of a dB for each point."
 Reading = namedtuple("Reading", "entered passed_over")
 Reading.__doc__ = "How many rows of a register were entered, and how many of 150 kg or less passed over."
 

@@ -169,9 +169,9 @@ mod tests {
 
     #[test]
     fn the_documents_hill() {
-        let found = traced(3, 3, &HILL, 4500);
+        let found = traced(3, 3, &HILL, 45_000);
         assert_eq!(found, Contours { edges: vec![2, 7, 3, 10], counts: vec![4], closed: vec![true] });
-        assert_eq!(traced(3, 3, &HILL, 4000), Contours::default());
+        assert_eq!(traced(3, 3, &HILL, 40_000), Contours::default());
     }
 
     #[test]

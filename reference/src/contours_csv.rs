@@ -2,12 +2,12 @@
 
 use crate::grid;
 use crate::network::Network;
-use crate::text::{level, spell_level};
+use crate::text::{fine_level, spell_fine_level};
 use crate::wkt;
 use crate::Refusal;
 
-/// What the program writes: a line of well-known text for each level. The network is judged first (17 with its line,
-/// 12, 13), and then every level (15; also where there is none).
+/// What the program writes: a line of well-known text for each level, which has three decimals there. The network is
+/// judged first (17 with its line, 12, 13), and then every level (15; also where there is none).
 pub fn contours_csv(text: &[u8], levels: &[&[u8]]) -> String {
     match draw(text, levels) {
         Ok(lines) => lines,
@@ -18,9 +18,9 @@ pub fn contours_csv(text: &[u8], levels: &[&[u8]]) -> String {
 fn draw(text: &[u8], levels: &[&[u8]]) -> Result<String, (Refusal, usize)> {
     let (frame, values) = grid::read(text).map_err(|refusal| (refusal, grid::fault_line(text).unwrap_or(0)))?;
     let network = Network { frame, levels: &values };
-    let asked = levels.iter().map(|word| level(word).filter(|&level| network.check_contour(level).is_ok()));
+    let asked = levels.iter().map(|word| fine_level(word).filter(|&level| network.check_contour(level).is_ok()));
     let asked = asked.collect::<Option<Vec<u32>>>().filter(|asked| !asked.is_empty()).ok_or((Refusal::Range, 0))?;
-    let line = |&level: &u32| format!("{};{}\r\n", spell_level(level), wkt::print(&network, level));
+    let line = |&level: &u32| format!("{};{}\r\n", spell_fine_level(level), wkt::print(&network, level));
     Ok("level;wkt\r\n".to_string() + &asked.iter().map(line).collect::<String>())
 }
 
@@ -35,8 +35,12 @@ mod tests {
     fn a_line_for_each_level() {
         let around_the_out_corners =
             "MULTILINESTRING ((7.938 900000.000, 8.000 900000.063), (7.063 900001.000, 7.000 900000.938))";
-        let expected = format!("level;wkt\r\n0.17;MULTILINESTRING EMPTY\r\n0.01;{around_the_out_corners}\r\n");
-        assert_eq!(contours_csv(SADDLE.as_bytes(), &[b"0.17", b"0.01"]), expected);
+        let lines = |none: &str, some: &str| {
+            format!("level;wkt\r\n{none};MULTILINESTRING EMPTY\r\n{some};{around_the_out_corners}\r\n")
+        };
+        assert_eq!(contours_csv(SADDLE.as_bytes(), &[b"0.17", b"0.010"]), lines("0.170", "0.010"));
+        let finer = SADDLE.replace("0.16", "0.016");
+        assert_eq!(contours_csv(finer.as_bytes(), &[b"0.017", b"0.001"]), lines("0.017", "0.001"));
     }
 
     #[test]
@@ -44,9 +48,10 @@ mod tests {
         let refused = |text: &str, levels: &[&[u8]]| contours_csv(text.as_bytes(), levels);
         assert_eq!(refused(SADDLE, &[]), "refused,15,0\r\n");
         assert_eq!(refused(SADDLE, &[b"45.00", b"0.00"]), "refused,15,0\r\n");
-        assert_eq!(refused(SADDLE, &[b"150.01"]), "refused,15,0\r\n");
-        assert_eq!(refused(SADDLE, &[b"45"]), "refused,15,0\r\n");
-        assert_eq!(refused(&SADDLE.replace("0.00 ", "150.01 "), &[b"45"]), "refused,13,0\r\n");
+        for wrong in [&b"0.000"[..], b"150.001", b"150.01", b"999.999", b"45", b"45.0", b"45.0000", b"45,000"] {
+            assert_eq!(refused(SADDLE, &[b"45.000", wrong]), "refused,15,0\r\n", "{wrong:?}");
+        }
+        assert_eq!(refused(&SADDLE.replace("0.00 ", "150.001 "), &[b"45"]), "refused,13,0\r\n");
         assert_eq!(refused(&SADDLE.replace("cellsize 1", "cellsize 0"), &[b"45"]), "refused,12,0\r\n");
         assert_eq!(refused(&SADDLE.replace("0.16 0.00", "0.16  0.00"), &[b"45"]), "refused,17,7\r\n");
     }

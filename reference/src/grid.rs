@@ -1,14 +1,14 @@
 //! Network files, Esri ASCII grid (RULES, Files and the report program).
 
 use crate::network::{Frame, Network, MAX_NETWORK_LEVEL};
-use crate::text::{level, lines, spell_level, whole};
+use crate::text::{fine_level, lines, spell_fine_level, whole};
 use crate::{ensure, Answer, Refusal};
 use std::fmt::Write;
 
 const NO_DATA_KEY: &str = "NODATA_value";
 const NO_DATA: &[u8] = b"-9999";
 
-/// A network's frame and its levels from the south row: 17, 12, 13, each judged over the whole text.
+/// A network's frame and its levels in thousandths from the south row: 17, 12, 13, each judged over the whole text.
 pub fn read(text: &[u8]) -> Answer<(Frame, Vec<u32>)> {
     let (frame, values) = spelled(text).map_err(|_| Refusal::Grid)?;
     frame.check()?;
@@ -53,7 +53,7 @@ fn cut_no_data<'a>(lines: &'a [&'a [u8]]) -> Option<(&'a [u8], &'a [&'a [u8]])> 
         [first, rest @ ..] if first.starts_with(NO_DATA_KEY.as_bytes()) => {
             let spelling = keyed(first, NO_DATA_KEY)?;
             let number = spelling.strip_prefix(b"-").unwrap_or(spelling);
-            whole(number).or(level(number))?;
+            whole(number).or(fine_level(number))?;
             Some((spelling, rest))
         }
         _ => Some((NO_DATA, lines)),
@@ -62,17 +62,17 @@ fn cut_no_data<'a>(lines: &'a [&'a [u8]]) -> Option<(&'a [u8], &'a [&'a [u8]])> 
 
 /// The values of a line, none for no data; or none at all where one is off the layout.
 fn row(line: &[u8], no_data: &[u8]) -> Option<Vec<Option<u32>>> {
-    let value = |field: &[u8]| if field == no_data { Some(None) } else { level(field).map(Some) };
+    let value = |field: &[u8]| if field == no_data { Some(None) } else { fine_level(field).map(Some) };
     line.split(|&byte| byte == b' ').map(value).collect()
 }
 
-/// The network's text; the network is in range.
+/// The network's text, each level with three decimals; the network is in range.
 pub fn write(network: &Network) -> String {
     let Frame { columns, rows, spacing, west, south } = network.frame;
     let mut text =
         format!("ncols {columns}\r\nnrows {rows}\r\nxllcenter {west}\r\nyllcenter {south}\r\ncellsize {spacing}\r\n");
     for row in network.levels.chunks(columns as usize).rev() {
-        let values: Vec<String> = row.iter().map(|&level| spell_level(level)).collect();
+        let values: Vec<String> = row.iter().map(|&level| spell_fine_level(level)).collect();
         write!(text, "{}\r\n", values.join(" ")).expect("a string takes all text");
     }
     text
@@ -91,11 +91,21 @@ mod tests {
 
     #[test]
     fn rows_run_from_north_to_south() {
-        let text = format!("{HEAD}1.00 2.00\r\n3.00 150.00\r\n");
-        let levels = vec![300, 15_000, 100, 200];
+        let text = format!("{HEAD}1.000 2.001\r\n0.000 150.000\r\n");
+        let levels = vec![0, 150_000, 1_000, 2_001];
         assert_eq!(read(text.as_bytes()), Ok((FRAME, levels.clone())));
         assert_eq!(write(&Network { frame: FRAME, levels: &levels }), text);
-        assert_eq!(read_values("1.00 2.00\r\n3.00 150.00"), Ok(levels), "the last CRLF may be missing");
+        assert_eq!(read_values("1.000 2.001\r\n0.000 150.000"), Ok(levels), "the last CRLF may be missing");
+    }
+
+    #[test]
+    fn two_and_three_decimals_in_one_file() {
+        assert_eq!(read_values("45.00 45.001\r\n0.001 149.999"), Ok(vec![1, 149_999, 45_000, 45_001]));
+        assert_eq!(read_values("0.00 0.000\r\n0.01 150.00"), Ok(vec![10, 150_000, 0, 0]));
+        let coarse = read_values("1.00 2.00\r\n3.00 150.00").expect("two decimals");
+        let written = write(&Network { frame: FRAME, levels: &coarse });
+        assert_eq!(written, format!("{HEAD}1.000 2.000\r\n3.000 150.000\r\n"));
+        assert_eq!(read(written.as_bytes()), Ok((FRAME, coarse)));
     }
 
     #[test]
@@ -108,6 +118,13 @@ mod tests {
             "1.00 2.00\r\n\r\n3.00 4.00",
             "1.00 2.00\r\n3.00 4.00\r\n\r\n",
             "1.00 2.00\r\n3.00 4",
+            "1.00 2.00\r\n3.00 4.0",
+            "1.00 2.00\r\n3.00 4.0000",
+            "1.000 2.000\r\n3.000 04.000",
+            "1.000 2.000\r\n3.000 1000.000",
+            "NODATA_value 1.0\r\n1.00 2.00\r\n3.00 4.00",
+            "NODATA_value -1.0000\r\n1.00 2.00\r\n3.00 4.00",
+            "NODATA_value -1.000\r\n1.00 2.00\r\n3.00 -1.00",
             "NODATA_value\r\n1.00 2.00\r\n3.00 4.00",
             "NODATA_value --1\r\n1.00 2.00\r\n3.00 4.00",
             "NODATA_value -01\r\n1.00 2.00\r\n3.00 4.00",
@@ -156,6 +173,7 @@ mod tests {
             "1.00 2.00\r\n3.00 4.00 5.00",
             "1.00 2.00\r\n3.00 4.00\r\n5.00 6.00",
             "999.99",
+            "999.999",
         ] {
             assert_eq!(read_values(wrong), Err(Refusal::Network), "{wrong:?}");
         }
@@ -167,14 +185,28 @@ mod tests {
     #[test]
     fn no_data_and_levels_out_of_range() {
         for wrong in [
+            "1.00 2.00\r\n3.00 150.001",
             "1.00 2.00\r\n3.00 150.01",
+            "1.00 2.00\r\n3.00 999.999",
             "1.00 -9999\r\n3.00 4.00",
             "NODATA_value 2.00\r\n1.00 2.00\r\n3.00 4.00",
+            "NODATA_value 2.000\r\n1.00 2.000\r\n3.00 4.00",
+            "NODATA_value -0.001\r\n1.00 -0.001\r\n3.00 4.00",
+            "NODATA_value -999.999\r\n1.00 2.00\r\n3.00 -999.999",
             "NODATA_value -0\r\n1.00 2.00\r\n3.00 -0",
             "NODATA_value 5\r\n1.00 2.00\r\n3.00 5",
         ] {
             assert_eq!(read_values(wrong), Err(Refusal::NetworkLevel), "{wrong:?}");
         }
-        assert_eq!(read_values("NODATA_value 2\r\n1.00 2.00\r\n3.00 4.00"), Ok(vec![300, 400, 100, 200]));
+    }
+
+    #[test]
+    fn no_data_is_what_is_spelled_alike() {
+        for no_data in ["2", "2.000", "-2.00", "2.001", "-0.001", "-9999999"] {
+            let text = format!("NODATA_value {no_data}\r\n1.00 2.00\r\n3.00 4.00");
+            assert_eq!(read_values(&text), Ok(vec![3_000, 4_000, 1_000, 2_000]), "{no_data}");
+        }
+        assert_eq!(read_values("NODATA_value 0.00\r\n1.00 0.000\r\n3.00 4.00"), Ok(vec![3_000, 4_000, 1_000, 0]));
+        assert_eq!(read_values("NODATA_value 0.000\r\n1.00 0.00\r\n3.00 4.00"), Ok(vec![3_000, 4_000, 1_000, 0]));
     }
 }

@@ -77,18 +77,18 @@ mod tests {
     #[test]
     fn the_documents_hill() {
         let network = Network { frame: Frame { west: 1000, south: 2000, ..FRAME }, levels: &HILL };
-        assert_eq!(map_point(&network, 4500, 2), (Crossing::Horizontal(0.5), MapPoint { x: 1050.0, y: 2100.0 }));
-        assert_eq!(map_point(&network, 4500, 10), (Crossing::Vertical(0.5), MapPoint { x: 1100.0, y: 2150.0 }));
-        assert_eq!(crossing(&network, 4500, 0), Crossing::None);
-        assert_eq!(map_point(&network, 4500, 12), (Crossing::None, MapPoint { x: 0.0, y: 0.0 }));
-        assert_eq!(crossing(&network, 4500, u32::MAX), Crossing::None);
+        assert_eq!(map_point(&network, 45_000, 2), (Crossing::Horizontal(0.5), MapPoint { x: 1050.0, y: 2100.0 }));
+        assert_eq!(map_point(&network, 45_000, 10), (Crossing::Vertical(0.5), MapPoint { x: 1100.0, y: 2150.0 }));
+        assert_eq!(crossing(&network, 45_000, 0), Crossing::None);
+        assert_eq!(map_point(&network, 45_000, 12), (Crossing::None, MapPoint { x: 0.0, y: 0.0 }));
+        assert_eq!(crossing(&network, 45_000, u32::MAX), Crossing::None);
     }
 
     #[test]
     fn fractions_reach_both_ends() {
         let network = Network { frame: FRAME, levels: &HILL };
-        assert_eq!(crossing(&network, 5000, 2), Crossing::Horizontal(1.0));
-        assert_eq!(crossing(&network, 5000, 3), Crossing::Horizontal(0.0));
-        assert_eq!(crossing(&network, 4001, 2), Crossing::Horizontal(0.001));
+        assert_eq!(crossing(&network, 50_000, 2), Crossing::Horizontal(1.0));
+        assert_eq!(crossing(&network, 50_000, 3), Crossing::Horizontal(0.0));
+        assert_eq!(crossing(&network, 40_001, 2), Crossing::Horizontal(0.0001));
     }
 }

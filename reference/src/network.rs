@@ -2,7 +2,8 @@
 
 use crate::{ensure, Answer, Refusal};
 
-pub const MAX_NETWORK_LEVEL: u32 = 15_000;
+/// In thousandths of a dB, as every level of a network or of contours.
+pub const MAX_NETWORK_LEVEL: u32 = 150_000;
 const MIN_SIDE: u32 = 2;
 const MAX_SIDE: u32 = 256;
 const MAX_SPACING: u32 = 500;
@@ -118,7 +119,7 @@ impl Network<'_> {
 pub(crate) mod tests {
     use super::*;
 
-    pub const HILL: [u32; 9] = [4000, 4000, 4000, 4000, 5000, 4000, 4000, 4000, 4000];
+    pub const HILL: [u32; 9] = [40_000, 40_000, 40_000, 40_000, 50_000, 40_000, 40_000, 40_000, 40_000];
     pub const FRAME: Frame = Frame { columns: 3, rows: 3, spacing: 100, west: 0, south: 0 };
 
     #[test]
@@ -147,20 +148,32 @@ pub(crate) mod tests {
         ] {
             assert_eq!(hill(frame).check(), Err(Refusal::Network), "{frame:?}");
         }
-        let high = Network { frame: FRAME, levels: &[15_001; 9] };
-        assert_eq!(high.check_contour(0), Err(Refusal::NetworkLevel));
-        assert_eq!(hill(FRAME).check_contour(0), Err(Refusal::Range));
-        assert_eq!(hill(FRAME).check_contour(15_001), Err(Refusal::Range));
-        assert_eq!(hill(FRAME).check_contour(15_000), Ok(()));
+    }
+
+    #[test]
+    fn levels_at_the_ends_of_their_ranges() {
+        for (highest, expected) in [(0, true), (1, true), (149_999, true), (150_000, true), (150_001, false)] {
+            let mut levels = HILL;
+            levels[8] = highest;
+            let network = Network { frame: FRAME, levels: &levels };
+            let judged = if expected { Ok(()) } else { Err(Refusal::NetworkLevel) };
+            assert_eq!((network.check(), network.check_contour(1)), (judged, judged), "{highest}");
+        }
+        let (hill, high) = (Network { frame: FRAME, levels: &HILL }, Network { frame: FRAME, levels: &[150_001; 9] });
+        assert_eq!(high.check_contour(0), Err(Refusal::NetworkLevel), "13 before 15");
+        for (level, expected) in [(0, false), (1, true), (149_999, true), (150_000, true), (150_001, false)] {
+            assert_eq!(hill.check_contour(level).is_ok(), expected, "{level}");
+        }
+        assert_eq!((hill.check_contour(0), hill.check_contour(150_001)), (Err(Refusal::Range), Err(Refusal::Range)));
     }
 
     #[test]
     fn a_point_at_exactly_v_is_in() {
         let network = Network { frame: FRAME, levels: &HILL };
         let edge = FRAME.edge(2).unwrap();
-        assert_eq!(network.crossed(edge, 5000), Some((1000, 1000)));
-        assert_eq!(network.crossed(edge, 4001), Some((1, 1000)));
-        assert_eq!(network.crossed(edge, 4000), None);
-        assert_eq!(network.crossed(edge, 5001), None);
+        assert_eq!(network.crossed(edge, 50_000), Some((10_000, 10_000)));
+        assert_eq!(network.crossed(edge, 40_001), Some((1, 10_000)));
+        assert_eq!(network.crossed(edge, 40_000), None);
+        assert_eq!(network.crossed(edge, 50_001), None);
     }
 }

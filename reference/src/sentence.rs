@@ -25,9 +25,9 @@ fn of(refusal: Refusal) -> &'static str {
             "network: size (2 to 256 a side), spacing (1 to 500 m), origin (0 to 900,000 m) \
              or the count of values is wrong"
         }
-        Refusal::NetworkLevel => "network: a level is over 150.00, or is the no-data value",
+        Refusal::NetworkLevel => "network: a level is over 150.000, or is the no-data value",
         Refusal::Room => "the room lent for the answer is too small",
-        Refusal::Range => "a limit is over 120.00, or a contour level is not from 0.01 to 150.00",
+        Refusal::Range => "a limit is over 120.00, or a contour level is not from 0.001 to 150.000",
         Refusal::Register => "the register, limits.csv, movements, tracks.csv or the journal is off its layout",
         Refusal::Grid => "network: a line is off its layout, or its line end is LF where CRLF is expected",
         Refusal::Flights => {

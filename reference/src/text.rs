@@ -29,14 +29,24 @@ pub fn whole(field: &[u8]) -> Option<u32> {
     }
 }
 
-/// A level or limit in hundredths: one to three digits, a point and two digits.
+/// A level or limit of a register in hundredths: one to three digits, a point and two digits.
 pub fn level(field: &[u8]) -> Option<u32> {
-    let (before, after) = field.split_at_checked(field.len().checked_sub(3)?)?;
-    let hundredths = digits(after.strip_prefix(b".")?)?;
+    pointed(field, 2)
+}
+
+/// A level of a network or of contours in thousandths: one to three digits, a point and two or three digits.
+pub fn fine_level(field: &[u8]) -> Option<u32> {
+    pointed(field, 2).map(|hundredths| hundredths * 10).or_else(|| pointed(field, 3))
+}
+
+/// One to three digits, a point and so many digits, taken as one number.
+fn pointed(field: &[u8], decimals: usize) -> Option<u32> {
+    let (before, after) = field.split_at_checked(field.len().checked_sub(decimals + 1)?)?;
+    let small = digits(after.strip_prefix(b".")?)?;
     if before.len() > 3 {
         return None;
     }
-    Some(whole(before)? * 100 + hundredths)
+    Some(whole(before)? * 10u32.pow(decimals as u32) + small)
 }
 
 /// hh:mm:ss as a second of the day.
@@ -72,6 +82,11 @@ fn digits(field: &[u8]) -> Option<u32> {
 /// Hundredths with a point and two digits.
 pub fn spell_level(level: u32) -> String {
     format!("{}.{:02}", level / 100, level % 100)
+}
+
+/// Thousandths with a point and three digits.
+pub fn spell_fine_level(level: u32) -> String {
+    format!("{}.{:03}", level / 1000, level % 1000)
 }
 
 pub fn spell_time(time: u32) -> String {
@@ -123,6 +138,32 @@ mod tests {
             assert_eq!(level(wrong), None, "{wrong:?}");
         }
         assert_eq!((spell_level(5), spell_level(12_000)), ("0.05".to_string(), "120.00".to_string()));
+    }
+
+    #[test]
+    fn fine_levels_have_two_or_three_decimals() {
+        for (field, thousandths) in [
+            ("0.00", 0),
+            ("0.000", 0),
+            ("0.001", 1),
+            ("0.01", 10),
+            ("45.00", 45_000),
+            ("45.001", 45_001),
+            ("149.999", 149_999),
+            ("150.00", 150_000),
+            ("150.001", 150_001),
+            ("999.99", 999_990),
+            ("999.999", 999_999),
+        ] {
+            assert_eq!(fine_level(field.as_bytes()), Some(thousandths), "{field}");
+        }
+        for wrong in [
+            "", ".", ".00", ".000", "45", "45.", "45.1", "45.1234", "1000.00", "1000.000", "00.00", "01.000", "045.00",
+            "45,000", "45.0 0", "45. 00", "-1.00", "-0.001", "+1.000", "4.5.00", "45.-01", " 45.00", "45.000 ",
+        ] {
+            assert_eq!(fine_level(wrong.as_bytes()), None, "{wrong:?}");
+        }
+        assert_eq!([0, 1, 45_010, 150_000].map(spell_fine_level), ["0.000", "0.001", "45.010", "150.000"]);
     }
 
     #[test]

@@ -55,8 +55,8 @@ mod tests {
         let network = Network { frame: FRAME, levels: &HILL };
         let expected =
             "MULTILINESTRING ((50.000 100.000, 100.000 50.000, 150.000 100.000, 100.000 150.000, 50.000 100.000))";
-        assert_eq!(print(&network, 4500), expected);
-        assert_eq!(print(&network, 4000), "MULTILINESTRING EMPTY");
+        assert_eq!(print(&network, 45_000), expected);
+        assert_eq!(print(&network, 40_000), "MULTILINESTRING EMPTY");
     }
 
     #[test]
@@ -68,5 +68,15 @@ mod tests {
             "MULTILINESTRING ((7.938 900000.000, 8.000 900000.063), (7.063 900001.000, 7.000 900000.938))";
         assert_eq!(print(&network, 1), around_the_out_corners);
         assert_eq!((nearest(1, 2), nearest(1, 3), nearest(2, 3)), (1, 0, 1));
+    }
+
+    #[test]
+    fn the_third_decimal_moves_a_line() {
+        // 500 m times 149,999/150,000 is 3 mm and a third short of the other end.
+        let frame = Frame { columns: 2, rows: 2, spacing: 500, west: 0, south: 0 };
+        let network = Network { frame, levels: &[0, 150_000, 0, 150_000] };
+        assert_eq!(print(&network, 149_999), "MULTILINESTRING ((499.997 500.000, 499.997 0.000))");
+        assert_eq!(print(&network, 150_000), "MULTILINESTRING ((500.000 500.000, 500.000 0.000))");
+        assert_eq!(print(&network, 1), "MULTILINESTRING ((0.003 500.000, 0.003 0.000))");
     }
 }

@@ -8,6 +8,11 @@ CONTOURS = command("contours")
 NETWORK = "ncols 3\r\nnrows 2\r\nxllcenter 0\r\nyllcenter 0\r\ncellsize 100\r\n"
 ROWS = "40.00 50.00 40.00\r\n40.00 40.00 40.00\r\n"
 SIZES = "rows: 2 by the header and 2 in the file; values: 6 by the header and 6 in the file"
+LAYOUT = "expected one to three digits, a point and two or three decimals, as 56.00"
+# The longest text that is neither off its layout nor of a wrong size, one byte less than the program's room.
+HEADER = "ncols 256\r\nnrows 256\r\nxllcenter 900000\r\nyllcenter 900000\r\ncellsize 500\r\nNODATA_value -999.999\r\n"
+LONGEST = HEADER + (" ".join(["-999.999"] * 256) + "\r\n") * 256
+assert len(LONGEST) == 590_175
 
 
 def contours(name, text, levels, refused, sentence):
@@ -41,8 +46,11 @@ def networks():
     network("no data", NETWORK + "NODATA_value none\r\n" + ROWS, "17,6", 6, spelled, "NODATA_value none")
     comma = "row 1, column 2 is '50,00', with a decimal comma, expected a point, as 56.00"
     network("network's decimal comma", whole.replace("50.00", "50,00"), "17,6", 6, comma, "40.00 50,00 40.00")
-    bare = "row 1, column 2 is '50', a level without decimals, expected two, as 56.00"
+    bare = "row 1, column 2 is '50', a level without decimals, expected two or three, as 56.00"
     network("value without decimals", whole.replace("50.00", "50"), "17,6", 6, bare, "40.00 50 40.00")
+    for value in ("50.0", "50.0000", "-50.000"):
+        off = f"row 1, column 2 is '{value}', {LAYOUT}"
+        network(f"value {value}", whole.replace("50.00", value), "17,6", 6, off, f"40.00 {value} 40.00")
     blank = "row 1, column 1 is blank, expected one space between values and none around them"
     network("space in front", NETWORK + " " + ROWS, "17,6", 6, blank, " 40.00 50.00 40.00")
     parted = "semicolons part the values, expected one space"
@@ -66,14 +74,25 @@ def networks():
     network("yllcenter", whole.replace("yllcenter 0", "yllcenter 900001"), "12,0", 4, place, "yllcenter 900001")
     space = f"cellsize is '501', expected 1 to 500; {SIZES}"
     network("cellsize", whole.replace("size 100", "size 501"), "12,0", 5, space, "cellsize 501")
-    high = f"row 1, column 2 is '150.01', expected 150.00 or less; {SIZES}"
-    network("level over 150.00", whole.replace("50.00", "150.01"), "13,0", 6, high, "40.00 150.01 40.00")
-    none = f"row 1, column 2 is '50.00', which is no data, expected a level; {SIZES}"
-    network("no-data value", NETWORK + "NODATA_value 50.00\r\n" + ROWS, "13,0", 7, none, "40.00 50.00 40.00")
+    for value in ("150.001", "150.01"):
+        high = f"row 1, column 2 is '{value}', expected 150.000 or less; {SIZES}"
+        network(f"level {value}", whole.replace("50.00", value), "13,0", 6, high, f"40.00 {value} 40.00")
+    for value in ("50.00", "50.000"):
+        none = f"row 1, column 2 is '{value}', which is no data, expected a level; {SIZES}"
+        rows = f"NODATA_value {value}\r\n" + ROWS.replace("50.00", value)
+        network(f"no-data value {value}", NETWORK + rows, "13,0", 7, none, f"40.00 {value} 40.00")
     none = f"row 2, column 1 is '-9999', which is no data, expected a level; {SIZES}"
     network("no data without its line", NETWORK + ROWS[:19] + "-9999" + ROWS[24:], "13,0", 7, none, "-9999 40.00 40.00")
-    full = "network: 600,000 bytes or more, and no network of 256 rows of 256 values has as many (12)\n"
+    full = "network: 590,176 bytes or more, and no network of 256 rows of 256 values has as many (12)\n"
     contours("overlong", NETWORK + ROWS * 16000, ["45.00"], "12,0", full)
+    cut = ("-999.999 " * 12)[:100] + ".."
+    sizes = "rows: 256 by the header and 256 in the file; values: 65536 by the header and 65536 in the file"
+    none = f"row 1, column 1 is '-999.999', which is no data, expected a level; {sizes}"
+    network("longest", LONGEST, "13,0", 7, none, cut)
+    contours("longest and a byte", LONGEST.replace("ncols 256", "ncols 2560"), ["45.00"], "12,0", full)
+    last = f"row 256, column 256 is '-999.999xx', {LAYOUT}"
+    network("wrong line that fits", LONGEST[:-2] + "xx", "17,262", 262, last, cut)
+    contours("wrong line without its end", LONGEST[:-2] + "xxx", ["45.00"], "12,0", full)
     cut = "x" * 100 + ".."
     network("overlong line", "x" * 700000, "17,1", 1, f"the key is '{cut}', expected ncols", cut)
     folder = os.open("/", os.O_RDONLY)
@@ -85,13 +104,18 @@ def levels():
     """The arguments of contours, and warnings on what is drawn."""
     whole = NETWORK + ROWS
     contours("no level", whole, [], "15,0",
-             "arguments: no contour level, expected one or more from 0.01 to 150.00, as 45.00 56.00 (15)\n")
+             "arguments: no contour level, expected one or more from 0.001 to 150.000, as 45.00 56.00 (15)\n")
     words = {
-        "45": "a level without decimals, expected two, as 56.00",
+        "45": "a level without decimals, expected two or three, as 56.00",
         "45,00": "with a decimal comma, expected a point, as 56.00",
-        "150.01": "expected 0.01 to 150.00",
-        "-45.00": "expected one to three digits, a point and two decimals, as 56.00",
-        "9" * 120: "a level without decimals, expected two, as 56.00",
+        "45,000": "with a decimal comma, expected a point, as 56.00",
+        "0.000": "expected 0.001 to 150.000",
+        "150.001": "expected 0.001 to 150.000",
+        "150.01": "expected 0.001 to 150.000",
+        "45.0": LAYOUT,
+        "45.0000": LAYOUT,
+        "-45.00": LAYOUT,
+        "9" * 120: "a level without decimals, expected two or three, as 56.00",
     }
     for word, expected in words.items():
         shown = word if len(word) < 100 else word[:100] + ".."
@@ -99,16 +123,18 @@ def levels():
                  f"arguments: level 2 is '{shown}', {expected} (15)\n")
     contours("15,001 levels", whole, ["45.00"] * 15001, "14,0",
              "arguments: the number of contour levels is 15001, expected 15,000 or less (14)\n")
-    contours("no contour above", whole, ["60.00"], b"level;wkt\r\n60.00;MULTILINESTRING EMPTY\r\n",
-             "level 60.00: no contour, since every value of the network is lower\n")
-    contours("no contour below", whole, ["40.00"], b"level;wkt\r\n40.00;MULTILINESTRING EMPTY\r\n",
-             "level 40.00: no contour, since no value of the network is lower\n")
+    contours("no contour above", whole, ["60.00"], b"level;wkt\r\n60.000;MULTILINESTRING EMPTY\r\n",
+             "level 60.000: no contour, since every value of the network is lower\n")
+    contours("no contour a thousandth above", whole, ["50.001"], b"level;wkt\r\n50.001;MULTILINESTRING EMPTY\r\n",
+             "level 50.001: no contour, since every value of the network is lower\n")
+    contours("no contour below", whole, ["40.000"], b"level;wkt\r\n40.000;MULTILINESTRING EMPTY\r\n",
+             "level 40.000: no contour, since no value of the network is lower\n")
     contours("open line", whole, ["45.00"],
-             b"level;wkt\r\n45.00;MULTILINESTRING ((50.000 100.000, 100.000 50.000, 150.000 100.000))\r\n",
-             "level 45.00: lines that are open at the map's edge: 1 of 1\n")
+             b"level;wkt\r\n45.000;MULTILINESTRING ((50.000 100.000, 100.000 50.000, 150.000 100.000))\r\n",
+             "level 45.000: lines that are open at the map's edge: 1 of 1\n")
     closed = NETWORK.replace("nrows 2", "nrows 3") + "40.00 40.00 40.00\r\n" + ROWS
     contours("closed line", closed, ["45.00"],
-             b"level;wkt\r\n45.00;MULTILINESTRING ((50.000 100.000, 100.000 50.000, 150.000 100.000, 100.000 150.000, "
+             b"level;wkt\r\n45.000;MULTILINESTRING ((50.000 100.000, 100.000 50.000, 150.000 100.000, 100.000 150.000, "
              b"50.000 100.000))\r\n", "")
 
 

@@ -77,7 +77,7 @@ fn compare_places(library: &Library, random: &mut Random, frame: Frame, levels: 
 fn compare_all(library: &Library, random: &mut Random, frame: Frame, levels: &[u32], level: u32) {
     compare_contours(library, random, frame, levels, level);
     compare_text(library, random, Written::Contours { frame, levels, level }, 64 * levels.len() + 64);
-    compare_text(library, random, Written::Network { frame, levels }, 7 * levels.len() + 100);
+    compare_text(library, random, Written::Network { frame, levels }, 9 * levels.len() + 100);
     compare_places(library, random, frame, levels, level);
 }
 
@@ -118,11 +118,11 @@ fn refused_networks() {
             0 => drop(levels.pop()),
             1 => levels.push(0),
             2 => levels.clear(),
-            3 => levels[place] = random.pick(&[15_000, 15_001, u32::MAX]),
+            3 => levels[place] = random.pick(&[150_000, 150_001, u32::MAX]),
             _ => {}
         }
         if random.once_in(3) {
-            level = random.pick(&[0, 1, 15_000, 15_001, u32::MAX]);
+            level = random.pick(&[0, 1, 150_000, 150_001, u32::MAX]);
         }
         compare_all(library, random, frame, &levels, level);
     });

@@ -22,25 +22,34 @@ struct Crossed {
 }
 
 /// On each of these every other order of operations gives other bits. Looked for; the bits are worked by hand.
-const CROSSED: [Crossed; 3] = [
-    Crossed { index: 1, spacing: 3, origin: 7, from: 5_060, to: 5_278, level: 5_110, bits: 0x4025_604b_27ed_3604 },
+const CROSSED: [Crossed; 4] = [
+    Crossed { index: 1, spacing: 3, origin: 7, from: 50_600, to: 52_780, level: 51_100, bits: 0x4025_604b_27ed_3604 },
     Crossed {
         index: 6,
         spacing: 500,
         origin: 847_243,
-        from: 13_489,
-        to: 14_013,
-        level: 13_774,
+        from: 134_890,
+        to: 140_130,
+        level: 137_740,
         bits: 0x4129_f4a5_e4a4_2716,
     },
     Crossed {
         index: 9,
         spacing: 211,
         origin: 123_457,
-        from: 7_618,
-        to: 13_144,
-        level: 8_619,
+        from: 76_180,
+        to: 131_440,
+        level: 86_190,
         bits: 0x40fe_9d23_8a84_1f80,
+    },
+    Crossed {
+        index: 6,
+        spacing: 302,
+        origin: 222_985,
+        from: 31_799,
+        to: 97_852,
+        level: 40_073,
+        bits: 0x410b_7216_a2b1_6faa,
     },
 ];
 
@@ -150,5 +159,27 @@ fn open_lines_before_closed_ones() {
             (110.000 10.000, 110.000 10.000, 110.000 10.000, 110.000 10.000, 110.000 10.000), \
             (130.000 10.000, 130.000 10.000, 130.000 10.000, 130.000 10.000, 130.000 10.000))";
         prints(&library, frame, &levels, 9, expected);
+    });
+}
+
+/// A thousandth decides whether a point is in and how a saddle is joined, and moves a line by millimetres.
+#[test]
+fn the_third_decimal_counts() {
+    directed("the_third_decimal_counts", &[("print_contours", 7, &["0"])], || {
+        let library = Library::from_environment();
+        let frame = Frame { columns: 2, rows: 2, spacing: 500, west: 0, south: 0 };
+        let (step, cliff) = ([45_004, 45_005, 45_004, 45_005], [0, 150_000, 0, 150_000]);
+        let (even, under) = ([45_010, 44_990, 44_990, 45_010], [45_010, 44_990, 44_990, 45_009]);
+        for (levels, level, lines) in [
+            (step, 45_004, "EMPTY"),
+            (step, 45_005, "((500.000 500.000, 500.000 0.000))"),
+            (step, 45_006, "EMPTY"),
+            (cliff, 1, "((0.003 500.000, 0.003 0.000))"),
+            (cliff, 149_999, "((499.997 500.000, 499.997 0.000))"),
+            (even, 45_000, "((250.000 0.000, 500.000 250.000), (250.000 500.000, 0.000 250.000))"),
+            (under, 45_000, "((250.000 0.000, 0.000 250.000), (263.158 500.000, 500.000 263.158))"),
+        ] {
+            prints(&library, frame, &levels, level, &format!("MULTILINESTRING {lines}"));
+        }
     });
 }

@@ -1,14 +1,17 @@
 //! The contours program: a network file on standard input, contour levels as arguments.
 
-use crate::damage::damage;
+use crate::damage::{damage, damage_decimals};
 use crate::delivery::{a_delivery, Delivery};
-use crate::drawn::{a_frame, a_level, a_network};
+use crate::drawn::{a_frame, a_level, a_network, lines_of};
 use crate::program::Program;
 use crate::random::Random;
-use crate::rounds::{directed, rounds, saw, Telling};
+use crate::rounds::{rounds, saw, Telling};
 use reference::contours_csv::contours_csv;
-use reference::network::{Frame, Network};
-use reference::text::spell_level;
+use reference::network::{Frame, Network, MAX_NETWORK_LEVEL};
+use reference::text::{spell_fine_level, spell_level};
+
+/// The program's room for a text: one byte more than any network of 256 rows of 256 values has.
+pub const ROOM: usize = 590_176;
 
 /// What a network and its levels are made for. The answer is the reference's to give; damage may make it another.
 #[derive(Clone, Copy, PartialEq, Eq)]
@@ -20,6 +23,7 @@ enum Aim {
     NoData,
     ContourLevel,
     Layout,
+    Decimals,
     Damage,
 }
 
@@ -29,7 +33,7 @@ fn an_aim(random: &mut Random) -> Aim {
     if random.within(1, 5) <= 3 {
         Answer
     } else {
-        random.pick(&[Size, Count, NetworkLevel, NoData, ContourLevel, Layout, Damage])
+        random.pick(&[Size, Count, NetworkLevel, NoData, ContourLevel, Layout, Decimals, Damage])
     }
 }
 
@@ -43,11 +47,12 @@ fn a_wrong_frame(random: &mut Random, frame: Frame) -> Frame {
     }
 }
 
-/// The network as a file's lines, now and then with a no-data line.
-fn lines_of(random: &mut Random, network: &Network) -> Vec<String> {
-    let mut lines: Vec<String> = reference::grid::write(network).split_terminator("\r\n").map(str::to_string).collect();
+/// The network as a file's lines, with two decimals, three or both, and now and then with a no-data line.
+fn a_files_lines(random: &mut Random, network: &Network) -> Vec<String> {
+    let mut lines = lines_of(random, network);
     if random.once_in(3) {
-        lines.insert(5, format!("NODATA_value {}", random.pick(&["-9999", "-1", "0", "9999999", "-12.50"])));
+        let spelling = random.pick(&["-9999", "-1", "0", "9999999", "-12.50", "-12.500", "-999.999"]);
+        lines.insert(5, format!("NODATA_value {spelling}"));
     }
     lines
 }
@@ -57,11 +62,11 @@ fn miscount(random: &mut Random, lines: &mut Vec<String>) {
     let row = random.within(6, lines.len() as u32 - 1) as usize;
     let again = lines[row].clone();
     match random.within(0, 4) {
-        0 => lines[row] += " 1.00",
+        0 => lines[row] += random.pick(&[" 1.00", " 1.000"]),
         1 => lines[row].truncate(again.rfind(' ').expect("a row has two values")),
         2 => lines.insert(row, again),
         3 => drop(lines.remove(row)),
-        _ => lines.extend((0..600_000 / (again.len() + 2)).map(|_| again.clone())),
+        _ => lines.extend((0..ROOM.div_ceil(again.len() + 2)).map(|_| again.clone())),
     }
 }
 
@@ -103,9 +108,9 @@ fn a_file(random: &mut Random, aim: Aim, level: u32) -> (Frame, Vec<u8>) {
     let mut levels = a_network(random, &frame, level);
     if aim == Aim::NetworkLevel || (matches!(aim, Aim::Size | Aim::Count) && second) {
         let place = random.within(0, levels.len() as u32 - 1) as usize;
-        levels[place] = random.pick(&[15_001, 99_999]);
+        levels[place] = random.pick(&[150_001, 150_010, 999_999]);
     }
-    let mut lines = lines_of(random, &Network { frame, levels: &levels });
+    let mut lines = a_files_lines(random, &Network { frame, levels: &levels });
     match aim {
         Aim::Count => miscount(random, &mut lines),
         Aim::NoData => put_no_data(random, &mut lines),
@@ -113,37 +118,43 @@ fn a_file(random: &mut Random, aim: Aim, level: u32) -> (Frame, Vec<u8>) {
         _ => {}
     }
     let mut text = (lines.join("\r\n") + random.pick(&["", "\r\n"])).into_bytes();
-    if aim == Aim::Damage {
-        damage(random, &mut text);
+    match aim {
+        Aim::Decimals => damage_decimals(random, &mut text),
+        Aim::Damage => damage(random, &mut text),
+        _ => {}
     }
     (frame, text)
 }
 
-/// The words of one to five contour levels about this one.
+/// The words of one to five contour levels about this one, with three decimals or with two.
 fn some_levels(random: &mut Random, level: u32) -> Vec<String> {
     let about = |random: &mut Random| {
-        let any = random.within(1, 15_000);
-        random.pick(&[level, level, level + 1, level - 1, level + 700, any]).clamp(1, 15_000)
+        let any = random.within(1, MAX_NETWORK_LEVEL);
+        random.pick(&[level, level, level + 1, level - 1, level + 7_000, any]).clamp(1, MAX_NETWORK_LEVEL)
     };
-    (0..random.pick(&[1, 1, 2, 3, 5])).map(|_| spell_level(about(random))).collect()
+    let word = |random: &mut Random| match about(random) {
+        level if level >= 10 && random.once_in(2) => spell_level(level / 10),
+        level => spell_fine_level(level),
+    };
+    (0..random.pick(&[1, 1, 2, 3, 5])).map(|_| word(random)).collect()
 }
 
 /// No levels, or one among them that is none.
 fn spoil_levels(random: &mut Random, words: &mut Vec<String>) {
     let wrong = [
-        "0.00", "150.01", "999.99", "1000.00", "45", "45.0", "045.00", "45.000", "", " 45.00", "45.00 ", "-1.00", "x",
-        "45,00",
+        "0.00", "0.000", "150.01", "150.001", "999.99", "999.999", "1000.00", "1000.000", "45", "45.", "45.0",
+        "45.0000", "045.00", "045.000", "", " 45.00", "45.000 ", "-1.00", "-1.000", "x", "45,00", "45,000",
     ];
     let place = random.within(0, words.len() as u32) as usize;
     match random.within(0, 7) {
         0 => words.clear(),
-        1 => words.insert(place, format!("45.00{}", "0".repeat(40))),
+        1 => words.insert(place, format!("45.000{}", "0".repeat(40))),
         _ => words.insert(place, random.pick(&wrong).to_string()),
     }
 }
 
 /// Counts what an answer is, and of drawn contours what they show.
-fn count(answer: &str, frame: Frame, words: &[String]) {
+pub fn count(answer: &str, frame: Frame, words: &[String]) {
     if let Some(refused) = answer.strip_prefix("refused,") {
         let mut fields = refused.trim_end().split(',');
         saw("contours", fields.next().expect("a number"));
@@ -158,8 +169,11 @@ fn count(answer: &str, frame: Frame, words: &[String]) {
     let texts: Vec<&str> = answer.lines().skip(1).collect();
     let lines = |text: &str| text.matches("), (").count() + 1;
     let drawn = |text: &&&str| !text.ends_with("EMPTY");
+    let decimals = |word: &str| word.len() - word.find('.').map_or(word.len(), |point| point + 1);
     for (kind, holds) in [
         ("several levels", words.len() > 1),
+        ("words of two decimals", words.iter().any(|word| decimals(word) == 2)),
+        ("words of three decimals", words.iter().any(|word| decimals(word) == 3)),
         ("no contour at a level", texts.iter().any(|text| text.ends_with("EMPTY"))),
         ("two lines and more at a level", texts.iter().filter(drawn).any(|text| lines(text) > 1)),
         ("a hundred lines and more at a level", texts.iter().any(|text| lines(text) >= 100)),
@@ -173,7 +187,7 @@ fn count(answer: &str, frame: Frame, words: &[String]) {
 }
 
 /// Runs the program and compares.
-fn compare(program: &Program, text: &[u8], words: &[String], delivery: &Delivery) -> String {
+pub fn compare(program: &Program, text: &[u8], words: &[String], delivery: &Delivery) -> String {
     let levels: Vec<&[u8]> = words.iter().map(|word| word.as_bytes()).collect();
     let expected = contours_csv(text, &levels);
     let own = program.run(words, text, delivery);
@@ -195,6 +209,7 @@ fn contours_drawn() {
         ("contours", 5, &["byte by byte"]),
         ("drawn", 3, &["256 by 256", "no contour at a level", "a hundred lines and more at a level"]),
         ("drawn", 30, &["several levels", "two lines and more at a level", "west unlike south"]),
+        ("drawn", 30, &["words of two decimals", "words of three decimals"]),
     ];
     let program = Program::from_environment("OKUBINRAFO_CONTOURS");
     rounds("contours_drawn", 300, TELLING, move |random| {
@@ -220,67 +235,4 @@ fn difference(own: &[u8], expected: &[u8], text: &[u8], words: &[String]) -> Str
     format!(
         "the program writes about byte {place} {own:?}\nthe reference {expected:?}\nlevels {words:?}\nnetwork {text:?}"
     )
-}
-
-/// The rules's hill, cut in two at every place, at levels with a contour and without.
-#[test]
-#[ignore = "needs OKUBINRAFO_CONTOURS, the command of the contours program"]
-fn the_documents_hill_in_two_pieces() {
-    let program = Program::from_environment("OKUBINRAFO_CONTOURS");
-    directed("the_documents_hill_in_two_pieces", &[("contours", 100, &["answered"])], move || {
-        let rows = "40.00 40.00 40.00\r\n40.00 50.00 40.00\r\n40.00 40.00 40.00\r\n";
-        let text = format!("ncols 3\r\nnrows 3\r\nxllcenter 0\r\nyllcenter 0\r\ncellsize 100\r\n{rows}");
-        let ring =
-            "MULTILINESTRING ((50.000 100.000, 100.000 50.000, 150.000 100.000, 100.000 150.000, 50.000 100.000))";
-        let drawn = format!("level;wkt\r\n50.01;MULTILINESTRING EMPTY\r\n45.00;{ring}\r\n");
-        for cut in 1..text.len() {
-            let words = ["50.01", "45.00"].map(str::to_string);
-            let answer = compare(&program, text.as_bytes(), &words, &Delivery::Pieces(vec![cut]));
-            assert_eq!(answer, drawn);
-            saw("contours", "answered");
-        }
-    });
-}
-
-/// The ranges of a network file and of the levels, at their ends and one past them, with everything else right.
-#[test]
-#[ignore = "needs OKUBINRAFO_CONTOURS, the command of the contours program"]
-fn ranges_of_the_contours_program() {
-    const FRAME: Frame = Frame { columns: 3, rows: 2, spacing: 100, west: 5, south: 6 };
-    let program = Program::from_environment("OKUBINRAFO_CONTOURS");
-    directed("ranges_of_the_contours_program", &[("contours", 2, &["answered", "12", "13", "15"])], move || {
-        let runs = |frame: Frame, highest: u32, word: &str, expected: &str| {
-            let mut levels: Vec<u32> = (0..frame.points() as u32).map(|point| point % frame.columns).collect();
-            levels[0] = highest;
-            let text = reference::grid::write(&Network { frame, levels: &levels });
-            let answer = compare(&program, text.as_bytes(), &[word.to_string()], &Delivery::File);
-            assert!(answer.starts_with(expected), "{frame:?}, {highest}, level {word:?}: {answer:?}");
-            count(&answer, frame, &[word.to_string()]);
-        };
-        let drawn = "level;wkt\r\n";
-        for (frame, expected) in [
-            (Frame { columns: 1, ..FRAME }, "refused,12,0"),
-            (Frame { columns: 256, rows: 256, ..FRAME }, drawn),
-            (Frame { columns: 257, ..FRAME }, "refused,12,0"),
-            (Frame { rows: 1, ..FRAME }, "refused,12,0"),
-            (Frame { rows: 257, ..FRAME }, "refused,12,0"),
-            (Frame { spacing: 0, ..FRAME }, "refused,12,0"),
-            (Frame { spacing: 1, ..FRAME }, drawn),
-            (Frame { spacing: 500, ..FRAME }, drawn),
-            (Frame { spacing: 501, ..FRAME }, "refused,12,0"),
-            (Frame { west: 900_000, south: 900_000, ..FRAME }, drawn),
-            (Frame { west: 900_001, ..FRAME }, "refused,12,0"),
-            (Frame { south: 900_001, ..FRAME }, "refused,12,0"),
-        ] {
-            runs(frame, 0, "0.01", expected);
-        }
-        for (highest, expected) in [(15_000, drawn), (15_001, "refused,13,0"), (99_999, "refused,13,0")] {
-            runs(FRAME, highest, "0.01", expected);
-        }
-        for (word, expected) in
-            [("0.00", "refused,15,0"), ("0.01", drawn), ("150.00", drawn), ("150.01", "refused,15,0")]
-        {
-            runs(FRAME, 0, word, expected);
-        }
-    });
 }

@@ -5,6 +5,7 @@
 //! SEED chooses the inputs; ROUNDS or SECONDS_EACH how many or how long; FIRST the first round. The tests start a
 //! process a round, so they run only when asked for: cargo test --test programs -- --ignored
 
+mod contour_ranges;
 mod contours;
 mod couple;
 #[path = "../shared/damage.rs"]

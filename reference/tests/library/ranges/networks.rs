@@ -67,11 +67,15 @@ fn ranges_of_a_network() {
         }
         every_network_call(&library, FRAME, &fitting(FRAME)[1..], 1, 12);
         every_network_call(&library, FRAME, &[0, 1, 2, 0, 1, 2, 0], 1, 12);
-        every_network_call(&library, FRAME, &[0, 1, 2, 0, 1, 15_000], 1, 0);
-        every_network_call(&library, FRAME, &[0, 1, 2, 0, 1, 15_001], 1, 13);
-        every_network_call(&library, FRAME, &[15_001, 1, 2, 0, 1, 2], 0, 13);
-        for (level, expected) in [(0, 15), (1, 0), (15_000, 0), (15_001, 15)] {
+        for (highest, expected) in [(0, 0), (1, 0), (15_001, 0), (149_999, 0), (150_000, 0), (150_001, 13)] {
+            every_network_call(&library, FRAME, &[0, 1, 2, 0, 1, highest], 1, expected);
+            every_network_call(&library, FRAME, &[highest, 1, 2, 0, 1, 2], 150_000, expected);
+        }
+        every_network_call(&library, FRAME, &[u32::MAX, 1, 2, 0, 1, 2], 1, 13);
+        every_network_call(&library, FRAME, &[150_001, 1, 2, 0, 1, 2], 0, 13);
+        for (level, expected) in [(0, 15), (1, 0), (15_001, 0), (149_999, 0), (150_000, 0), (150_001, 15)] {
             every_network_call(&library, FRAME, &fitting(FRAME), level, expected);
         }
+        every_network_call(&library, FRAME, &fitting(FRAME), u32::MAX, 15);
     });
 }

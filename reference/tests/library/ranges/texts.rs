@@ -105,6 +105,73 @@ fn ranges_of_a_row() {
     });
 }
 
+/// Values of a network of 1 to 4 dB that is right but for them, and what reading answers.
+const VALUES: [(&str, u32); 27] = [
+    ("0.00", 0),
+    ("0.000", 0),
+    ("0.001", 0),
+    ("4.001", 0),
+    ("4.01", 0),
+    ("149.999", 0),
+    ("150.00", 0),
+    ("150.000", 0),
+    ("150.001", 13),
+    ("150.01", 13),
+    ("999.99", 13),
+    ("999.999", 13),
+    ("1000.00", 17),
+    ("1000.000", 17),
+    ("-9999", 13),
+    ("-9998", 17),
+    ("-4.00", 17),
+    ("-4.000", 17),
+    ("4", 17),
+    ("4.", 17),
+    ("4.0", 17),
+    ("4.0000", 17),
+    ("4.00000", 17),
+    ("04.00", 17),
+    ("04.000", 17),
+    (".000", 17),
+    ("4,000", 17),
+];
+
+/// Spellings of no data beside the values 1.00, 2.00, 3.00 and 4.00, and what reading answers.
+const NO_DATA: [(&str, u32); 20] = [
+    ("-9999999", 0),
+    ("-10000000", 17),
+    ("0", 0),
+    ("2", 0),
+    ("2.00", 13),
+    ("2.000", 0),
+    ("-2.00", 0),
+    ("-0.50", 0),
+    ("-0.500", 0),
+    ("999.99", 0),
+    ("-999.999", 0),
+    ("-1000.00", 17),
+    ("1000.000", 17),
+    ("2.0", 17),
+    ("2.0000", 17),
+    ("-2.", 17),
+    ("01", 17),
+    ("-02.000", 17),
+    ("--2.000", 17),
+    ("", 17),
+];
+
+/// Two spellings of one level, of which one is no data.
+const ALIKE: [(&str, &str, u32); 8] = [
+    ("0.00", "0.000", 0),
+    ("0.000", "0.00", 0),
+    ("0.00", "0.00", 13),
+    ("0.000", "0.000", 13),
+    ("45.01", "45.010", 0),
+    ("45.010", "45.01", 0),
+    ("0", "0.000", 0),
+    ("-0.000", "0.000", 0),
+];
+
 #[test]
 fn ranges_in_a_network_text() {
     const TELLING: Telling = &[("read_network", 2, &["0", "12", "13", "17"]), ("read_network", 1, &["14"])];
@@ -133,15 +200,15 @@ fn ranges_in_a_network_text() {
             reads(&reference::grid::write(&Network { frame, levels: &fitting(frame) }), expected);
         }
         let right = "ncols 2\r\nnrows 2\r\nxllcenter 5\r\nyllcenter 6\r\ncellsize 100\r\n1.00 2.00\r\n3.00 4.00\r\n";
-        for (value, expected) in
-            [("150.00", 0), ("150.01", 13), ("999.99", 13), ("1000.00", 17), ("-9999", 13), ("-9998", 17), ("4.0", 17)]
-        {
+        for (value, expected) in VALUES {
             reads(&right.replace("4.00", value), expected);
+            reads(&right.replace(".00", ".000").replace("4.000", value), expected);
         }
-        for (named, expected) in
-            [("-9999999", 0), ("-10000000", 17), ("0", 0), ("-0.50", 0), ("2.00", 13), ("01", 17), ("", 17)]
-        {
+        for (named, expected) in NO_DATA {
             reads(&right.replace("1.00 2", &format!("NODATA_value {named}\r\n1.00 2")), expected);
+        }
+        for (named, value, expected) in ALIKE {
+            reads(&right.replace("1.00", &format!("NODATA_value {named}\r\n{value}")), expected);
         }
         for (wrong, expected) in [
             ("1.00 2.00\r\n3.00", 12),
@@ -150,6 +217,9 @@ fn ranges_in_a_network_text() {
         ] {
             reads(&right.replace("1.00 2.00\r\n3.00 4.00", wrong), expected);
         }
+        let head = "ncols 256\r\nnrows 256\r\nxllcenter 900000\r\nyllcenter 900000\r\ncellsize 500\r\n";
+        let rows = (["-999.999"; 256].join(" ") + "\r\n").repeat(256);
+        reads(&format!("{head}NODATA_value -999.999\r\n{rows}"), 13);
         assert_eq!(read_network(&library, right.as_bytes(), &[77; 4], &room), 14);
         assert_eq!(read_network(&library, right.as_bytes(), &[77; 5], &[77; 3]), 14);
     });
