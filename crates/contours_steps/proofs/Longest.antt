@@ -1,5 +1,5 @@
--- The program's room is as large as it has to be: no network text that is neither 17 nor 12 has more than 590,175 bytes,
--- and one has as many, 256 rows of 256 values spelled as no data is, in eight bytes. Assumes nothing.
+-- The program's room is as large as it has to be: no network text that is neither 17 nor 12 has more than 590,175
+-- bytes, and one has as many, 256 rows of 256 values spelled as no data is, in eight bytes. Assumes nothing.
 use Prim.Native.Nat.{ℕ, zero, suc, _+_, _*_, _≤_, _<_}
 use mathlib.Core.{Path._≡_, Path.refl, Path.sym, Path.ap, Path._∙_}
 use mathlib.Core.Bool.{Bool, true, false, _&&_}

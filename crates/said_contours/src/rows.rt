@@ -18,7 +18,7 @@ pub struct Place {
     pub end: usize,
 }
 
-// What is looked for: a value that is none, a level over 150.000 or no data, a row without this many values, or nothing.
+// What is looked for: a value that is none, a level over 150.000 or no data, a row without so many values, or nothing.
 pub enum Sought {
     Off,
     Over,

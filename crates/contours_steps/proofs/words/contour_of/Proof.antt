@@ -9,14 +9,16 @@ returns : tie.Need-returns
 returns c =
     let got = c .before .before in
     let read = got .before .before in
-    word-low (read .before .before .args .word .now) (read .thousandths .ensures) (got .v .given .0 .0) (got .v .given .1)
+    word-low (read .before .before .args .word .now) (read .thousandths .ensures) (got .v .given .0 .0)
+    (got .v .given .1)
     (omega arith)
 
 returns-2 : tie.Need-returns-2
 returns-2 c =
     let got = c .before .before .before in
     let read = got .before .before in
-    word-high (read .before .before .args .word .now) (read .thousandths .ensures) (got .v .given .0 .0) (got .v .given .1)
+    word-high (read .before .before .args .word .now) (read .thousandths .ensures) (got .v .given .0 .0)
+    (got .v .given .1)
     (omega arith)
 
 enum-told : tie.Need-enum-told
@@ -26,7 +28,8 @@ returns-3 : tie.Need-returns-3
 returns-3 c =
     let got = c .before .before .before in
     let read = got .before .before in
-    word-got (read .before .before .args .word .now) (read .thousandths .ensures) (got .v .given .0 .0) (got .v .given .1)
+    word-got (read .before .before .args .word .now) (read .thousandths .ensures) (got .v .given .0 .0)
+    (got .v .given .1)
     (omega arith)
     (omega arith)
 

@@ -62,9 +62,9 @@ started c =
     )
 
 -- what is left begins with the next space and level
-next : (c : tie.In-loop Inv-loop μ-loop) → let at-put-thousandths = c .before .before .before .before in
-    let start = at-put-thousandths .before .before .before .before .before in
-    let a = start .args in let l = c .before .loop in let p = at-put-thousandths .put-thousandths in
+next : (c : tie.In-loop Inv-loop μ-loop) → let at-first = c .before .before .before .before in
+    let start = at-first .before .before .before .before .before in
+    let a = start .args in let l = c .before .loop in let p = at-first .put-thousandths in
     Writing (p .last .0) (p .result) (spacedOf (drop 1 (a .row .now))) (l .out) (l .at)
     ((32 ∷ showThousandths (getD (a .row .now) (l .i) 0)) ++ spacedOf (drop (l .i + 1) (a .row .now)))
 next c =
@@ -104,13 +104,13 @@ loop-again c =
 
 returns : tie.Need-returns Inv-loop μ-loop
 returns c =
-    let at-put-thousandths = c .before .before .before .before in
-    let a = at-put-thousandths .before .before .before .before .before in
+    let at-first = c .before .before .before .before in
+    let a = at-first .before .before .before .before .before in
     let row = a .args .row .now in
     let l = c .before .loop in
     let first = row-first row (a .pre .0) in
     let rest = writing-end (rw (spaced-none row (l .i) (c .loop-test .left)) at (l .inv .0)) in
-    rw first (wrote-then (omega (arith, a .pre .2, ap length first)) (at-put-thousandths .put-thousandths .ensures) rest)
+    rw first (wrote-then (omega (arith, a .pre .2, ap length first)) (at-first .put-thousandths .ensures) rest)
 
 pub put-values-spec : {M : Type 1} → statement M
 put-values-spec =
