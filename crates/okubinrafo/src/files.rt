@@ -6,7 +6,7 @@ ghost use Rattle.grid.specs.Read.{readRefusal, headerAfter, levelsAfter};
 ghost use Rattle.grid.specs.Write.{writeRefusal, textAfter, sizeAfter};
 ghost use Rattle.okubinrafo.specs.Networks.{frameOf};
 
-// A network file, read: its five header numbers, and its levels.
+// A network file, read: its five header numbers, and its levels in thousandths.
 #[no_mangle]
 pub extern "C" fn okubinrafo_read_network(
     text: &[u8],

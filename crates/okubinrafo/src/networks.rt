@@ -6,7 +6,7 @@ ghost use Rattle.contour.specs.Answers.{outcomeLeft, outcomeDue};
 ghost use Rattle.wkt.specs.Calls.{networkText, Prints};
 ghost use Rattle.okubinrafo.specs.Networks.{frameOf};
 
-// The contours at a level, as lists of edges.
+// The contours at a level in thousandths, as lists of edges.
 #[no_mangle]
 pub extern "C" fn okubinrafo_contours(
     levels: &[u32],
@@ -34,7 +34,7 @@ pub extern "C" fn okubinrafo_contours(
     contour::contours(levels, frame, level, edges, counts, closed, sizes)
 }
 
-// The contours at a level as well-known text, and its size.
+// The contours at a level in thousandths as well-known text, and its size.
 #[no_mangle]
 pub extern "C" fn okubinrafo_print_contours(
     levels: &[u32],

@@ -15,7 +15,7 @@ answer-requires c κs =
     let g = given .gather in (
       t .ensures,
       (
-        t .kept .0 ∙ length-replicate {A = ℕ} 600000 0,
+        t .kept .0 ∙ length-replicate {A = ℕ} 590176 0,
         (g .kept .0 ∙ length-replicate {A = ℕ} 15000 0, (g .ensures, start .pre)),
       ),
     )
