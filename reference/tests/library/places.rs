@@ -21,7 +21,8 @@ struct Crossed {
     bits: u64,
 }
 
-/// On each of these every other order of operations gives other bits. Looked for; the bits are worked by hand.
+/// On each of these every other order of operations gives other bits. Looked for; the bits come from exact fractions,
+/// rounded once a step.
 const CROSSED: [Crossed; 4] = [
     Crossed { index: 1, spacing: 3, origin: 7, from: 50_600, to: 52_780, level: 51_100, bits: 0x4025_604b_27ed_3604 },
     Crossed {
