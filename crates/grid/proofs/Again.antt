@@ -14,7 +14,7 @@ use Rattle.text.specs.Same.{sameText}
 use Rattle.text.proofs.{Digits.either, Digits.got-value, Lines.lines-step}
 use Rattle.grid.specs.Row.{all, valuesOf, isRow, hasValues, hasThree, rowThree, levelIn, rowLevels, levelsOf}
 use Rattle.grid.specs.File.{ncols, nrows, xllcenter, yllcenter, cellsize, begins, numberAfter, names}
-use Rattle.grid.specs.File.{sixth, headOn, namedOn, frameOf, noDataOf, rowsOf, firstOff, faultLine, rowsFit}
+use Rattle.grid.specs.File.{sixth, headOn, namedOn, frameOf, noDataOf, rowsOf, firstOff, faultLine}
 use Rattle.grid.specs.Read.{textFrame, textLevels, readRefusal}
 use Rattle.grid.specs.Write.{keyLine, headLines, rowLine, rowLines, textOf, networkLines, showNetwork}
 use Rattle.grid.proofs.{ValueLaws.all-cons, StoreLaws.length-levels, StoreLaws.levels-length}

@@ -59,9 +59,9 @@ bounds =
     ∷ (bytes " movements count at the point," ∷ [])
     ∷ (bytes " have to be from 1 to 366 " ∷ [])
     ∷ (bytes "(2 to 256 a side)" ∷ bytes "(1 to 500 m)" ∷ bytes "(0 to 900,000 m)" ∷ [])
-    ∷ (bytes " a level is over 150.000," ∷ [])
+    ∷ (bytes " a level is over 150.000," ∷ bytes " or is the no-data value " ∷ [])
     ∷ (bytes " is too small " ∷ [])
-    ∷ (bytes " a limit is over 120.00," ∷ bytes " is not from 0.001 to 150.000 " ∷ [])
+    ∷ (bytes " a limit is over 120.00," ∷ bytes " or a contour level is not from 0.001 to 150.000 " ∷ [])
     ∷ (bytes " is off its layout " ∷ [])
     ∷ (bytes " is off its layout," ∷ [])
     ∷ (bytes " over 50,000,"

@@ -108,4 +108,5 @@ numbers-are =
             ∙ level-back n (h .0),
       );
       thousandths-read = λ s n. (thousandths-exact s n, λ h. thousandths-read s n (h .0) (h .1));
+      in-thousandths = λ s n. (λ x. x, λ x. x);
     }

@@ -8,7 +8,7 @@ use lib.ListN.{length, getD}
 use Rattle.text.specs.Line.{linesOf, bareLine}
 use Rattle.text.specs.Field.{countOf, fieldOf}
 use Rattle.text.specs.Number.{wholeOf, levelOf, thousandthsOf, showWhole, showNumber, showDigits, showLevel}
-use Rattle.text.specs.Number.{showThousandths}
+use Rattle.text.specs.Number.{showThousandths, InThousandths}
 use Rattle.text.specs.declared.number.Number.the-variants.{Got}
 
 -- Lines
@@ -76,3 +76,6 @@ pub record NumbersAre : Type 0 where
   -- a level of a network with three decimals, or with two, where the third would be a zero, 48: up to 999.999
   pub thousandths-read : (s : List ℕ) (n : ℕ)
       → thousandthsOf s ≡ Got n ↔ (n < 1000000) × ((s ≡ showThousandths n) ⊎ (s ++ (48 ∷ []) ≡ showThousandths n))
+  -- and that is what promises about networks and contours call spelled in thousandths
+  pub in-thousandths : (s : List ℕ) (n : ℕ)
+      → InThousandths s n ↔ ((s ≡ showThousandths n) ⊎ (s ++ (48 ∷ []) ≡ showThousandths n))
