@@ -63,9 +63,13 @@ pub record NeverShort (text : List ℕ) : Type 0 where
   pub as-read : (headers room : ℕ) → 5 ≤ headers → 65536 ≤ room
       → textRefusal text ≡ readRefusal text headers room
 
--- It is as large as it has to be: a network text that is neither 17 nor 12 has at most 590,175 bytes, and the room is
--- one byte more, so that the end is seen. One such text has as many, which is 13; in a room of its own size it would be
--- taken for one that is too long, and 12 would be told
+-- Nor is its room for a word: one that spells a level is handed over as it is, and not as an empty one
+pub record WordsFit : Type 0 where
+  pub word : (w : List ℕ) → Spells w → length w ≤ maxWord
+
+-- The room for a network is as large as it has to be: a text that is neither 17 nor 12 has at most 590,175 bytes, and
+-- the room is one byte more, so that the end is seen. One such text has as many, which is 13; in a room of its own size
+-- it would be taken for one that is too long, and 12 would be told
 pub record RoomNeeded : Type 0 where
   pub most : (text : List ℕ) → (textRefusal text ≡ 17 → ⊥) → (textRefusal text ≡ 12 → ⊥)
       → length text ≤ 590175
@@ -74,10 +78,6 @@ pub record RoomNeeded : Type 0 where
   pub long : length longest ≡ 590175
   pub thirteen : textRefusal longest ≡ 13
   pub cut : overlongOf longest ≡ refusedLine 12 0
-
--- Nor is its room for a word: one that spells a level is handed over as it is, and not as an empty one
-pub record WordsFit : Type 0 where
-  pub word : (w : List ℕ) → Spells w → length w ≤ maxWord
 
 -- The line of a refusal: `refused,`, the number, a comma and the line, each in as many digits as it needs, and a line
 -- end
