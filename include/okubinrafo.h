@@ -71,7 +71,7 @@ uint32_t okubinrafo_withdraw(OKUBINRAFO_BOOK, uint32_t identity);
 
 /* A journal: calls one after the other as numbers.
  *   1 enter: identity, type, kind, time, mass, how many yes and no (1 and 0) follow, those.
- *   2 supply: identity, how many levels follow, those levels.
+ *   2 supply: identity, how many levels follow, those levels in hundredths of a dB.
  *   3 take back: identity.
  *   4 withdraw: identity.
  * The calls are made in order, each as the function above would make it; answers: one number a call, 0 or its refusal.
@@ -131,7 +131,7 @@ uint32_t okubinrafo_write_row(const uint32_t *fields, size_t fields_len, const u
                               uint32_t points, uint8_t *text, size_t text_len, uint32_t *size, size_t size_len);
 
 /* header: 5 numbers: columns, rows, spacing, west, south. levels: at most 65,536, in thousandths of a dB, 0 to 150,000.
- * A value has two or three decimals, in one file as it comes: 45.00 is read as 45000 and 45.001 as 45001. */
+ * A value has two decimals or three, and both may stand in one file: 45.00 is read as 45000 and 45.001 as 45001. */
 uint32_t okubinrafo_read_network(const uint8_t *text, size_t text_len, uint32_t *header, size_t header_len,
                                  uint32_t *levels, size_t levels_len);
 /* levels: thousandths of a dB, 0 to 150,000. text: each with three decimals. size: 1 number, the bytes written. */

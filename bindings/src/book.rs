@@ -106,7 +106,8 @@ impl Book<'_> {
         with_book!(okubinrafo_withdraw, as_mut_ptr, self, [identity], [], [])
     }
 
-    /// Makes the calls of a journal (include/okubinrafo.h); `answers` gets one number a call, 0 or its refusal.
+    /// Makes the calls of a journal (include/okubinrafo.h), with levels in hundredths of a dB; `answers` gets one number
+    /// a call, 0 or its refusal.
     pub fn replay(&mut self, journal: &[u32], answers: &mut [u32]) -> Answer<()> {
         with_book!(okubinrafo_replay, as_mut_ptr, self, [], [journal], [answers])
     }

@@ -83,7 +83,7 @@ class Book:
         """Makes many calls at once; answers with a number for each, 0 or its refusal.
 
         A call is ("enter", identity, type, kind, time, mass) with counts behind or without, ("supply", identity,
-        levels), ("take_back", identity) or ("withdraw", identity).
+        levels), ("take_back", identity) or ("withdraw", identity); levels are in hundredths of a dB.
         """
         calls = list(calls)
         journal = numbers(number for call in calls for number in self._spelled(call))
@@ -105,7 +105,7 @@ class Book:
     def rows(self):
         """The movements in rising identity as (identity, group, counts, levels).
 
-        counts has True or False a point; levels is None where the movement is not computed.
+        counts has True or False a point; levels has hundredths of a dB, and is None where the movement is not computed.
         """
         identities, groups, marks, counts, levels = self._columns
         for row, identity in enumerate(itertools.takewhile(bool, identities)):
