@@ -1,6 +1,8 @@
 // The calls on a book: RULES, "Movements and the book". Each checks that the book is sound and leaves the rest to its
-// core.
-pub mod core;
+// inner.
+#![tactic(auto)]
+
+pub mod inner;
 mod place;
 mod refusals;
 mod rows;
@@ -31,7 +33,7 @@ pub fn enter(
     if !is_sound(ids, groups, marks, counts, levels, points) {
         return 9;
     }
-    core::enter(
+    inner::enter(
         ids, groups, marks, counts, levels, points, identity, ty, kind, time, mass, given,
     )
 }
@@ -53,7 +55,7 @@ pub fn supply(
     if !is_sound(ids, groups, marks, counts, levels, points) {
         return 9;
     }
-    core::supply(ids, groups, marks, counts, levels, points, identity, given)
+    inner::supply(ids, groups, marks, counts, levels, points, identity, given)
 }
 
 // Takes the levels of a movement back: it is no longer computed.
@@ -72,7 +74,7 @@ pub fn take_back(
     if !is_sound(ids, groups, marks, counts, levels, points) {
         return 9;
     }
-    core::take_back(ids, groups, marks, counts, levels, points, identity)
+    inner::take_back(ids, groups, marks, counts, levels, points, identity)
 }
 
 // Withdraws a movement: later rows move down.
@@ -91,5 +93,5 @@ pub fn withdraw(
     if !is_sound(ids, groups, marks, counts, levels, points) {
         return 9;
     }
-    core::withdraw(ids, groups, marks, counts, levels, points, identity)
+    inner::withdraw(ids, groups, marks, counts, levels, points, identity)
 }

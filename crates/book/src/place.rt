@@ -1,5 +1,5 @@
 // Where an identity stands, and where a new one goes: a binary search, since identities rise and unused rows come last.
-ghost use Rattle.core.specs.Prelude.{◌≡◌, ◌≤◌, true, ◌||◌, ◌==◌, nat_le};
+ghost use Rattle.std.specs.Prelude.{◌≡◌, ◌≤◌, true, ◌||◌, ◌==◌, nat_le};
 ghost use Rattle.refusal.specs.Range.{all_within};
 ghost use Rattle.movement.specs.Limits.{max_identity};
 ghost use Rattle.book_rules.specs.Columns.{rising, index_of, stands, place_of};

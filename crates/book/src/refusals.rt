@@ -1,5 +1,5 @@
 // What refuses a call on a sound book, 0 where nothing does. `at` is the place of its identity.
-ghost use Rattle.core.specs.Prelude.{◌≡◌, ◌*◌, length};
+ghost use Rattle.std.specs.Prelude.{◌≡◌, ◌*◌, length};
 ghost use Rattle.book_rules.specs.Columns.{index_of};
 ghost use Rattle.book_rules.specs.Calls.{enter_refusal, supply_refusal, take_back_refusal, withdraw_refusal};
 ghost use Rattle.book_rules.specs.InnerRows.{Placed};

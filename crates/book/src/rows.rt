@@ -1,10 +1,10 @@
 // A row goes in or out, in all columns: of each, only the rows that stand after it move.
-ghost use Rattle.core.specs.Prelude.{◌≡◌, ◌<◌, length};
+ghost use Rattle.std.specs.Prelude.{◌≡◌, ◌<◌, length};
 ghost use Rattle.book_rules.specs.Columns.{book_now, book_before, book_after};
 ghost use Rattle.book_rules.specs.Calls.{row_in, row_out};
 ghost use Rattle.book_rules.specs.InnerRows.{RowsTo};
 
-use column::core::{close_at, open_at, open_with};
+use column::inner::{close_at, open_at, open_with};
 
 // A row that counts where `given` says, without levels, goes in at `at`, and the rows from there on, of the `rows` that
 // stand, move up by one.

@@ -3,7 +3,9 @@
 // made on an empty book of 3 rows (1 enter: identity, type, kind, time, mass, how many yes and no, those; 2 supply:
 // identity, how many levels, the levels; 3 take back; 4 withdraw). Then come the answers that each call should get, 99
 // where nothing is written, and the columns as they should be. Shown is each of them beside what it should be.
-use cases::core::line_past;
+#![tactic(auto)]
+
+use cases::inner::line_past;
 use cases::fields::{numbers, place};
 use cases::show::{field, list, say};
 use libc::STDIN_FILENO;

@@ -1,6 +1,6 @@
 -- Bytes that are read behind those that stand at the front of a buffer. Assumes nothing.
 use mathlib.Core.{Path.◌≡◌, Path.refl, Path.sym, Path.ap, Path.subst, Path.◌∙◌, List.List, List.◌++◌, Bool.false}
-use Rattle.core.specs.Prelude.{ℕ, ◌+◌, ◌≤◌}
+use Rattle.std.specs.Prelude.{ℕ, ◌+◌, ◌≤◌}
 use native.Mathlib.Omega.{arith}
 use lib.{IntN.ℤ, IntN.pos, IntN.negsuc, Signed.lt_z, ListN.length, ListN.take, ListN.length-append}
 use Rattle.libc.specs.Io.{Moved}

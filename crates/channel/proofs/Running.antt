@@ -1,5 +1,5 @@
 -- The run that a text ends, and what it comes to. Assumes nothing.
-use Rattle.core.specs.Prelude.{ℕ}
+use Rattle.std.specs.Prelude.{ℕ}
 use mathlib.Core.{Path.◌≡◌, Path.refl, Path.sym, Bool.Bool, Bool.true, Bool.false, List.List, List.[]}
 use Rattle.channel.specs.{System.none_went, Due.Sends, Run.Run, Told.RunTold}
 use Rattle.channel.specs.Told.RunTold.{went, lost}

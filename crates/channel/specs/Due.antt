@@ -1,5 +1,5 @@
 -- A text that is written part by part: each part is due where the one before it ended. Assumes nothing.
-use Rattle.core.specs.Prelude.{◌≡◌, ℕ, ◌+◌, Bool, true, false, List, ◌++◌, length}
+use Rattle.std.specs.Prelude.{◌≡◌, ℕ, ◌+◌, Bool, true, false, List, ◌++◌, length}
 use Rattle.channel.specs.System.{Lost}
 use Rattle.channel.specs.Output.{Went}
 

@@ -1,5 +1,5 @@
 -- Bytes as they come: from standard input, or from a file. Assumes nothing.
-use Rattle.core.specs.Prelude.{◌≡◌, ℕ, ◌+◌, ◌-◌, ◌^◌, ◌<◌, ◌≤◌, Bool, true, false, List, ◌++◌, length, take, ◌≢◌}
+use Rattle.std.specs.Prelude.{◌≡◌, ℕ, ◌+◌, ◌-◌, ◌^◌, ◌<◌, ◌≤◌, Bool, true, false, List, ◌++◌, length, take, ◌≢◌}
 use Rattle.channel.specs.declared.input.Arrived.{Arrived}
 use Rattle.channel.specs.declared.input.Arrived.TheVariants.{Bytes, End, Failed}
 use Rattle.channel.specs.declared.whole.Filled.{Filled}

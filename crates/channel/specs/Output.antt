@@ -1,5 +1,5 @@
 -- Bytes as they go, to standard output. Assumes nothing.
-use Rattle.core.specs.Prelude.{◌≡◌, ℕ, ◌+◌, Bool, true, false, List, ◌++◌, length}
+use Rattle.std.specs.Prelude.{◌≡◌, ℕ, ◌+◌, Bool, true, false, List, ◌++◌, length}
 use Rattle.channel.specs.System.{Sent, Lost}
 
 -- `sent` bytes went, and they are these

@@ -1,5 +1,5 @@
 -- How a run ends, over what its text may be. Assumes nothing.
-use Rattle.core.specs.Prelude.{◌≡◌, ℕ, Bool, true, false, List}
+use Rattle.std.specs.Prelude.{◌≡◌, ℕ, Bool, true, false, List}
 use Rattle.channel.specs.System.{Lost}
 use Rattle.channel.specs.Output.{Went}
 

@@ -2,7 +2,7 @@
 -- it. So nothing proves one of these statements but its own `system-..`, which takes what a call answered and says what
 -- that means. No file outside this crate may name a `system-..`: tools/check-channel, run by the gate, refuses it.
 -- Assumes nothing.
-use Rattle.core.specs.Prelude.{◌≡◌, ℕ, ◌+◌, ◌^◌, ◌≤◌, Bool, true, false, List, [], ◌++◌, length, take, ℤ, pos, int_lt}
+use Rattle.std.specs.Prelude.{◌≡◌, ℕ, ◌+◌, ◌^◌, ◌≤◌, Bool, true, false, List, [], ◌++◌, length, take, ℤ, pos, int_lt}
 
 -- where bytes come from: standard input, or the file of a name
 pub data Origin : Type 0 where

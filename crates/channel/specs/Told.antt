@@ -1,6 +1,6 @@
 -- What a run comes to, said of the bytes that went and of what is told of them, and of nothing between.
 -- Assumes nothing.
-use Rattle.core.specs.Prelude.{◌≡◌, ℕ, Bool, true, false, List, length}
+use Rattle.std.specs.Prelude.{◌≡◌, ℕ, Bool, true, false, List, length}
 use Rattle.channel.specs.System.{Sent, Lost}
 
 -- A run, by what it answers and how many bytes it counts: a text of which this is told went, one time, and no other

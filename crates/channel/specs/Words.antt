@@ -1,5 +1,5 @@
 -- The arguments of the program. Assumes nothing.
-use Rattle.core.specs.Prelude.{ℕ, List, length, take}
+use Rattle.std.specs.Prelude.{ℕ, List, length, take}
 use Rattle.io.specs.Counts.{IsPrefixLen}
 use Rattle.channel.specs.System.{Argument}
 

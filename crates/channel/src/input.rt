@@ -2,7 +2,7 @@
 ghost use Rattle.channel.specs.System.Origin.{input};
 ghost use Rattle.channel.specs.Input.{Reads};
 
-use crate::core::read_from;
+use crate::inner::read_from;
 
 // The descriptor of standard input.
 pub const STANDARD_INPUT: i32 = 0;

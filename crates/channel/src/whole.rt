@@ -3,7 +3,7 @@ ghost use Rattle.channel.specs.System.{Descriptor};
 ghost use Rattle.channel.specs.System.Origin.{input, file};
 ghost use Rattle.channel.specs.Input.{Fills, origin_of};
 
-use crate::core::read_from;
+use crate::inner::read_from;
 use crate::file::{close_file, open_file};
 use crate::input::{Arrived, STANDARD_INPUT};
 

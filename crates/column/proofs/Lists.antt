@@ -1,6 +1,6 @@
 -- Laws on lists: the loops that move values up, from the back, and down, from the front. Assumes nothing.
 use mathlib.Core.{Path.◌≡◌, Path.sym, Path.ap, Path.◌∙◌, List.List, List.◌++◌}
-use Rattle.core.specs.Prelude.{ℕ, zero, suc, ◌+◌, ◌-◌, ◌<◌, ◌≤◌, length, get_or, take, drop, set}
+use Rattle.std.specs.Prelude.{ℕ, zero, suc, ◌+◌, ◌-◌, ◌<◌, ◌≤◌, length, get_or, take, drop, set}
 use native.Mathlib.{Nat.not-suc-le-zero, Nat.add_comm, Omega.arith}
 use lib.ListN.{get_or-append, length-drop, length-append, take-append-drop}
 use lib.Seq.{take-suc, drop-cons, append_snoc, set_at, length-take-le, drop_at, get_or-take, get_or-drop, get_or-append-add}

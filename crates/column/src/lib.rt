@@ -1,2 +1,4 @@
 // One column of the book, of any width: RULES, "Movements and the book".
-pub mod core;
+#![tactic(auto)]
+
+pub mod inner;

@@ -1,5 +1,5 @@
 -- Which edges are on the border, by their numbers: no contour enters at the others. Assumes nothing.
-use Rattle.core.specs.Prelude.{◌≡◌, ℕ, ◌+◌, ◌-◌, ◌*◌, ◌/◌, ◌<◌, ◌≤◌, eqb}
+use Rattle.std.specs.Prelude.{◌≡◌, ℕ, ◌+◌, ◌-◌, ◌*◌, ◌/◌, ◌<◌, ◌≤◌, eqb}
 use mathlib.Core.Path.{refl, sym, ap, ◌∙◌, subst}
 use mathlib.Core.{Bool.Bool, Bool.true, Bool.false, Bool.◌||◌, Bool.true≢false, List.List}
 use native.Mathlib.Nat.{add-zero, zero-mul, one-mul, add-mul, mul-le-mul, mul-le-mul_right, le-div_iff_mul-le}

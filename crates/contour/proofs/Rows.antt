@@ -1,6 +1,6 @@
 -- Rows of edges and their numbers, and a waiting list filled one edge at a time. Assumes nothing.
 use mathlib.Core.{Path.◌≡◌, Path.sym, Path.ap, Path.◌∙◌, Path.subst, Bool.Bool, Bool.true, Bool.false}
-use Rattle.core.specs.Prelude.{ℕ, ◌+◌, ◌-◌, ◌*◌, ◌<◌, ◌≤◌, List, ◌++◌}
+use Rattle.std.specs.Prelude.{ℕ, ◌+◌, ◌-◌, ◌*◌, ◌<◌, ◌≤◌, List, ◌++◌}
 use mathlib.Core.List.{append-nil}
 use native.Mathlib.{Nat.add-zero, Nat.zero-mul, Nat.one-mul, Nat.add-mul, Omega.arith}
 use lib.{ListN.length, ListN.drop, ListN.set, ListN.length-append, ListN.length-drop, Seq.drop-length}

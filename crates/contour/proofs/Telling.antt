@@ -1,6 +1,6 @@
 -- The outcome of the call tells the contours. Assumes nothing.
 use Rattle.contour_rules.proofs.{Waiting.bit_one, Sums.length_counts, Sums.length_closed}
-use Rattle.core.specs.Prelude.{◌≡◌, ℕ}
+use Rattle.std.specs.Prelude.{◌≡◌, ℕ}
 use mathlib.Core.Path.{refl, sym, ap, ◌∙◌, subst}
 use mathlib.Core.{Bool.Bool, Bool.true, Bool.false, Bool.◌&&◌, Bool.cond, Logic.◌↔◌, List.List, List.[], List.◌∷◌}
 use native.Mathlib.Omega.{arith}

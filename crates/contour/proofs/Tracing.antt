@@ -1,6 +1,6 @@
 -- What holds while a contour is traced: the list, the buffer, the edge and what lies ahead of it. Assumes nothing.
 use mathlib.Core.{Path.◌≡◌, Path.refl, Path.sym, Path.ap, Path.◌∙◌, Path.subst, Bool.true, Bool.false}
-use Rattle.core.specs.Prelude.{ℕ, ◌+◌, ◌<◌, ◌≤◌, List, [], ◌++◌, length, take, drop, set}
+use Rattle.std.specs.Prelude.{ℕ, ◌+◌, ◌<◌, ◌≤◌, List, [], ◌++◌, length, take, drop, set}
 use mathlib.Core.List.{append_assoc, append-nil}
 use native.Mathlib.{Numerals.add-one, Omega.arith}
 use lib.ListN.{length-set, length-append, take-append-drop}

@@ -1,6 +1,6 @@
 -- What the call for contours answers, and what it leaves in the four buffers lent to it: RULES, "Network and contours"
 -- and "Refusal numbers". Assumes nothing.
-use Rattle.core.specs.Prelude.{ℕ, Bool, ◌&&◌, List, [], ◌∷◌, length}
+use Rattle.std.specs.Prelude.{ℕ, Bool, ◌&&◌, List, [], ◌∷◌, length}
 use Rattle.room.specs.Lent.{Lent}
 use Rattle.room.specs.Room.{fits_in, then_room, leaves}
 use Rattle.network.specs.declared.Frame.{Frame}

@@ -1,5 +1,5 @@
 -- Inner steps: no promise uses them. The buffers while contours are listed, and what they hold. Assumes nothing.
-use Rattle.core.specs.Prelude.{◌≡◌, ℕ, ◌+◌, ◌<◌, ◌≤◌, Bool, false, List, length}
+use Rattle.std.specs.Prelude.{◌≡◌, ℕ, ◌+◌, ◌<◌, ◌≤◌, Bool, false, List, length}
 use Rattle.std.specs.Borrow.{Bor}
 use Rattle.room.specs.Lent.{Lent}
 use Rattle.room.specs.Room.{front}
@@ -8,7 +8,7 @@ use Rattle.contour_rules.specs.Picture.{Picture, picture}
 use Rattle.contour_rules.specs.Crossings.{edges_in}
 use Rattle.contour_rules.specs.Contours.{Contour, Listing, waits, waiting, contour_from, add, try, swept}
 use Rattle.contour_rules.specs.Contours.{edges_of, counts_of, closed_of}
-use Rattle.contour.specs.declared.core.Progress.{Progress}
+use Rattle.contour.specs.declared.inner.Progress.{Progress}
 use Rattle.contour.specs.InnerWalk.{OnlyCrossed}
 
 -- the picture of lent levels: now, and before the call

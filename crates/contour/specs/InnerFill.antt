@@ -1,5 +1,5 @@
 -- Inner steps: no promise uses them. The waiting list while it is filled, row by row. Assumes nothing.
-use Rattle.core.specs.Prelude.{◌≡◌, ℕ, ◌-◌, Bool, cond, List, ◌++◌, drop}
+use Rattle.std.specs.Prelude.{◌≡◌, ℕ, ◌-◌, Bool, cond, List, ◌++◌, drop}
 use Rattle.network.specs.declared.Edge.{Edge}
 use Rattle.network.specs.declared.Edge.TheVariants.{Horizontal, Vertical}
 use Rattle.contour_rules.specs.Picture.{Picture}

@@ -1,7 +1,7 @@
 -- What the call for contours leaves in the room lent to it, read back: RULES, "Network and contours": an answer lists
 -- edge numbers, and for each contour its count and whether it closes; room past the answer keeps its bytes.
 -- Assumes nothing.
-use Rattle.core.specs.Prelude.{◌≡◌, ℕ, ◌≤◌, List, [], ◌∷◌, length, take, drop, ◌==◌, ◌≢◌, slice_index}
+use Rattle.std.specs.Prelude.{◌≡◌, ℕ, ◌≤◌, List, [], ◌∷◌, length, take, drop, ◌==◌, ◌≢◌, slice_index}
 use Rattle.network.specs.declared.Frame.{Frame}
 use Rattle.network.specs.Ranges.{RoomRefused}
 use Rattle.contour_rules.specs.Picture.{picture}

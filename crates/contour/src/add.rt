@@ -1,12 +1,12 @@
 // One contour more, at an edge where one starts.
-ghost use Rattle.core.specs.Prelude.{◌≡◌, ◌<◌, true};
+ghost use Rattle.std.specs.Prelude.{◌≡◌, ◌<◌, true};
 ghost use Rattle.network.specs.Edges.{Sized, edges as edge_count};
 ghost use Rattle.contour_rules.specs.Crossings.{ahead_of, edge_of};
 ghost use Rattle.contour_rules.specs.Contours.{bit, waits};
 ghost use Rattle.contour.specs.InnerDesk.{picture_now, picture_before, desk_now, desk_before, desk_after};
 ghost use Rattle.contour.specs.InnerDesk.{Room, Grows, added, tried};
 
-use crate::core::Progress;
+use crate::inner::Progress;
 use crate::walk::Stand;
 use crate::{start, walk};
 

@@ -1,12 +1,12 @@
 // Open contours, which start on the border.
-ghost use Rattle.core.specs.Prelude.{◌+◌, ◌-◌, ◌<◌, false};
+ghost use Rattle.std.specs.Prelude.{◌+◌, ◌-◌, ◌<◌, false};
 ghost use Rattle.network.specs.Edges.{Sized, number_of, edges as edge_count};
 ghost use Rattle.network.specs.declared.Edge.TheVariants.{Vertical};
 ghost use Rattle.contour.specs.InnerDesk.{picture_now, picture_before, desk_now, desk_before, desk_after};
 ghost use Rattle.contour.specs.InnerDesk.{Room, Sweeps};
 
 use crate::add::try_edge;
-use crate::core::Progress;
+use crate::inner::Progress;
 use crate::sweep::sweep_range;
 
 // Tries the first and the last edge of those from a row up to the next as starts of open contours: the others are not

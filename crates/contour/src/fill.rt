@@ -1,5 +1,5 @@
 // The waiting list at first, and buffers filled from the front.
-ghost use Rattle.core.specs.Prelude.{◌≡◌, ◌+◌, ◌<◌, ◌≤◌, ◌++◌, length, take, drop};
+ghost use Rattle.std.specs.Prelude.{◌≡◌, ◌+◌, ◌<◌, ◌≤◌, ◌++◌, length, take, drop};
 ghost use Rattle.network.specs.Edges.{Sized, number_of, edges as edge_count};
 ghost use Rattle.contour_rules.specs.Contours.{bit, crossed_to};
 ghost use Rattle.contour.specs.InnerDesk.{picture_before};
@@ -66,7 +66,7 @@ fn fill_row(
     let width = row_width(up, nx);
     let mut col = 0;
     while col < width {
-        let crossed = network::core::crossed_edge(levels, nx, ny, v, edge_in(up, row, col));
+        let crossed = network::inner::crossed_edge(levels, nx, ny, v, edge_in(up, row, col));
         list[first + col] = crossed_mark(crossed);
         col += 1;
     }

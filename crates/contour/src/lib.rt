@@ -1,5 +1,7 @@
 // The contours of a network at a level: RULES, "Network and contours".
-ghost use Rattle.core.specs.Prelude.{◌≡◌, ◌≤◌, ◌&&◌, [], ◌∷◌, length, take, nat_le};
+#![tactic(auto)]
+
+ghost use Rattle.std.specs.Prelude.{◌≡◌, ◌≤◌, ◌&&◌, [], ◌∷◌, length, take, nat_le};
 ghost use Rattle.room.specs.Room.{front};
 ghost use Rattle.network.specs.Limits.{max_edges};
 ghost use Rattle.network.specs.Edges.{Sized};
@@ -7,13 +9,13 @@ ghost use Rattle.contour_rules.specs.Contours.{contours_of};
 ghost use Rattle.contour.specs.Answers.{answer_from, answer_of, handed_out, lists_before, outcome_left, outcome_due};
 ghost use Rattle.contour.specs.InnerDesk.{picture_before, RoomForAll};
 
-use crate::core::Progress;
+use crate::inner::Progress;
 use network::Frame;
 use network::limits::{MAX_EDGES, MAX_NETWORK_LEVEL};
 
 mod add;
 mod border;
-pub mod core;
+pub mod inner;
 mod fill;
 mod start;
 mod sweep;
@@ -99,7 +101,7 @@ fn list_apart(
     let mut all_edges = [0u32; MAX_EDGES];
     let mut all_counts = [0u32; MAX_EDGES];
     let mut all_closed = [0u32; MAX_EDGES];
-    let got = core::list_contours(
+    let got = inner::list_contours(
         levels,
         nx,
         ny,
@@ -136,7 +138,7 @@ fn list_straight(
     ensures { outcome_left result edges counts closed sizes ≡ handed_out 0
         (answer_of (contours_of (picture_before levels nx ny v))) (lists_before edges counts closed sizes) }
 {
-    let got = core::list_contours(levels, nx, ny, v, edges, counts, closed);
+    let got = inner::list_contours(levels, nx, ny, v, edges, counts, closed);
     put_sizes(sizes, got);
     0
 }
@@ -157,7 +159,7 @@ fn list_out(
     ensures { outcome_left result edges counts closed sizes ≡ handed_out 0
         (answer_of (contours_of (picture_before levels nx ny v))) (lists_before edges counts closed sizes) }
 {
-    let total = network::core::edge_count(nx, ny);
+    let total = network::inner::edge_count(nx, ny);
     if room_for(
         total,
         total,

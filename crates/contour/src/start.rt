@@ -1,5 +1,5 @@
 // Where contours start.
-ghost use Rattle.core.specs.Prelude.{◌≡◌, ◌<◌, ◌&&◌, ◌||◌};
+ghost use Rattle.std.specs.Prelude.{◌≡◌, ◌<◌, ◌&&◌, ◌||◌};
 ghost use Rattle.network.specs.Edges.{Sized, WithinEdge, edges as edge_count};
 ghost use Rattle.contour_rules.specs.Crossings.{first_in, ahead_of, edge_of, is_outside, enters_at};
 ghost use Rattle.contour_rules.specs.Contours.{waits};
@@ -16,8 +16,8 @@ fn first_in(levels: &[u32], nx: usize, ny: usize, v: u32, e: Edge) -> bool
     ensures { result ≡ first_in (picture_before levels nx ny v) e }
 {
     match e {
-        Edge::Horizontal(row, col) => network::core::inside(levels, nx, ny, v, row, col),
-        Edge::Vertical(row, col) => network::core::inside(levels, nx, ny, v, row, col),
+        Edge::Horizontal(row, col) => network::inner::inside(levels, nx, ny, v, row, col),
+        Edge::Vertical(row, col) => network::inner::inside(levels, nx, ny, v, row, col),
     }
 }
 
@@ -27,7 +27,7 @@ pub(crate) fn stand_at(levels: &[u32], nx: usize, ny: usize, v: u32, n: usize) -
     ensures { (result.edge ≡ n)
         × (result.ahead ≡ ahead_of (picture_before levels nx ny v) (edge_of (picture_before levels nx ny v) n)) }
 {
-    let e = network::core::edge_at(nx, ny, n);
+    let e = network::inner::edge_at(nx, ny, n);
     let left = first_in(levels, nx, ny, v, e);
     Stand {
         edge: n,
@@ -49,8 +49,8 @@ fn enters_at(levels: &[u32], nx: usize, ny: usize, v: u32, n: usize) -> bool
     requires { Sized levels.now nx ny × (n < edge_count nx ny) }
     ensures { result ≡ enters_at (picture_before levels nx ny v) n }
 {
-    let e = network::core::edge_at(nx, ny, n);
-    if network::core::crossed_edge(levels, nx, ny, v, e) {
+    let e = network::inner::edge_at(nx, ny, n);
+    if network::inner::crossed_edge(levels, nx, ny, v, e) {
         return outside(walk::across(nx, ny, !first_in(levels, nx, ny, v, e), e));
     }
     false

@@ -1,11 +1,11 @@
 // Edges tried one after the other as starts of contours.
-ghost use Rattle.core.specs.Prelude.{◌<◌, ◌≤◌, length};
+ghost use Rattle.std.specs.Prelude.{◌<◌, ◌≤◌, length};
 ghost use Rattle.network.specs.Edges.{Sized, edges as edge_count};
 ghost use Rattle.contour.specs.InnerDesk.{picture_now, picture_before, desk_now, desk_before, desk_after};
 ghost use Rattle.contour.specs.InnerDesk.{Room, Sweeps, FirstWaiting};
 
 use crate::add::try_edge;
-use crate::core::Progress;
+use crate::inner::Progress;
 
 // The first edge from `from` on that waits, or `last` where none before that does.
 fn first_waiting(list: &[u8], from: usize, last: usize) -> usize

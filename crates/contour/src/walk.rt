@@ -1,5 +1,5 @@
 // A line walked from square to square.
-ghost use Rattle.core.specs.Prelude.{◌≡◌, ◌<◌, ◌≤◌};
+ghost use Rattle.std.specs.Prelude.{◌≡◌, ◌<◌, ◌≤◌};
 ghost use Rattle.network.specs.Limits.{max_side};
 ghost use Rattle.network.specs.Edges.{Sides, Sized, WithinEdge};
 ghost use Rattle.contour_rules.specs.Picture.{cut_of};
@@ -30,10 +30,10 @@ fn corner_in(levels: &[u32], nx: usize, ny: usize, v: u32, row: usize, col: usiz
     ensures { result ≡ corner (picture_before levels nx ny v) row col s }
 {
     match s {
-        Side::South => network::core::inside(levels, nx, ny, v, row, col),
-        Side::East => network::core::inside(levels, nx, ny, v, row, col + 1),
-        Side::North => network::core::inside(levels, nx, ny, v, row + 1, col + 1),
-        Side::West => network::core::inside(levels, nx, ny, v, row + 1, col),
+        Side::South => network::inner::inside(levels, nx, ny, v, row, col),
+        Side::East => network::inner::inside(levels, nx, ny, v, row, col + 1),
+        Side::North => network::inner::inside(levels, nx, ny, v, row + 1, col + 1),
+        Side::West => network::inner::inside(levels, nx, ny, v, row + 1, col),
     }
 }
 
@@ -48,10 +48,10 @@ fn cuts_out(levels: &[u32], nx: usize, ny: usize, v: u32, row: usize, col: usize
     requires { Sized levels.now nx ny × WithinSquare nx ny row col }
     ensures { result ≡ cut_of levels.now nx v row col }
 {
-    let south = wide(network::core::level(levels, nx, ny, row, col))
-        + wide(network::core::level(levels, nx, ny, row, col + 1));
-    let north = wide(network::core::level(levels, nx, ny, row + 1, col + 1))
-        + wide(network::core::level(levels, nx, ny, row + 1, col));
+    let south = wide(network::inner::level(levels, nx, ny, row, col))
+        + wide(network::inner::level(levels, nx, ny, row, col + 1));
+    let north = wide(network::inner::level(levels, nx, ny, row + 1, col + 1))
+        + wide(network::inner::level(levels, nx, ny, row + 1, col));
     4 * wide(v) <= south + north
 }
 
@@ -183,14 +183,14 @@ fn step(levels: &[u32], nx: usize, ny: usize, v: u32, ahead: Ahead) -> Stand
     match ahead {
         Ahead::Square(row, col, s) => {
             let exit = exit_side(levels, nx, ny, v, row, col, s);
-            let edge = network::core::number_of(nx, ny, side_edge(row, col, exit));
+            let edge = network::inner::number_of(nx, ny, side_edge(row, col, exit));
             Stand {
                 edge,
                 ahead: beyond_side(nx, ny, row, col, exit),
             }
         }
         Ahead::Outside => Stand {
-            edge: network::core::edge_count(nx, ny),
+            edge: network::inner::edge_count(nx, ny),
             ahead: Ahead::Outside,
         },
     }

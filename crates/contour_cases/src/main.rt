@@ -2,9 +2,11 @@
 // beside what it should be: edges, counts, closed marks, or the refusal; or the printed text, and below it what it
 // should be. A line of the script has its kind, columns, rows, spacing, west and south, the contour level, the levels,
 // and last what is right.
+#![tactic(auto)]
+
 mod full;
 
-use cases::core::line_past;
+use cases::inner::line_past;
 use cases::fields::{letter, number, numbers};
 use cases::show::{list, say, told};
 use libc::STDIN_FILENO;

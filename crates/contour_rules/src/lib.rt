@@ -1,5 +1,6 @@
 // The sides of a network's squares, by which contour lines enter and leave them. The theory of these lines stands in
 // specs/ and proofs/.
+#![tactic(auto)]
 
 // A side of a square, counterclockwise.
 #[derive(Drop)]

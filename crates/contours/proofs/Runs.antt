@@ -1,6 +1,6 @@
 -- What the contract of the very function `run` says of a run: `Post` is its own, as the check reads it from the code.
 -- Assumes nothing.
-use Rattle.core.specs.Prelude.{ℕ}
+use Rattle.std.specs.Prelude.{ℕ}
 use mathlib.Core.{Bool.Bool, List.List}
 use denote.Ref.{Bor}
 use Rattle.channel.specs.Told.{RunTold}

@@ -1,5 +1,5 @@
 // The contour levels among the program's arguments.
-ghost use Rattle.core.specs.Prelude.{◌≡◌, ◌+◌, ◌^◌, ◌<◌};
+ghost use Rattle.std.specs.Prelude.{◌≡◌, ◌+◌, ◌^◌, ◌<◌};
 ghost use Rattle.contours_steps.specs.Words.{Gathered};
 ghost use Rattle.contours_steps.specs.InnerIntake.{ArgumentTaken};
 

@@ -2,11 +2,13 @@
 // output, `level;wkt`, with one line of well-known text for each level. A refusal is the one line
 // `refused,number,line`, with a sentence on standard error. It moves bytes; what it decides is decided in the
 // libraries below.
+#![tactic(auto)]
+
 mod input;
 mod print;
 mod say;
 
-ghost use Rattle.core.specs.Prelude.{◌≡◌, length, ◌≢◌};
+ghost use Rattle.std.specs.Prelude.{◌≡◌, length, ◌≢◌};
 ghost use Rattle.channel.specs.System.Origin.{input};
 ghost use Rattle.channel.specs.Input.{Fills};
 ghost use Rattle.channel.specs.Run.{Run};
@@ -16,7 +18,7 @@ ghost use Rattle.contours_steps.specs.Words.{Gathered, max_contour_levels, given
 ghost use Rattle.contours_steps.specs.InnerDrawing.{Stored};
 
 use channel::whole::{COMPLETE, FAILED, Filled};
-use contours_steps::core::intake::{line_begun, overlong_line};
+use contours_steps::inner::intake::{line_begun, overlong_line};
 use contours_steps::words::{Given, MAX_CONTOUR_LEVELS, words_refusal};
 use libc::STDERR_FILENO;
 use network::Frame;

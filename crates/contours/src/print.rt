@@ -1,6 +1,6 @@
 // The sheet on standard output. Each part is put together in a buffer and handed to one write, where it is due: behind
 // the part before it. The text of a level's contours goes out in parts of up to 4,096 bytes, so it may have any length.
-ghost use Rattle.core.specs.Prelude.{◌≡◌, ◌<◌, ◌≤◌, length, take, slice_index};
+ghost use Rattle.std.specs.Prelude.{◌≡◌, ◌<◌, ◌≤◌, length, take, slice_index};
 ghost use Rattle.wkt.specs.Calls.{network_text};
 ghost use Rattle.wkt.specs.InnerParts.{Printable, lines_from};
 ghost use Rattle.wkt.specs.Text.{text_of};
@@ -12,13 +12,13 @@ ghost use Rattle.channel.specs.Due.{Due, Sends};
 ghost use Rattle.channel.specs.Run.{Run};
 ghost use Rattle.contours_steps.specs.Answer.{ReadWhole, ReadFailed, ReadFull, Answered, MayWrite};
 
-use contour::core::Progress;
-use contours_steps::core::put::{put_refused, put_start};
+use contour::inner::Progress;
+use contours_steps::inner::put::{put_refused, put_start};
 use contours_steps::words::Given;
 use network::Frame;
 use network::limits::MAX_EDGES;
 use said_contours::of_lines;
-use wkt::core::{first, print_part};
+use wkt::inner::{first, print_part};
 
 // The one write of a part of the sheet, which is due past the `sent` bytes before it. It answers, as each function
 // below, whether all was taken; where it was not, nothing more is written.
@@ -27,7 +27,7 @@ fn written(levels: &[u32], frame: Frame, asked: &[u32], sent: &mut usize, part: 
     requires due { Due (sheet_of levels.now frame asked.now) sent.old part.now }
     ensures { Sends sent.old part.now result sent.new }
 {
-    channel::core::write(sent, part)
+    channel::inner::write(sent, part)
 }
 
 // The sheet of a network and words that are not refused.
@@ -113,7 +113,7 @@ fn contours(levels: &[u32], frame: Frame, asked: &[u32], v: u32, sent: &mut usiz
     let mut closed = [0u32; MAX_EDGES];
     let nx = frame.columns as usize;
     let ny = frame.rows as usize;
-    let got = contour::core::list_contours(levels, nx, ny, v, &mut edges, &mut counts, &mut closed);
+    let got = contour::inner::list_contours(levels, nx, ny, v, &mut edges, &mut counts, &mut closed);
     fronts(levels, frame, asked, v, &edges, &counts, &closed, got, sent)
 }
 
@@ -259,5 +259,5 @@ fn write(text: &[u8], asked: &[u32], given: Given, sent: &mut usize, out: &[u8])
     requires sent_value { sent.old ≡ 0 }
     ensures { Run MayWrite result sent.new }
 {
-    channel::core::write(sent, out)
+    channel::inner::write(sent, out)
 }

@@ -1,5 +1,5 @@
 -- All that is written has its last line end. Assumes nothing.
-use Rattle.core.specs.Prelude.{ℕ, eqb, List, [], ◌∷◌, ◌++◌}
+use Rattle.std.specs.Prelude.{ℕ, eqb, List, [], ◌∷◌, ◌++◌}
 use mathlib.Core.{Path.refl, Path.sym, Path.ap, Path.◌∙◌, Bool.Bool, Bool.true, Bool.false, Bool.cond}
 use mathlib.Core.List.{append_assoc, append-nil}
 use Rattle.network.specs.declared.Frame.{Frame}

@@ -1,5 +1,5 @@
 -- The sheet in its order: the heading, and the lines from a level on. Assumes nothing.
-use Rattle.core.specs.Prelude.{ℕ, ◌+◌, ◌<◌, ◌≤◌}
+use Rattle.std.specs.Prelude.{ℕ, ◌+◌, ◌<◌, ◌≤◌}
 use mathlib.Core.{Path.◌≡◌, Path.refl, Bool.Bool, Bool.true, List.List, List.[], List.◌++◌}
 use native.Mathlib.Numerals.{add-one}
 use lib.{ListN.length, ListN.get_or, ListN.drop, ListN.drop_of_length-le, Seq.drop-cons}

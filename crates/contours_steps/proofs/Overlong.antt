@@ -1,5 +1,5 @@
 -- A network that is on its layout and as large as its frame says is shorter than the program's room. Assumes nothing.
-use Rattle.core.specs.Prelude.{◌≡◌, ℕ, zero, suc, ◌+◌, ◌*◌, ◌^◌, ◌<◌, ◌≤◌, Bool, true, false, cond, ◌&&◌, ◌||◌, List, [], ◌∷◌, ◌++◌, map}
+use Rattle.std.specs.Prelude.{◌≡◌, ℕ, zero, suc, ◌+◌, ◌*◌, ◌^◌, ◌<◌, ◌≤◌, Bool, true, false, cond, ◌&&◌, ◌||◌, List, [], ◌∷◌, ◌++◌, map}
 use mathlib.Core.Path.{refl, sym, ap, ◌∙◌}
 use native.Mathlib.{Nat.mul-le-mul, Omega.arith}
 use borrow.Author.Tests.{eq-eqb, eqb-true, leb-true}

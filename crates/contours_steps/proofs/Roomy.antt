@@ -1,6 +1,6 @@
 -- The program has room for every network that is right otherwise. Assumes nothing.
 use mathlib.Core.{Path.◌≡◌, Path.refl, Path.ap, Bool.Bool, Bool.true, Bool.false, Bool.cond, Bool.◌&&◌, List.List}
-use Rattle.core.specs.Prelude.{ℕ, ◌≤◌}
+use Rattle.std.specs.Prelude.{ℕ, ◌≤◌}
 use native.Mathlib.Omega.{arith}
 use lib.{ListN.length, Dec.eqb, Dec.leb}
 use borrow.Author.Tests.{le-leb}

@@ -1,5 +1,5 @@
 -- What a run comes to, taken from what the program keeps of it. Assumes nothing.
-use Rattle.core.specs.Prelude.{ℕ}
+use Rattle.std.specs.Prelude.{ℕ}
 use mathlib.Core.{Path.◌∙◌, Bool.Bool, List.List}
 use Rattle.channel.specs.{Run.Run, Told.RunTold}
 use Rattle.channel.proofs.Running as running

@@ -1,5 +1,5 @@
 -- How long the sheet can be: a machine's word counts it. Assumes nothing.
-use Rattle.core.specs.Prelude.{ℕ, zero, suc, ◌+◌, ◌*◌, ◌^◌, ◌<◌, ◌≤◌}
+use Rattle.std.specs.Prelude.{ℕ, zero, suc, ◌+◌, ◌*◌, ◌^◌, ◌<◌, ◌≤◌}
 use mathlib.Core.{Path.◌≡◌, Path.refl, Path.ap, List.List, List.[], List.◌∷◌, List.◌++◌}
 use native.Mathlib.{Nat.mul-le-mul, Nat.le_refl, Omega.arith}
 use borrow.Author.Tests.{ltb-true, ltb-false}

@@ -1,5 +1,5 @@
 -- What the program contours may write on standard output, by what came of the network's bytes. Assumes nothing.
-use Rattle.core.specs.Prelude.{◌≡◌, ℕ, List, length}
+use Rattle.std.specs.Prelude.{◌≡◌, ℕ, List, length}
 use Rattle.channel.specs.System.{First, Whole, Broken}
 use Rattle.channel.specs.System.Origin.{input}
 use Rattle.contours_steps.specs.declared.words.Given.{Given}

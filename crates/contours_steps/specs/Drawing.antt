@@ -1,5 +1,5 @@
 -- What is drawn and what is refused, as the program's writers ask for it. Assumes nothing.
-use Rattle.core.specs.Prelude.{◌≡◌, ℕ, List}
+use Rattle.std.specs.Prelude.{◌≡◌, ℕ, List}
 use Rattle.network.specs.declared.Frame.{Frame}
 use Rattle.grid.specs.Read.{text_frame, text_levels}
 use Rattle.contours_steps.specs.declared.words.Given.{Given}

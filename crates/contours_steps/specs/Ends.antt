@@ -1,5 +1,5 @@
 -- All that the program contours writes has its last line end. Assumes nothing.
-use Rattle.core.specs.Prelude.{◌≡◌, ℕ, List, [], ◌∷◌, ◌++◌}
+use Rattle.std.specs.Prelude.{◌≡◌, ℕ, List, [], ◌∷◌, ◌++◌}
 use Rattle.contours_steps.specs.Sheet.{written_of, failed_of, overlong_of}
 
 -- a text ends in CR, 13, and LF, 10

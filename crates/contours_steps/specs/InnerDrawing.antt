@@ -1,6 +1,6 @@
 -- Inner steps: no promise uses them. A network that was read, and one that is drawn, behind the checks.
 -- Assumes nothing.
-use Rattle.core.specs.Prelude.{◌≡◌, ℕ, ◌<◌, ◌≤◌, List, length, take, slice_index}
+use Rattle.std.specs.Prelude.{◌≡◌, ℕ, ◌<◌, ◌≤◌, List, length, take, slice_index}
 use Rattle.network.specs.declared.Frame.{Frame}
 use Rattle.network.specs.Edges.{Checked}
 use Rattle.network.specs.Limits.{least_contour, max_contour}

@@ -1,5 +1,5 @@
 -- Inner steps: no promise uses them. One argument. Assumes nothing.
-use Rattle.core.specs.Prelude.{ℕ, ◌+◌, Bool, List}
+use Rattle.std.specs.Prelude.{ℕ, ◌+◌, Bool, List}
 use Rattle.channel.specs.System.{Argument}
 use Rattle.contours_steps.specs.Words.{max_word, WordTaken}
 

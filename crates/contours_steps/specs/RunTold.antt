@@ -1,6 +1,6 @@
 -- What is told of the text that a run of the program contours writes, said of the bytes that came and of its arguments,
 -- and of nothing between them. Assumes nothing.
-use Rattle.core.specs.Prelude.{◌≡◌, ℕ, ◌+◌, ◌<◌, List, [], length, slice_index_or}
+use Rattle.std.specs.Prelude.{◌≡◌, ℕ, ◌+◌, ◌<◌, List, [], length, slice_index_or}
 use Rattle.channel.specs.System.{First, Whole, Broken, Arguments, Argument}
 use Rattle.channel.specs.System.Origin.{input}
 use Rattle.contours_steps.specs.Sheet.{refused_line, written_of, overlong_of}

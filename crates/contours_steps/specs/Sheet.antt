@@ -1,6 +1,6 @@
 -- All that the program contours writes on standard output, from the network's bytes and its arguments.
 -- CRLF is 13 and 10. Assumes nothing.
-use Rattle.core.specs.Prelude.{ℕ, ◌*◌, cond, List, [], ◌∷◌, ◌++◌, length, ◌==◌, nat_le, nat_lt}
+use Rattle.std.specs.Prelude.{ℕ, ◌*◌, cond, List, [], ◌∷◌, ◌++◌, length, ◌==◌, nat_le, nat_lt}
 use Rattle.text.specs.Number.{show_number, show_thousandths}
 use Rattle.text.specs.Spelled.{bytes}
 use Rattle.text.specs.Line.{lines_of}

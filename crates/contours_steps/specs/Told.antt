@@ -1,5 +1,5 @@
 -- What a person may count on in what the program contours writes. Assumes nothing.
-use Rattle.core.specs.Prelude.{◌≡◌, ℕ, suc, ◌+◌, ◌<◌, ◌≤◌, cond, ◌&&◌, List, [], ◌∷◌, ◌++◌, length, get_or, ◌==◌, ◌≢◌, slice_index, slice_index_or}
+use Rattle.std.specs.Prelude.{◌≡◌, ℕ, suc, ◌+◌, ◌<◌, ◌≤◌, cond, ◌&&◌, List, [], ◌∷◌, ◌++◌, length, get_or, ◌==◌, ◌≢◌, slice_index, slice_index_or}
 use Rattle.text.specs.Number.{shown, show_thousandths, InThousandths}
 use Rattle.text.specs.Spelled.{bytes}
 use Rattle.text.specs.Line.{lines_of}

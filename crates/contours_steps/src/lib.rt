@@ -1,3 +1,5 @@
 // What the program contours writes: its steps over lent buffers. The program itself only moves bytes.
-pub mod core;
+#![tactic(auto)]
+
+pub mod inner;
 pub mod words;

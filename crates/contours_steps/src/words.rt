@@ -1,5 +1,5 @@
 // The contour levels among a program's arguments.
-ghost use Rattle.core.specs.Prelude.{◌≡◌, if◌then◌else◌};
+ghost use Rattle.std.specs.Prelude.{◌≡◌, if◌then◌else◌};
 ghost use Rattle.contours_steps.specs.Words.{is_contour, word_level, given_refusal, WordTaken};
 
 use network::limits::{LEAST_CONTOUR, MAX_CONTOUR};

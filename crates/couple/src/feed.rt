@@ -1,5 +1,5 @@
 // A file as it comes, through a buffer of fixed size: tracks.csv, or the movements on standard input.
-ghost use Rattle.core.specs.Prelude.{◌≡◌, ◌+◌, ◌^◌, ◌<◌, ◌≤◌, [], length, take};
+ghost use Rattle.std.specs.Prelude.{◌≡◌, ◌+◌, ◌^◌, ◌<◌, ◌≤◌, [], length, take};
 ghost use Rattle.channel.specs.System.{Descriptor};
 ghost use Rattle.channel.specs.System.Origin.{input};
 ghost use Rattle.channel.specs.Input.{origin_of};
@@ -10,12 +10,12 @@ ghost use Rattle.couple_steps.specs.Table.{table_step, longest_text};
 ghost use Rattle.couple_steps.specs.Written.{tracks_origin};
 ghost use Rattle.couple_steps.specs.InnerTable.{held_in, reading_in, Roomy};
 
-use channel::core::read_from;
+use channel::inner::read_from;
 use channel::file::{close_file, open_file};
 use channel::input::{Arrived, STANDARD_INPUT};
-use couple_steps::core::feeding::{take_last, take_piece};
+use couple_steps::inner::feeding::{take_last, take_piece};
 use flights::{MOVEMENT_COLUMNS, TRACK_COLUMNS};
-use stream::core::failed;
+use stream::inner::failed;
 use stream::{ENDED, READING, STOPPED, Turn};
 
 // The lines of a piece.

@@ -1,11 +1,13 @@
 // The program couple: tracks.csv of the current folder and the movements on standard input make a CSV on standard
 // output, `id,track`, with a line for each movement. A refusal is the one line `refused,number,line`, with a sentence
 // on standard error. It moves bytes; what it decides is decided in the libraries below.
+#![tactic(auto)]
+
 mod feed;
 mod print;
 mod say;
 
-ghost use Rattle.core.specs.Prelude.{◌≡◌, ◌+◌, ◌<◌, length};
+ghost use Rattle.std.specs.Prelude.{◌≡◌, ◌+◌, ◌<◌, length};
 ghost use Rattle.channel.specs.System.Origin.{input};
 ghost use Rattle.channel.specs.Run.{Run};
 ghost use Rattle.text.specs.Sheet.{refused_text};
@@ -13,7 +15,7 @@ ghost use Rattle.couple_steps.specs.Table.{longest_text};
 ghost use Rattle.couple_steps.specs.Written.{tracks_origin, MayWrite};
 ghost use Rattle.couple_steps.specs.InnerTable.{TableRead};
 
-use coupling::core::couple_tables;
+use coupling::inner::couple_tables;
 use coupling::limits::MAX_FLIGHTS;
 use flights::{MOVEMENT_COLUMNS, TRACK_COLUMNS};
 use libc::STDERR_FILENO;

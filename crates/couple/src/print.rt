@@ -1,6 +1,6 @@
 // The text on standard output. The sheet is put together in a buffer, part by part, and each part is handed to one
 // write, where it is due: behind the part before it.
-ghost use Rattle.core.specs.Prelude.{◌≡◌, ◌≤◌, length};
+ghost use Rattle.std.specs.Prelude.{◌≡◌, ◌≤◌, length};
 ghost use Rattle.channel.specs.Due.{Due, Sends};
 ghost use Rattle.channel.specs.Run.{Run};
 ghost use Rattle.text.specs.Sheet.{refused_text};
@@ -9,8 +9,8 @@ ghost use Rattle.couple_steps.specs.Sheet.{sheet_text};
 ghost use Rattle.couple_steps.specs.Written.{MayWrite};
 ghost use Rattle.couple_steps.specs.InnerSheet.{longest_flight};
 
-use couple_steps::core::put::put_lines;
-use text::core::put_refused;
+use couple_steps::inner::put::put_lines;
+use text::inner::put_refused;
 
 // The one write of a part of the sheet, which is due past the `sent` bytes before it. It answers, as each function
 // below, whether all was taken; where it was not, nothing more is written.
@@ -26,7 +26,7 @@ fn written(
     requires due { Due (sheet_text ids.now numbers.now answers.now many) sent.old part.now }
     ensures { Sends sent.old part.now result sent.new }
 {
-    channel::core::write(sent, part)
+    channel::inner::write(sent, part)
 }
 
 // The sheet: its heading, and the lines of so many movements.
@@ -77,5 +77,5 @@ fn write(sent: &mut usize, text: &[u8]) -> bool
     requires sent_value { sent.old ≡ 0 }
     ensures { Run MayWrite result sent.new }
 {
-    channel::core::write(sent, text)
+    channel::inner::write(sent, text)
 }

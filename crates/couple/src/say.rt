@@ -1,6 +1,6 @@
 // What the program says to a person on standard error. The launcher gives the names that were typed as arguments, the
 // movements' and that of tracks.csv; without them a file is called by what it is.
-ghost use Rattle.core.specs.Prelude.{◌<◌, ◌≤◌, length};
+ghost use Rattle.std.specs.Prelude.{◌<◌, ◌≤◌, length};
 ghost use Rattle.coupling_rules.specs.Limits.{max_flights};
 ghost use Rattle.couple_steps.specs.InnerTable.{Roomy};
 

@@ -1,6 +1,6 @@
 -- Tables as the code keeps them, once both files are read: they may be coupled, and their sheet is that of their rows.
 -- Assumes nothing.
-use Rattle.core.specs.Prelude.{ℕ, suc, ◌+◌, ◌-◌, ◌*◌, ◌<◌, ◌≤◌}
+use Rattle.std.specs.Prelude.{ℕ, suc, ◌+◌, ◌-◌, ◌*◌, ◌<◌, ◌≤◌}
 use mathlib.Core.{Path.◌≡◌, Path.refl, Path.sym, Path.ap, Path.subst, Path.◌∙◌, Bool.true, List.List, List.[], List.◌∷◌}
 use native.Mathlib.Omega.{arith}
 use lib.{ListN.length, ListN.get_or, Dec.eqb}

@@ -1,6 +1,6 @@
 -- What is held of a file that is right: the numbers that its rows spell, in their order and in their range.
 -- Assumes nothing.
-use Rattle.core.specs.Prelude.{ℕ, zero, suc, ◌<◌, ◌≤◌, length, get_or}
+use Rattle.std.specs.Prelude.{ℕ, zero, suc, ◌<◌, ◌≤◌, length, get_or}
 use mathlib.Core.{Path.◌≡◌, Path.refl, Path.ap, Path.◌∙◌, Bool.true, Logic.◌↔◌, List.List, List.[], List.◌∷◌, List.map}
 use native.Mathlib.Omega.{arith}
 use lib.ListN.{length-map}

@@ -1,5 +1,5 @@
 -- No line on its layout is longer than the header of the movements. Assumes nothing.
-use Rattle.core.specs.Prelude.{ℕ, ◌<◌}
+use Rattle.std.specs.Prelude.{ℕ, ◌<◌}
 use mathlib.Core.{Path.◌≡◌, Path.refl, Bool.false, Bool.and-false, List.List}
 use native.Mathlib.Omega.{arith}
 use lib.{ListN.length, Dec.eqb}

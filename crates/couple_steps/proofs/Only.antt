@@ -1,6 +1,6 @@
 -- A file is refused with one number at one line, and one that is right with none; one of which nothing came is refused
 -- 16 at line 1. Assumes nothing.
-use Rattle.core.specs.Prelude.{ℕ, suc, ◌+◌, ◌<◌, ◌≤◌}
+use Rattle.std.specs.Prelude.{ℕ, suc, ◌+◌, ◌<◌, ◌≤◌}
 use mathlib.Core.{Path.◌≡◌, Path.refl, Path.sym, Path.ap, Path.◌∙◌, Logic.◌↔◌, List.List, List.[]}
 use native.Mathlib.Omega.{arith}
 use lib.{ListN.length, ListN.get_or, Dec.ltb}

@@ -1,5 +1,5 @@
 -- What the program knows once a table is read: it may be coupled, and what may then be written. Assumes nothing.
-use Rattle.core.specs.Prelude.{ℕ, ◌-◌, ◌≤◌}
+use Rattle.std.specs.Prelude.{ℕ, ◌-◌, ◌≤◌}
 use mathlib.Core.{Path.◌≡◌, Path.refl, Path.sym, Path.ap, Path.◌∙◌, Bool.true, List.List, List.[]}
 use native.Mathlib.Omega.{arith}
 use Rattle.channel.specs.System.{Origin}

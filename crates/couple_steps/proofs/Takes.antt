@@ -1,5 +1,5 @@
 -- A line of a file: the header, a row that is refused, one too many, or a row that is stored. Assumes nothing.
-use Rattle.core.specs.Prelude.{ℕ, ◌+◌, ◌-◌, ◌<◌, ◌≤◌}
+use Rattle.std.specs.Prelude.{ℕ, ◌+◌, ◌-◌, ◌<◌, ◌≤◌}
 use mathlib.Core.{Path.◌≡◌, Path.refl, Path.sym, Path.ap, Path.subst, List.List, List.[], List.◌∷◌, List.◌++◌}
 use native.Mathlib.Omega.{arith}
 use lib.{ListN.length, ListN.get_or, Dec.eqb}

@@ -1,10 +1,10 @@
 -- Inner steps: no promise uses them. The sheet as it is put into a buffer, part by part.
 -- Assumes nothing.
-use Rattle.core.specs.Prelude.{◌≡◌, ℕ, ◌<◌, ◌≤◌, List, ◌++◌, length, take, drop}
+use Rattle.std.specs.Prelude.{◌≡◌, ℕ, ◌<◌, ◌≤◌, List, ◌++◌, length, take, drop}
 use Rattle.text.specs.Index.{listing}
 use Rattle.text.specs.Sheet.{ended}
 use Rattle.text.specs.Spelled.{bytes}
-use Rattle.couple_steps.specs.declared.core.put.Part.{Part}
+use Rattle.couple_steps.specs.declared.inner.put.Part.{Part}
 use Rattle.couple_steps.specs.Sheet.{flight_line}
 
 -- the heading with its CRLF

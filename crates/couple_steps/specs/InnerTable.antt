@@ -1,6 +1,6 @@
 -- Inner steps: no promise uses them. A table as the code keeps it, in one flat list, column after column.
 -- Assumes nothing.
-use Rattle.core.specs.Prelude.{◌≡◌, ℕ, ◌+◌, ◌-◌, ◌*◌, ◌≤◌, cond, List, [], length, ◌==◌, slice_index}
+use Rattle.std.specs.Prelude.{◌≡◌, ℕ, ◌+◌, ◌-◌, ◌*◌, ◌≤◌, cond, List, [], length, ◌==◌, slice_index}
 use Rattle.text.specs.Index.{listing}
 use Rattle.coupling_rules.specs.Limits.{max_flights}
 use Rattle.channel.specs.System.{Origin}

@@ -1,5 +1,5 @@
 -- When tracks.csv and the movements are right, and what is wrong with them: RULES, "Radar tracks". Assumes nothing.
-use Rattle.core.specs.Prelude.{◌≡◌, ℕ, ◌+◌, ◌<◌, ◌≤◌, true, false, List, [], length, get_or, drop, ◌≢◌, slice_index, slice_index_or}
+use Rattle.std.specs.Prelude.{◌≡◌, ℕ, ◌+◌, ◌<◌, ◌≤◌, true, false, List, [], length, get_or, drop, ◌≢◌, slice_index, slice_index_or}
 use Rattle.date.specs.Calendar.{date_exists}
 use Rattle.text.specs.Line.{lines_of}
 use Rattle.text.specs.Spelled.{bytes}

@@ -1,6 +1,6 @@
 -- What a person may count on in what the program couple writes, read back from its own bytes: RULES, "Radar tracks".
 -- Assumes nothing.
-use Rattle.core.specs.Prelude.{◌≡◌, ℕ, suc, ◌+◌, ◌<◌, ◌↔◌, List, [], ◌∷◌, ◌++◌, length, get_or, slice_index, slice_index_or}
+use Rattle.std.specs.Prelude.{◌≡◌, ℕ, suc, ◌+◌, ◌<◌, ◌↔◌, List, [], ◌∷◌, ◌++◌, length, get_or, slice_index, slice_index_or}
 use Rattle.text.specs.Line.{lines_of}
 use Rattle.text.specs.Field.{count_of, field_of}
 use Rattle.text.specs.Number.{show_number}

@@ -1,6 +1,6 @@
 -- All that the program couple writes on standard output, from the bytes of tracks.csv and of the movements: RULES,
 -- "Radar tracks". Assumes nothing.
-use Rattle.core.specs.Prelude.{ℕ, ◌-◌, cond, List, [], ◌∷◌, length, ◌==◌, slice_index}
+use Rattle.std.specs.Prelude.{ℕ, ◌-◌, cond, List, [], ◌∷◌, length, ◌==◌, slice_index}
 use Rattle.text.specs.Index.{listing}
 use Rattle.text.specs.Number.{show_number}
 use Rattle.text.specs.Sheet.{ended, line, refused_text}

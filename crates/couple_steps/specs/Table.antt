@@ -1,6 +1,6 @@
 -- tracks.csv and the movements, from their bytes to rows of numbers: RULES, "Radar tracks". A table has 8 columns, that
 -- of the movements 9. Assumes nothing.
-use Rattle.core.specs.Prelude.{ℕ, ◌+◌, cond, List, [], ◌∷◌, ◌++◌, map, ◌==◌, nat_le, slice_index}
+use Rattle.std.specs.Prelude.{ℕ, ◌+◌, cond, List, [], ◌∷◌, ◌++◌, map, ◌==◌, nat_le, slice_index}
 use Rattle.refusal.specs.Refuse.{refuse, first}
 use Rattle.text.specs.Index.{listing}
 use Rattle.coupling_rules.specs.Limits.{max_flights}

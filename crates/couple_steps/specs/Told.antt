@@ -1,6 +1,6 @@
 -- What is told of the text that a run of couple writes, said of the bytes that came and of nothing between: RULES,
 -- "Radar tracks". Assumes nothing.
-use Rattle.core.specs.Prelude.{◌≡◌, ℕ, ◌≤◌, List, [], ◌∷◌, ◌++◌, length, replicate}
+use Rattle.std.specs.Prelude.{◌≡◌, ℕ, ◌≤◌, List, [], ◌∷◌, ◌++◌, length, replicate}
 use Rattle.channel.specs.System.{First, Whole, Broken}
 use Rattle.channel.specs.System.Origin.{input, file}
 use Rattle.text.specs.Line.{lines_of}

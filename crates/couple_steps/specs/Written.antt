@@ -1,5 +1,5 @@
 -- What the program couple may write on standard output, by what came of its two files. Assumes nothing.
-use Rattle.core.specs.Prelude.{◌≡◌, ℕ, List}
+use Rattle.std.specs.Prelude.{◌≡◌, ℕ, List}
 use Rattle.channel.specs.System.{Origin, Whole}
 use Rattle.channel.specs.System.Origin.{input, file}
 use Rattle.text.specs.Spelled.{bytes}

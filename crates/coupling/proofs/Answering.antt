@@ -1,6 +1,6 @@
 -- What the call answers: its refusal, 14 after it, and the answer where neither holds. Assumes nothing.
 use mathlib.Core.{Path.◌≡◌, Path.sym, Path.ap, Path.◌∙◌, Bool.Bool, Bool.true, Bool.false, List.List}
-use Rattle.core.specs.Prelude.{ℕ, ◌≤◌}
+use Rattle.std.specs.Prelude.{ℕ, ◌≤◌}
 use native.Mathlib.Omega.{arith}
 use lib.{Dec.leb, ListN.length}
 use borrow.Author.Tests.{leb-true, ne_eqb}

@@ -1,7 +1,7 @@
 -- What a test's answer says of the test, and a loop's next turn: one value more in a packed column, one date more that
 -- is looked at. Assumes nothing.
 use mathlib.Core.{Path.◌≡◌, Path.sym, Path.ap, Path.◌∙◌, Bool.Bool, Bool.true, Bool.◌&&◌, List.List, Logic.⊎_elim}
-use Rattle.core.specs.Prelude.{ℕ, ◌+◌, ◌<◌, ◌≤◌}
+use Rattle.std.specs.Prelude.{ℕ, ◌+◌, ◌<◌, ◌≤◌}
 use native.Mathlib.Omega.{arith}
 use lib.{ListN.length, ListN.get_or, ListN.drop, ListN.set, ListN.drop_of_length-le, Dec.eqb, Seq.get_or-set_same}
 use lib.{Seq.get_or-set_other}

@@ -1,6 +1,6 @@
 -- Runs of equal rank, copied to a stack, and the room in it. Assumes nothing.
 use mathlib.Core.{Path.◌≡◌, Path.sym, Path.ap, Path.◌∙◌, Bool.Bool, Bool.cond, List.List, List.◌++◌}
-use Rattle.core.specs.Prelude.{ℕ, suc, ◌+◌, ◌-◌, ◌<◌, ◌≤◌}
+use Rattle.std.specs.Prelude.{ℕ, suc, ◌+◌, ◌-◌, ◌<◌, ◌≤◌}
 use native.Mathlib.{Omega.arith, Numerals.add-one}
 use lib.{ListN.length, ListN.take, ListN.drop, ListN.get_or, ListN.drop_of_length-le, Seq.drop-cons}
 use lib.{Seq.drop_at, Seq.length-take-le}

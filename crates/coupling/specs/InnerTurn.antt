@@ -1,5 +1,5 @@
 -- Inner steps: no promise uses them. What a movement asks of a track, as the code hands it on. Assumes nothing.
-use Rattle.core.specs.Prelude.{ℕ, slice_index}
+use Rattle.std.specs.Prelude.{ℕ, slice_index}
 use mathlib.Core.{Path.◌≡◌, List.List}
 use Rattle.sorting.specs.Sorted.{key_of, sorted}
 use Rattle.coupling_rules.specs.{Flights.Flights, Flights.many, Rule.couple, Rule.places}

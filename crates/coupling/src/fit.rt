@@ -1,5 +1,5 @@
 // What is refused with 18: columns that are too long or of unequal length, and values out of their range.
-ghost use Rattle.core.specs.Prelude.{◌≡◌, ◌&&◌, length, nat_le};
+ghost use Rattle.std.specs.Prelude.{◌≡◌, ◌&&◌, length, nat_le};
 ghost use Rattle.refusal.specs.Range.{all_within};
 ghost use Rattle.room.specs.Room.{then_room};
 ghost use Rattle.coupling_rules.specs.Flights.{flights_before, movements_before};

@@ -1,11 +1,11 @@
 // How far a track is from a movement, by packed columns.
-ghost use Rattle.core.specs.Prelude.{◌≡◌, drop, ◌==◌, nat_lt};
+ghost use Rattle.std.specs.Prelude.{◌≡◌, drop, ◌==◌, nat_lt};
 ghost use Rattle.coupling_rules.specs.Rule.{distance};
 ghost use Rattle.coupling_rules.specs.InnerSides.{head_gap};
 ghost use Rattle.coupling_rules.specs.InnerPacked.{ranked, gap_between, packed_before, rank_in};
 ghost use Rattle.coupling.specs.InnerTurn.{wanted_rank, gap_from};
 
-use sorting::core::key_at;
+use sorting::inner::key_at;
 
 // What a movement asks of a track: its class as two numbers, its moment, and its reach: one more than the seconds that
 // a track may be away, 0 where it takes none.

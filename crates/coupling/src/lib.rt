@@ -1,10 +1,12 @@
 // Radar tracks for movements: RULES, "Radar tracks". The definitions are crate coupling_rules'.
+#![tactic(auto)]
+
 ghost use Rattle.room.specs.Room.{Writes};
 ghost use Rattle.coupling_rules.specs.Flights.{flights_before, movements_before};
 ghost use Rattle.coupling_rules.specs.Rule.{tracks_for};
 ghost use Rattle.coupling_rules.specs.Refusals.{couple_refusal};
 
-pub mod core;
+pub mod inner;
 mod fit;
 mod gap;
 pub mod limits;
@@ -61,7 +63,7 @@ pub fn couple(
         tracks.len(),
     );
     if why == 0 {
-        core::couple_columns(
+        inner::couple_columns(
             dates,
             times,
             classes,

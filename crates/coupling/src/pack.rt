@@ -1,6 +1,6 @@
 // Class, kind, runway, airport and type designator of each flight as two numbers that agree exactly if the five do, and
 // its moment beside them.
-ghost use Rattle.core.specs.Prelude.{◌≡◌, ℕ, ◌<◌, ◌≤◌, true, length, slice_index};
+ghost use Rattle.std.specs.Prelude.{◌≡◌, ℕ, ◌<◌, ◌≤◌, true, length, slice_index};
 ghost use Rattle.coupling_rules.specs.Limits.{max_flights};
 ghost use Rattle.coupling_rules.specs.Flights.{flights_now, flights_before};
 ghost use Rattle.coupling_rules.specs.Rule.{moment as momentAt};

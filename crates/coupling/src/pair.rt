@@ -1,5 +1,5 @@
 // Each movement takes its track, in turn.
-ghost use Rattle.core.specs.Prelude.{◌≡◌, ◌<◌, ◌≤◌, length, slice_index, slice_set};
+ghost use Rattle.std.specs.Prelude.{◌≡◌, ◌<◌, ◌≤◌, length, slice_index, slice_set};
 ghost use Rattle.sorting.specs.Sorted.{sorted};
 ghost use Rattle.coupling_rules.specs.Limits.{max_flights};
 ghost use Rattle.coupling_rules.specs.Rule.{couple, places};
@@ -11,7 +11,7 @@ use crate::gap::Wanted;
 use crate::limits::{AEROPLANE_WINDOW, HELICOPTER_WINDOW};
 use crate::order::in_order;
 use crate::turn::turn;
-use sorting::core::key_at;
+use sorting::inner::key_at;
 
 // The number at place i of a column; 0 past the last.
 fn value_at(column: &[u32], i: u32) -> u32

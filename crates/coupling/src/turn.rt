@@ -1,13 +1,13 @@
 // One movement's turn. The tracks that are free stand in two lists: those passed, nearest first, from `top` of a stack
 // on, and those to come, from `at` of the order on. The best is the first of one of them.
-ghost use Rattle.core.specs.Prelude.{◌≡◌, ◌+◌, ◌-◌, ◌<◌, ◌≤◌, ◌++◌, length, drop, slice_index, slice_range};
+ghost use Rattle.std.specs.Prelude.{◌≡◌, ◌+◌, ◌-◌, ◌<◌, ◌≤◌, ◌++◌, length, drop, slice_index, slice_range};
 ghost use Rattle.coupling_rules.specs.InnerSides.{leading, nearer, Pulled, Turned};
 ghost use Rattle.coupling_rules.specs.InnerPacked.{packed_before, rank_in, moment_in};
 ghost use Rattle.coupling.specs.InnerTurn.{wanted_rank, gap_from};
 
 use crate::gap::{Wanted, comes_before, head_gap, same_rank};
 use crate::pack::wide;
-use sorting::core::copy_over;
+use sorting::inner::copy_over;
 
 // The end of the run of tracks in `order`, from `at` on, of one class and moment.
 fn run_end(order: &[u32], at: usize, highs: &[u64], lows: &[u64], moments: &[u64]) -> usize

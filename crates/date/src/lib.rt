@@ -1,5 +1,7 @@
 // Dates of the Gregorian calendar, each one number: year * 10,000 + month * 100 + day. Which exist, and the number of a
 // day.
+#![tactic(auto)]
+
 pub mod limits;
 
 ghost use Rattle.std.specs.Prelude.{◌≡◌, ◌<◌};

@@ -1,6 +1,8 @@
 // The program explain: limits.csv in the current folder and a register on standard input give how each load comes
 // about, on standard output.
-use files::core::{EXPLAIN, run};
+#![tactic(auto)]
+
+use files::inner::{EXPLAIN, run};
 use libc::STDERR_FILENO;
 
 fn main() {

@@ -1,6 +1,6 @@
 -- The lines of the text, as the writers group them. Assumes nothing.
 use mathlib.Core.{Path.◌≡◌, Path.refl, Path.sym, Path.ap, Path.◌∙◌, Bool.true, Bool.false}
-use Rattle.core.specs.Prelude.{ℕ, ◌+◌, List, [], ◌∷◌, ◌++◌}
+use Rattle.std.specs.Prelude.{ℕ, ◌+◌, List, [], ◌∷◌, ◌++◌}
 use mathlib.Core.List.{append_assoc}
 use native.Mathlib.Numerals.{add-one}
 use Rattle.movement.specs.{Limits.group_count, Group.group_period}

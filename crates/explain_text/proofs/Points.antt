@@ -1,6 +1,6 @@
 -- The lines of the points, one after another, behind the header. Assumes nothing.
 use mathlib.Core.{Path.◌≡◌, Path.refl, Path.sym, List.List, List.[], List.◌++◌}
-use Rattle.core.specs.Prelude.{ℕ, ◌+◌, ◌≤◌, length}
+use Rattle.std.specs.Prelude.{ℕ, ◌+◌, ◌≤◌, length}
 use native.Mathlib.Numerals.{add-one}
 use Rattle.text.specs.Sheet.{ended}
 use Rattle.text.specs.Spelled.{crlf}

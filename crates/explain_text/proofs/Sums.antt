@@ -1,6 +1,6 @@
 -- Sums of the groups' numbers, one group more; and each summand is at most the sum. Assumes nothing.
 use mathlib.Core.{Path.◌≡◌, Path.refl, Path.ap, Path.subst, List.List}
-use Rattle.core.specs.Prelude.{ℕ, ◌+◌, ◌-◌, ◌<◌, ◌≤◌}
+use Rattle.std.specs.Prelude.{ℕ, ◌+◌, ◌-◌, ◌<◌, ◌≤◌}
 use native.Mathlib.{Numerals.add-one, Omega.arith}
 use Rattle.movement.specs.Limits.{group_count}
 use Rattle.load_rules.specs.Factors.{sum_to}

@@ -1,7 +1,7 @@
 -- The numbers of an account are those of the text: V, U, S and what each group gives, both factors, P and the total.
 -- Assumes nothing.
 use mathlib.Core.{Path.◌≡◌, Path.refl, Path.ap, Path.◌∙◌, List.List, List.[], List.append-nil}
-use Rattle.core.specs.Prelude.{ℕ, zero, suc, ◌+◌, ◌<◌, ◌≤◌, length, get_or, drop}
+use Rattle.std.specs.Prelude.{ℕ, zero, suc, ◌+◌, ◌<◌, ◌≤◌, length, get_or, drop}
 use native.Mathlib.Omega.{arith}
 use lib.ListN.{drop_of_length-le}
 use borrow.Author.Tests.{le-leb}

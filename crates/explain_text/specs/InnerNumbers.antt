@@ -1,5 +1,5 @@
 -- Inner steps: no promise uses them. The numbers of a line, from the 78 of an account. Assumes nothing.
-use Rattle.core.specs.Prelude.{ℕ, ◌+◌, ◌*◌, ◌^◌, ◌<◌, List, slice_index}
+use Rattle.std.specs.Prelude.{ℕ, ◌+◌, ◌*◌, ◌^◌, ◌<◌, List, slice_index}
 use Rattle.movement.specs.Limits.{group_count}
 use Rattle.load_rules.specs.Factors.{ratio, sum_to}
 use Rattle.load_rules.specs.Account.{whole_from}

@@ -1,6 +1,6 @@
 -- Inner steps: no promise uses them. What the writers of the text ask and leave: room for the longest text. Assumes
 -- nothing.
-use Rattle.core.specs.Prelude.{◌≡◌, ℕ, List, ◌∷◌, ◌++◌}
+use Rattle.std.specs.Prelude.{◌≡◌, ℕ, List, ◌∷◌, ◌++◌}
 use Rattle.movement.specs.Group.{group_period}
 use Rattle.book_rules.specs.Columns.{Book}
 use Rattle.room.specs.Room.{Wrote}
@@ -8,7 +8,7 @@ use Rattle.text.specs.Sheet.{comma}
 use Rattle.text.specs.Spelled.{crlf}
 use Rattle.text.specs.Number.{show_number}
 use Rattle.register.specs.declared.limits_csv.LimitsFile.{LimitsFile}
-use Rattle.report_text.specs.declared.core.Report.{Report}
+use Rattle.report_text.specs.declared.inner.Report.{Report}
 use Rattle.report_text.specs.Text.{book_refusal}
 use Rattle.explain_text.specs.declared.amounts.Amounts.{Amounts}
 use Rattle.explain_text.specs.Text.{type_text, kind_text, period_text, factor_text, explain_text}

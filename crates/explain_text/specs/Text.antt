@@ -1,6 +1,6 @@
 -- How each load comes about, as text, from the limits and a book: RULES, "The program explain".
 -- Assumes nothing.
-use Rattle.core.specs.Prelude.{ℕ, zero, suc, ◌+◌, ◌/◌, ◌%◌, Bool, cond, List, [], ◌∷◌, ◌++◌, ◌==◌, nat_lt}
+use Rattle.std.specs.Prelude.{ℕ, zero, suc, ◌+◌, ◌/◌, ◌%◌, Bool, cond, List, [], ◌∷◌, ◌++◌, ◌==◌, nat_lt}
 use Prim.Native.Char.{code}
 use Rattle.movement.specs.Limits.{group_count}
 use Rattle.movement.specs.declared.period.Period.{Period}

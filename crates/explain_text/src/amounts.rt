@@ -1,5 +1,5 @@
 // The numbers of a line, from the 78 of an account.
-ghost use Rattle.core.specs.Prelude.{◌≡◌, ◌^◌, ◌<◌};
+ghost use Rattle.std.specs.Prelude.{◌≡◌, ◌^◌, ◌<◌};
 ghost use Rattle.movement.specs.Limits.{group_count};
 ghost use Rattle.explain_text.specs.InnerNumbers.{number_at, whole_at, sum_at, Addable, group_in, all_in};
 

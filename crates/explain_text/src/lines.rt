@@ -1,5 +1,5 @@
 // The lines of a point, put into a buffer that has room for the longest.
-ghost use Rattle.core.specs.Prelude.{◌≡◌, ◌+◌, ◌<◌, ◌≤◌, ◌∷◌, ◌++◌, length};
+ghost use Rattle.std.specs.Prelude.{◌≡◌, ◌+◌, ◌<◌, ◌≤◌, ◌∷◌, ◌++◌, length};
 ghost use Rattle.movement.specs.Limits.{group_count, max_points};
 ghost use Rattle.movement.specs.Group.{group_period};
 ghost use Rattle.text.specs.Sheet.{ended, comma, line};
@@ -15,7 +15,7 @@ ghost use Rattle.explain_text.specs.InnerRoom.{longest_point, names, pair, amoun
 
 use crate::amounts::{Amounts, all_amounts, group_amounts};
 use movement::limits::GROUPS;
-use text::core::{put_any_number, put_byte, put_end, put_field, put_text, put_word};
+use text::inner::{put_any_number, put_byte, put_end, put_field, put_text, put_word};
 
 // A comma, and the letter at a place among a few.
 fn put_letter(out: &mut [u8], at: usize, letters: &[u8], n: usize) -> usize

@@ -1,6 +1,6 @@
 -- Columns of zeros are an empty book. Assumes nothing.
 use mathlib.Core.{Path.◌≡◌, Path.refl, Path.ap, Path.◌∙◌}
-use Rattle.core.specs.Prelude.{ℕ, ◌*◌, ◌≤◌, length, take}
+use Rattle.std.specs.Prelude.{ℕ, ◌*◌, ◌≤◌, length, take}
 use lib.ListN.{length-replicate}
 use Rattle.book_rules.specs.{Columns.Book, Columns.book_of, History.empty_book}
 use Rattle.report_steps.proofs.Intakes.{take_same}

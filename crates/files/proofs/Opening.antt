@@ -1,6 +1,6 @@
 -- limits.csv as it was read. Assumes nothing.
 use mathlib.Core.{Path.◌≡◌, Path.◌∙◌, List.List}
-use Rattle.core.specs.Prelude.{ℕ}
+use Rattle.std.specs.Prelude.{ℕ}
 use native.Mathlib.Omega.{arith}
 use lib.{Dec.eqb, ListN.length, ListN.take, Seq.length-take-le}
 use borrow.Author.Tests.{eqb-true, eqb-false}

@@ -1,6 +1,6 @@
 -- What the contract of the very function `run` says of each program: `Post` is its own, as the check reads it from the
 -- code, so that no other contract can stand there under the same name. Assumes nothing.
-use Rattle.core.specs.Prelude.{ℕ}
+use Rattle.std.specs.Prelude.{ℕ}
 use mathlib.Core.{Path.◌≡◌, Path.subst, Bool.Bool, List.List}
 use denote.Ref.{Bor}
 use Rattle.report_text.specs.Text.{book_text}
@@ -9,7 +9,7 @@ use Rattle.channel.specs.{Run.Run, Told.RunTold}
 use Rattle.report_rules.specs.{Report.MayWrite, Told.TextTold}
 use Rattle.report_rules.proofs.Running.{run_told}
 use Rattle.files.specs.Kinds.{telling_of}
-use Rattle.files.proofs.core.run.Reads.{Post}
+use Rattle.files.proofs.inner.run.Reads.{Post}
 
 module _ (lifetimes : List ℕ × Unit) (kind : ℕ) (before after : Bor ℕ) (r : Bool)
     (ends : Post lifetimes (kind, (before, tt)) r (kind, (after, tt))) where

@@ -1,6 +1,6 @@
 -- The texts of the program's steps, and which answer each is. Assumes nothing.
 use mathlib.Core.{Path.◌≡◌, Path.sym, Path.◌∙◌, List.List, List.[]}
-use Rattle.core.specs.Prelude.{ℕ}
+use Rattle.std.specs.Prelude.{ℕ}
 use lib.{ListN.take}
 use borrow.Author.Tests.{ne_eqb}
 use Rattle.room.specs.Room.{Wrote}

@@ -1,13 +1,13 @@
 -- Inner steps: no promise uses them. What the program's steps leave, on the way to the one text that it writes.
 -- Assumes nothing.
-use Rattle.core.specs.Prelude.{◌≡◌, ℕ, ◌≤◌, List, length, take}
+use Rattle.std.specs.Prelude.{◌≡◌, ℕ, ◌≤◌, List, length, take}
 use Rattle.room.specs.Room.{Wrote}
 use Rattle.book_rules.specs.Columns.{Book}
 use Rattle.register.specs.declared.limits_csv.LimitsFile.{LimitsFile}
 use Rattle.channel.specs.System.Origin.{input}
 use Rattle.stream.specs.Coming.{Coming, Heard}
 use Rattle.report_steps.specs.Reading.{Reading}
-use Rattle.report_text.specs.declared.core.Report.{Report}
+use Rattle.report_text.specs.declared.inner.Report.{Report}
 use Rattle.report_rules.specs.Report.{Telling, reading_text, register_text, Answers, Written}
 
 -- the first bytes of a buffer are the answer to a register that was read

@@ -1,5 +1,5 @@
 -- The two programs over the same files: which text each makes of a book. Assumes nothing.
-use Rattle.core.specs.Prelude.{ℕ, cond, ◌==◌}
+use Rattle.std.specs.Prelude.{ℕ, cond, ◌==◌}
 use Rattle.report_text.specs.Text.{book_text}
 use Rattle.explain_text.specs.Text.{explain_text}
 use Rattle.report_rules.specs.Report.{Telling}

@@ -1,5 +1,5 @@
 // The register as it comes, through a buffer of fixed size.
-ghost use Rattle.core.specs.Prelude.{◌≡◌, ◌+◌, ◌^◌, ◌<◌, ◌≤◌, true, length, take};
+ghost use Rattle.std.specs.Prelude.{◌≡◌, ◌+◌, ◌^◌, ◌<◌, ◌≤◌, true, length, take};
 ghost use Rattle.book_rules.specs.Columns.{book_now, book_before, book_after, sound};
 ghost use Rattle.channel.specs.System.Origin.{input};
 ghost use Rattle.stream.specs.Reading.{reading_at, Unended};
@@ -9,8 +9,8 @@ ghost use Rattle.report_steps.specs.Stream.{longest_row, longest_line};
 ghost use Rattle.report_steps.specs.Reading.{register_step};
 
 use channel::input::{Arrived, read_input};
-use report_steps::core::feeding::{take_last, take_piece};
-use stream::core::failed;
+use report_steps::inner::feeding::{take_last, take_piece};
+use stream::inner::failed;
 use stream::{ENDED, READING, STOPPED, Turn};
 
 // The lines of a piece.

@@ -1,5 +1,7 @@
 // Files and the report program: limits.csv and the register, from their bytes to the bytes of the answer. What it
 // decides is decided in the libraries below.
-pub mod core;
+#![tactic(auto)]
+
+pub mod inner;
 mod feed;
 mod sentences;

@@ -1,5 +1,5 @@
 -- A circuit is read exactly if it is C or blank. Assumes nothing.
-use Rattle.core.specs.Prelude.{ℕ}
+use Rattle.std.specs.Prelude.{ℕ}
 use mathlib.Core.{Path.◌≡◌, Path.sym, List.List}
 use native.Mathlib.Omega.{arith}
 use borrow.Author.Tests.{eqb-true}

@@ -1,5 +1,5 @@
 -- A row is read exactly if it is spelled so; and what follows of its values and its length. Assumes nothing.
-use Rattle.core.specs.Prelude.{ℕ, zero, suc, ◌+◌, ◌-◌, ◌<◌, ◌≤◌, length, get_or, replicate}
+use Rattle.std.specs.Prelude.{ℕ, zero, suc, ◌+◌, ◌-◌, ◌<◌, ◌≤◌, length, get_or, replicate}
 use mathlib.Core.{Path.◌≡◌, Path.refl, Path.sym, Path.ap, Path.◌∙◌, List.List, Bool.true, Bool.false}
 use mathlib.Core.{Bool.◌&&◌, Logic.◌⊎◌, Logic.inl, Logic.inr, Logic.⊎_elim}
 use native.Mathlib.Omega.{arith}

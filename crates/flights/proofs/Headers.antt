@@ -1,5 +1,5 @@
 -- A header is accepted exactly if it has the bytes that it should have; names are read and told apart. Assumes nothing.
-use Rattle.core.specs.Prelude.{ℕ}
+use Rattle.std.specs.Prelude.{ℕ}
 use mathlib.Core.{Path.◌≡◌, Path.refl, List.List}
 use native.Mathlib.Omega.{arith}
 use borrow.Author.Tests.{ne_eqb}

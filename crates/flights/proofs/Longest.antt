@@ -1,6 +1,6 @@
 -- The longest row has 48 bytes before its CRLF, 46 in tracks.csv, and the longest header 51: a longer line is off its
 -- layout. Assumes nothing.
-use Rattle.core.specs.Prelude.{ℕ, zero, suc, ◌<◌, ◌≤◌}
+use Rattle.std.specs.Prelude.{ℕ, zero, suc, ◌<◌, ◌≤◌}
 use mathlib.Core.{Path.◌≡◌, Path.ap, List.List, Bool.and-false, Logic.⊎_elim}
 use native.Mathlib.Omega.{arith}
 use lib.{ListN.length, Dec.eqb}

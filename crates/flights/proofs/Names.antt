@@ -1,6 +1,6 @@
 -- Laws of names: one byte at a time, and that a name is read exactly if it is spelled so, each as another number.
 -- Assumes nothing.
-use Rattle.core.specs.Prelude.{ℕ, suc, ◌+◌, ◌-◌, ◌*◌, ◌^◌, ◌<◌, ◌≤◌}
+use Rattle.std.specs.Prelude.{ℕ, suc, ◌+◌, ◌-◌, ◌*◌, ◌^◌, ◌<◌, ◌≤◌}
 use mathlib.Core.{Path.◌≡◌, Path.refl, Path.sym, List.List, List.[], List.◌∷◌, Bool.true, Bool.false, Bool.◌&&◌}
 use mathlib.Core.Logic.{inl, inr, ⊎_elim}
 use native.Mathlib.{Nat.pow-le-pow_right, Nat.pow-suc, Nat.add-zero, Numerals.add-one, Omega.arith}

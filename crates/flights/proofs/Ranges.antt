@@ -1,5 +1,5 @@
 -- The values of a row that is read lie in their ranges, and every row has nine. Assumes nothing.
-use Rattle.core.specs.Prelude.{ℕ, ◌<◌, ◌≤◌, length, get_or}
+use Rattle.std.specs.Prelude.{ℕ, ◌<◌, ◌≤◌, length, get_or}
 use mathlib.Core.{Path.◌≡◌, Path.ap, Path.◌∙◌, List.List, Bool.true, Logic.⊎_elim}
 use native.Mathlib.Omega.{arith}
 use Rattle.date.specs.Calendar.{date_exists}

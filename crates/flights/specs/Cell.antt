@@ -1,5 +1,5 @@
 -- The fields of a flight's row, column by column. Assumes nothing.
-use Rattle.core.specs.Prelude.{ℕ, Bool, cond, List, length, ◌==◌}
+use Rattle.std.specs.Prelude.{ℕ, Bool, cond, List, length, ◌==◌}
 use Rattle.text.specs.Number.{whole_of, is_got, value_of}
 use Rattle.text.specs.Clock.{time_of}
 use Rattle.text.specs.Letter.{letter_of}

@@ -1,6 +1,6 @@
 -- The columns of a flight's row, by name: number,date,time,class,kind,runway,airport,type and, of a movement,
 -- circuit. Assumes nothing.
-use Rattle.core.specs.Prelude.{ℕ, Bool, ◌||◌, [], ◌∷◌, ◌==◌, slice_index_or}
+use Rattle.std.specs.Prelude.{ℕ, Bool, ◌||◌, [], ◌∷◌, ◌==◌, slice_index_or}
 
 -- where the date stands, counted from 0
 abbrev pub date_column : ℕ

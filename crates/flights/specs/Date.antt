@@ -1,6 +1,6 @@
 -- A date as text: four digits, two and two, parted by hyphens, as 2026-03-31. Whether it exists is another matter.
 -- Assumes nothing.
-use Rattle.core.specs.Prelude.{ℕ, ◌+◌, ◌*◌, ◌/◌, ◌%◌, cond, ◌&&◌, List, ◌∷◌, ◌++◌, length, take, drop, ◌==◌, slice_index}
+use Rattle.std.specs.Prelude.{ℕ, ◌+◌, ◌*◌, ◌/◌, ◌%◌, cond, ◌&&◌, List, ◌∷◌, ◌++◌, length, take, drop, ◌==◌, slice_index}
 use Rattle.text.specs.Number.{digits_of, show_digits}
 use Rattle.text.specs.Spelled.{byte}
 use Rattle.text.specs.declared.number.Number.{Number}

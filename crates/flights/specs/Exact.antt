@@ -1,5 +1,5 @@
 -- What is read, and with what number the rest is refused: RULES, "Radar tracks". Assumes nothing.
-use Rattle.core.specs.Prelude.{◌≡◌, ℕ, true, false, ◌↔◌, List, [], ◌∷◌, replicate, ◌≢◌, slice_index}
+use Rattle.std.specs.Prelude.{◌≡◌, ℕ, true, false, ◌↔◌, List, [], ◌∷◌, replicate, ◌≢◌, slice_index}
 use Rattle.date.specs.Calendar.{date_exists}
 use Rattle.text.specs.Spelled.{bytes}
 use Rattle.text.specs.declared.number.Number.TheVariants.{Got}

@@ -1,5 +1,5 @@
 -- The header lines of tracks.csv and of the movements, byte for byte and without their CRLF. Assumes nothing.
-use Rattle.core.specs.Prelude.{ℕ, Bool, cond, ◌&&◌, List, ◌==◌}
+use Rattle.std.specs.Prelude.{ℕ, Bool, cond, ◌&&◌, List, ◌==◌}
 use Rattle.refusal.specs.Refuse.{refuse}
 use Rattle.text.specs.Same.{same_text}
 use Rattle.text.specs.Spelled.{bytes}

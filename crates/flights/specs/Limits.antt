@@ -1,5 +1,5 @@
 -- How long a line may be, without its CRLF and with it. Assumes nothing.
-use Rattle.core.specs.Prelude.{ℕ}
+use Rattle.std.specs.Prelude.{ℕ}
 
 -- the longest row of movements: `9999999,2026-03-31,23:58:10,V,S,0606,EHBK,B738,C`
 abbrev pub longest_row : ℕ

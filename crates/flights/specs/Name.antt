@@ -1,6 +1,6 @@
 -- A runway, an airport or a type designator as text: one to four capital letters or digits. It is one number, its bytes
 -- with the most significant first: `EHBK` is 69·256³ + 72·256² + 66·256 + 75. Assumes nothing.
-use Rattle.core.specs.Prelude.{ℕ, ◌+◌, ◌*◌, Bool, cond, ◌&&◌, ◌||◌, List, [], ◌∷◌, length, nat_le}
+use Rattle.std.specs.Prelude.{ℕ, ◌+◌, ◌*◌, Bool, cond, ◌&&◌, ◌||◌, List, [], ◌∷◌, length, nat_le}
 use Rattle.text.specs.Number.{is_digit}
 use Rattle.text.specs.Spelled.{byte}
 use Rattle.text.specs.declared.number.Number.{Number}

@@ -1,5 +1,5 @@
 -- A row of tracks.csv or of the movements, read: RULES, "Radar tracks". Assumes nothing.
-use Rattle.core.specs.Prelude.{ℕ, ◌+◌, ◌-◌, cond, ◌&&◌, List, ◌++◌, replicate, ◌==◌, slice_index}
+use Rattle.std.specs.Prelude.{ℕ, ◌+◌, ◌-◌, cond, ◌&&◌, List, ◌++◌, replicate, ◌==◌, slice_index}
 use Rattle.date.specs.Calendar.{date_exists}
 use Rattle.text.specs.Field.{count_of}
 use Rattle.text.specs.Index.{every, listing}

@@ -1,12 +1,12 @@
 // The columns of a flight's row, read field by field.
-ghost use Rattle.core.specs.Prelude.{◌≡◌};
+ghost use Rattle.std.specs.Prelude.{◌≡◌};
 ghost use Rattle.flights.specs.Cell.{circuit_of, cell_of};
 
 use crate::column::{CIRCUIT, CLASS, DATE, KIND, NUMBER, TIME};
 use crate::day::date;
 use crate::name::name;
 use text::clock::time;
-use text::core::letter;
+use text::inner::letter;
 use text::number::{Number, whole};
 use text::same::same_text;
 

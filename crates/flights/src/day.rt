@@ -1,8 +1,8 @@
 // Dates as text, as 2026-03-31.
-ghost use Rattle.core.specs.Prelude.{◌≡◌, ◌+◌, ◌≤◌, length};
+ghost use Rattle.std.specs.Prelude.{◌≡◌, ◌+◌, ◌≤◌, length};
 ghost use Rattle.flights.specs.Date.{digits_at, date_of};
 
-use text::core::digits;
+use text::inner::digits;
 use text::number::Number;
 
 // So many digits at a place.

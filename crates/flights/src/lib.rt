@@ -1,5 +1,7 @@
 // Rows and headers of tracks.csv and of the movements, as text: RULES, "Radar tracks".
-ghost use Rattle.core.specs.Prelude.{◌≡◌, ◌≤◌, if◌then◌else◌, nat_eq};
+#![tactic(auto)]
+
+ghost use Rattle.std.specs.Prelude.{◌≡◌, ◌≤◌, if◌then◌else◌, nat_eq};
 ghost use Rattle.flights.specs.Column.{movement_columns, has_layout};
 ghost use Rattle.flights.specs.Row.{refused_flight, judged_flight, row_of, flight_of};
 ghost use Rattle.flights.specs.Header.{is_header, header_refusal};
@@ -7,7 +9,7 @@ ghost use Rattle.flights.specs.Header.{is_header, header_refusal};
 use crate::cell::cell;
 use crate::column::DATE;
 use date::date_exists;
-use text::core::field_end;
+use text::inner::field_end;
 use text::line::bare_length;
 use text::number::Number;
 use text::same::same_text;

@@ -1,5 +1,5 @@
 // Runways, airports and type designators as text.
-ghost use Rattle.core.specs.Prelude.{◌≡◌};
+ghost use Rattle.std.specs.Prelude.{◌≡◌};
 ghost use Rattle.flights.specs.Name.{in_name, name_of};
 
 use text::number::Number;

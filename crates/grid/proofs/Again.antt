@@ -1,6 +1,6 @@
 -- The other way round: a text that is read, doesn't name the no-data value and has three decimals throughout gives,
 -- written again, the same lines, each with its CRLF; so a text that ends in CRLF gives the same bytes. Assumes nothing.
-use Rattle.core.specs.Prelude.{◌≡◌, ℕ, zero, suc, ◌+◌, ◌*◌, ◌≤◌, Bool, true, false, ◌&&◌, List, [], ◌∷◌, ◌++◌, map}
+use Rattle.std.specs.Prelude.{◌≡◌, ℕ, zero, suc, ◌+◌, ◌*◌, ◌≤◌, Bool, true, false, ◌&&◌, List, [], ◌∷◌, ◌++◌, map}
 use mathlib.Core.Path.{refl, sym, ap, ◌∙◌}
 use mathlib.Core.Bool.{and-false, true≢false}
 use native.Mathlib.{Nat.suc-mul, Omega.arith}

@@ -1,5 +1,5 @@
 -- A network that can be written, written and read again, is the same network. Assumes nothing.
-use Rattle.core.specs.Prelude.{ℕ, zero, suc, ◌+◌, ◌*◌, ◌≤◌, Bool, true, false}
+use Rattle.std.specs.Prelude.{ℕ, zero, suc, ◌+◌, ◌*◌, ◌≤◌, Bool, true, false}
 use mathlib.Core.{Path.◌≡◌, Path.refl, Path.sym, Path.ap, Path.◌∙◌, List.List, List.[], List.◌∷◌, List.map}
 use native.Mathlib.{Nat.suc-mul, Nat.zero-mul, Omega.arith}
 use borrow.Author.Tests.{eq-eqb, eqb-true, eqb-false, le-leb}

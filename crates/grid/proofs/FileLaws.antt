@@ -1,5 +1,5 @@
 -- A whole text: what follows the header, and the two together. Assumes nothing.
-use Rattle.core.specs.Prelude.{ℕ, suc, ◌+◌, ◌≤◌, Bool, true, false, cond}
+use Rattle.std.specs.Prelude.{ℕ, suc, ◌+◌, ◌≤◌, Bool, true, false, cond}
 use mathlib.Core.{Path.◌≡◌, Path.sym, Path.ap, Path.◌∙◌, List.List, List.[], List.◌∷◌, List.◌++◌, List.map}
 use native.Mathlib.{Nat.add-zero, Omega.arith}
 use lib.{ListN.length, ListN.drop, Seq.drop-drop}

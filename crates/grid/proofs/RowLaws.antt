@@ -1,5 +1,5 @@
 -- The rows of a text, one line after the other. Assumes nothing.
-use Rattle.core.specs.Prelude.{ℕ, suc, ◌+◌, ◌<◌, ◌≤◌, Bool, true, false, cond, ◌&&◌}
+use Rattle.std.specs.Prelude.{ℕ, suc, ◌+◌, ◌<◌, ◌≤◌, Bool, true, false, cond, ◌&&◌}
 use mathlib.Core.{Path.◌≡◌, Path.refl, Path.sym, Path.ap, Path.◌∙◌, List.List, List.[], List.◌∷◌, List.map}
 use mathlib.Core.Bool.{and-true}
 use native.Mathlib.{Nat.add-zero, Nat.add_assoc, Omega.arith}

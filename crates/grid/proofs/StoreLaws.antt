@@ -1,5 +1,5 @@
 -- The levels of rows, stored one after the other. Assumes nothing.
-use Rattle.core.specs.Prelude.{◌≡◌, ℕ, suc, ◌+◌, ◌-◌, ◌*◌, ◌<◌, ◌≤◌, length, get_or, take, drop}
+use Rattle.std.specs.Prelude.{◌≡◌, ℕ, suc, ◌+◌, ◌-◌, ◌*◌, ◌<◌, ◌≤◌, length, get_or, take, drop}
 use mathlib.Core.Path.{refl, sym, ap, ◌∙◌}
 use mathlib.Core.{List.List, List.[], List.◌∷◌, List.◌++◌, List.map, List.append_assoc, Bool.true, Bool.◌&&◌}
 use native.Mathlib.{Nat.suc-mul, Nat.zero-mul, Nat.mul-le-mul_right, Omega.arith}

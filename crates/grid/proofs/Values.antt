@@ -1,5 +1,5 @@
 -- Texts that are joined and come apart again: the lines of a text, the values of a row. Assumes nothing.
-use Rattle.core.specs.Prelude.{◌≡◌, ℕ, zero, suc, ◌+◌, ◌/◌, ◌%◌, ◌<◌, ◌≤◌, eqb, ltb, length, get_or, take, drop}
+use Rattle.std.specs.Prelude.{◌≡◌, ℕ, zero, suc, ◌+◌, ◌/◌, ◌%◌, ◌<◌, ◌≤◌, eqb, ltb, length, get_or, take, drop}
 use mathlib.Core.Path.{refl, sym, ap, ◌∙◌}
 use mathlib.Core.{List.List, List.[], List.◌∷◌, List.◌++◌, List.map, Bool.Bool, Bool.true, Bool.false, Bool.◌||◌}
 use native.Mathlib.Omega.{arith}

@@ -1,6 +1,6 @@
 -- A network text that is read: what it is refused with, and what it leaves in the room that is lent.
 -- RULES, "Refusal numbers": 17, 12, 13, 14. Assumes nothing.
-use Rattle.core.specs.Prelude.{ℕ, ◌&&◌, List, [], ◌∷◌, length, ◌==◌, nat_le}
+use Rattle.std.specs.Prelude.{ℕ, ◌&&◌, List, [], ◌∷◌, length, ◌==◌, nat_le}
 use Rattle.text.specs.Line.{lines_of}
 use Rattle.refusal.specs.Refuse.{refuse}
 use Rattle.network.specs.Limits.{max_network_level}

@@ -1,7 +1,7 @@
 -- A row of a network file: values parted by one space, each a level in thousandths, with two or three decimals, or the
 -- no-data value as the file spells it.
 -- RULES, "Files and the report program". Assumes nothing.
-use Rattle.core.specs.Prelude.{ℕ, Bool, true, cond, not, ◌&&◌, ◌||◌, List, [], ◌∷◌, ◌++◌, map, length, ◌==◌}
+use Rattle.std.specs.Prelude.{ℕ, Bool, true, cond, not, ◌&&◌, ◌||◌, List, [], ◌∷◌, ◌++◌, map, length, ◌==◌}
 use Rattle.text.specs.Number.{decimal_of, thousandths_of, is_got, value_of}
 use Rattle.text.specs.Line.{onto}
 use Rattle.text.specs.Same.{same_text}

@@ -1,6 +1,6 @@
 -- A network that is written: its lines, each with its CRLF, without a NODATA_value line, the rows from north to south;
 -- what it is refused with (12, 13, 14), and what it leaves in the room that is lent. Assumes nothing.
-use Rattle.core.specs.Prelude.{ℕ, zero, suc, ◌*◌, ◌&&◌, List, [], ◌∷◌, ◌++◌, map, length, take, drop, nat_le}
+use Rattle.std.specs.Prelude.{ℕ, zero, suc, ◌*◌, ◌&&◌, List, [], ◌∷◌, ◌++◌, map, length, take, drop, nat_le}
 use Rattle.text.specs.Number.{show_whole, show_thousandths}
 use Rattle.text.specs.Field.{joined_by}
 use Rattle.text.specs.Spelled.{byte, crlf}

@@ -1,10 +1,10 @@
 // The lines before the rows of a network file: five keys with whole numbers, and the no-data value where it is named.
-ghost use Rattle.core.specs.Prelude.{◌≡◌, ◌≤◌, length};
+ghost use Rattle.std.specs.Prelude.{◌≡◌, ◌≤◌, length};
 ghost use Rattle.grid.specs.File.{begins, number_after, is_number, is_spelling, names_well};
 ghost use Rattle.grid.specs.InnerSteps.{LineAt, key_read, head_read, no_data_read};
 
 use network::Frame;
-use text::core::line_end;
+use text::inner::line_end;
 use text::number::{Number, thousandths, whole};
 use text::same::same_text;
 

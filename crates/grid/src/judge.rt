@@ -1,13 +1,13 @@
 // The whole of a network text judged before anything is stored: the first line off the layout, or whether its rows fit
 // and its levels are sound.
-ghost use Rattle.core.specs.Prelude.{◌≡◌, ◌≤◌, length};
+ghost use Rattle.std.specs.Prelude.{◌≡◌, ◌≤◌, length};
 ghost use Rattle.grid.specs.InnerSteps.{value_refusal, row_of, rows_read, body_read, file_read};
 
 use crate::head::{Head, NoData, line_at, no_data, read_head};
 use network::Frame;
 use network::limits::MAX_NETWORK_LEVEL;
 use refusal::both;
-use text::core::field_end;
+use text::inner::field_end;
 use text::number::{Number, thousandths};
 use text::same::same_text;
 

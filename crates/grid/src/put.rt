@@ -1,6 +1,6 @@
 // A network's text put into a buffer that has room for it: each part writes from a place on and answers the place past
 // it.
-ghost use Rattle.core.specs.Prelude.{◌+◌, ◌≤◌, ◌∷◌, length};
+ghost use Rattle.std.specs.Prelude.{◌+◌, ◌≤◌, ◌∷◌, length};
 ghost use Rattle.text.specs.Number.{show_thousandths};
 ghost use Rattle.text.specs.Spelled.{byte};
 ghost use Rattle.room.specs.Room.{Wrote};
@@ -10,7 +10,7 @@ ghost use Rattle.grid.specs.Write.{key_line, row_line, row_lines, text_of, show_
 ghost use Rattle.grid.specs.InnerSteps.{Quiet, Near, ended, side_lines, place_lines};
 
 use network::Frame;
-use text::core::{put_byte, put_end, put_text, put_thousandths, put_whole};
+use text::inner::{put_byte, put_end, put_text, put_thousandths, put_whole};
 
 // A header line: its key, its number and its end.
 fn put_line(out: &mut [u8], at: usize, key: &[u8], n: u32) -> usize

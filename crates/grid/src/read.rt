@@ -1,5 +1,5 @@
 // A network text read into lent room.
-ghost use Rattle.core.specs.Prelude.{◌≡◌, length};
+ghost use Rattle.std.specs.Prelude.{◌≡◌, length};
 ghost use Rattle.text.specs.Line.{lines_of};
 ghost use Rattle.grid.specs.File.{fault_line};
 ghost use Rattle.grid.specs.Read.{read_refusal, header_after, levels_after};

@@ -1,5 +1,5 @@
 // How many bytes a network's text has, worked out before any of it is written.
-ghost use Rattle.core.specs.Prelude.{◌≡◌, ◌*◌, ◌≤◌, length};
+ghost use Rattle.std.specs.Prelude.{◌≡◌, ◌*◌, ◌≤◌, length};
 ghost use Rattle.text.specs.Number.{show_whole, show_thousandths};
 ghost use Rattle.network.specs.Edges.{Checked};
 ghost use Rattle.network.specs.Limits.{max_network_level, max_origin, max_side};

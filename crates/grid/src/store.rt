@@ -1,5 +1,5 @@
 // The levels of a text on its layout stored: its rows run from north to south, the levels from the south row on.
-ghost use Rattle.core.specs.Prelude.{◌≡◌, ◌+◌, ◌-◌, ◌*◌, ◌≤◌, length};
+ghost use Rattle.std.specs.Prelude.{◌≡◌, ◌+◌, ◌-◌, ◌*◌, ◌≤◌, length};
 ghost use Rattle.room.specs.Room.{front, put};
 ghost use Rattle.grid.specs.Row.{values_of, level_in, row_levels, levels_of};
 ghost use Rattle.grid.specs.Read.{numbers_of, header_size};
@@ -7,7 +7,7 @@ ghost use Rattle.grid.specs.InnerSteps.{lines_at, Rows};
 
 use crate::head::line_at;
 use network::Frame;
-use text::core::field_end;
+use text::inner::field_end;
 use text::number::{Number, thousandths};
 
 // The level of a value, and 0 where it is none.

@@ -1,5 +1,5 @@
 // A network written into lent room.
-ghost use Rattle.core.specs.Prelude.{◌≡◌, length};
+ghost use Rattle.std.specs.Prelude.{◌≡◌, length};
 ghost use Rattle.grid.specs.Write.{write_refusal, text_after, size_after};
 
 use crate::put::put_network;

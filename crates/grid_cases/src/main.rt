@@ -1,10 +1,12 @@
 // Network files: a small network read and written, and a table of damaged files, as the script in the file stdin has
 // them. Each line of output names the case and gives the answer and the first line at fault, and then what they should
 // be. A line of the script has its kind, the text or the levels, and last what is shown of the answers.
+#![tactic(auto)]
+
 mod read;
 mod written;
 
-use cases::core::line_past;
+use cases::inner::line_past;
 use cases::fields::{letter, text};
 use libc::STDIN_FILENO;
 

@@ -1,7 +1,7 @@
 -- A replay, call by call: the calls made so far have led here, and those still to come give what all give.
 -- Assumes nothing.
 use mathlib.Core.{Path.◌≡◌, Path.refl, Path.sym, Path.ap, Path.◌∙◌, Bool.true, List.List, List.[], List.◌∷◌}
-use Rattle.core.specs.Prelude.{ℕ, suc, ◌+◌, ◌<◌, ◌≤◌}
+use Rattle.std.specs.Prelude.{ℕ, suc, ◌+◌, ◌<◌, ◌≤◌}
 use native.Mathlib.{Nat.add-zero, Omega.arith}
 use lib.{ListN.length, ListN.drop, ListN.get_or, ListN.set, ListN.length-drop, Seq.drop-drop, Seq.get_or-drop, Dec.leb}
 use borrow.Author.Tests.{eq-eqb, ne_eqb, leb-true}

@@ -1,7 +1,7 @@
 -- A journal: a sequence of calls as numbers, one after the other, and what making them all gives. Assumes nothing.
 --   1 enter: identity, type, kind, time, mass, how many yes and no follow, those
 --   2 supply: identity, how many levels follow, those levels     3 take back: identity     4 withdraw: identity
-use Rattle.core.specs.Prelude.{◌≡◌, ℕ, zero, suc, ◌+◌, ◌-◌, Bool, true, cond, ◌&&◌, ◌||◌, List, [], ◌∷◌, length, take, drop, ◌==◌, nat_le, slice_index}
+use Rattle.std.specs.Prelude.{◌≡◌, ℕ, zero, suc, ◌+◌, ◌-◌, Bool, true, cond, ◌&&◌, ◌||◌, List, [], ◌∷◌, length, take, drop, ◌==◌, nat_le, slice_index}
 use Rattle.refusal.specs.Refuse.{refuse}
 use Rattle.room.specs.Room.{leaves}
 use Rattle.book_rules.specs.Columns.{Book, sound}

@@ -1,9 +1,11 @@
 // Replays a journal: a whole sequence of calls, given as numbers, on lent columns, with each call's answer written to a
 // lent slice. Soundness is checked once.
+#![tactic(auto)]
+
 mod making;
 mod numbers;
 
-ghost use Rattle.core.specs.Prelude.{◌≡◌, ◌≤◌, true, length};
+ghost use Rattle.std.specs.Prelude.{◌≡◌, ◌≤◌, true, length};
 ghost use Rattle.book_rules.specs.Columns.{book_now, book_before, book_after, sound};
 ghost use Rattle.book_rules.specs.History.{booked, answered};
 ghost use Rattle.room.specs.Room.{front};

@@ -1,5 +1,5 @@
 // Makes the call at the front of a journal, on a book that is known to be sound.
-ghost use Rattle.core.specs.Prelude.{◌≡◌, ◌+◌, ◌≤◌, true, length, slice_index};
+ghost use Rattle.std.specs.Prelude.{◌≡◌, ◌+◌, ◌≤◌, true, length, slice_index};
 ghost use Rattle.book_rules.specs.Columns.{book_now, book_before, book_after, sound};
 ghost use Rattle.book_rules.specs.Calls.{Called};
 ghost use Rattle.journal.specs.Journal.{enter_at, supply_at, call_at, complete};
@@ -19,7 +19,7 @@ fn enter_from(
         (enter_at rest.now) result (book_after ids groups marks counts levels) }
 {
     let end = 7 + rest[6] as usize;
-    book::core::enter(
+    book::inner::enter(
         ids,
         groups,
         marks,
@@ -50,7 +50,7 @@ fn supply_from(
         (supply_at rest.now) result (book_after ids groups marks counts levels) }
 {
     let end = 3 + rest[2] as usize;
-    book::core::supply(
+    book::inner::supply(
         ids,
         groups,
         marks,
@@ -85,7 +85,7 @@ pub(crate) fn make_call(
         return supply_from(ids, groups, marks, counts, levels, points, rest);
     }
     if kind == 3 {
-        return book::core::take_back(ids, groups, marks, counts, levels, points, identity);
+        return book::inner::take_back(ids, groups, marks, counts, levels, points, identity);
     }
-    book::core::withdraw(ids, groups, marks, counts, levels, points, identity)
+    book::inner::withdraw(ids, groups, marks, counts, levels, points, identity)
 }

@@ -1,5 +1,5 @@
 // The numbers of a journal: where each call ends, and how many calls there are.
-ghost use Rattle.core.specs.Prelude.{◌≡◌, true, length, slice_index};
+ghost use Rattle.std.specs.Prelude.{◌≡◌, true, length, slice_index};
 ghost use Rattle.journal.specs.Journal.{width_of, laid_out, calls_of};
 
 // The number at an index, 0 past the end.

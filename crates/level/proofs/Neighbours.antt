@@ -1,6 +1,6 @@
 -- Each number of RULES, "Energy and load", lies between its neighbours. Assumes nothing.
 use mathlib.Core.{Path.◌≡◌, Path.refl, Path.subst, Bool.Bool, Bool.true, Bool.false, Bool.cond}
-use Rattle.core.specs.Prelude.{ℕ, zero, suc, ◌+◌, ◌*◌, ◌/◌, ◌%◌, ◌^◌, ◌<◌, ◌≤◌, ltb, ◌↔◌}
+use Rattle.std.specs.Prelude.{ℕ, zero, suc, ◌+◌, ◌*◌, ◌/◌, ◌%◌, ◌^◌, ◌<◌, ◌≤◌, ltb, ◌↔◌}
 use mathlib.Core.Logic.Iff
 use native.Mathlib.Nat.{le_antisymm, lt_of_not-le, not-le_of_lt, suc-mul, div-mul-le_self, lt-div-mul-add}
 use native.Mathlib.{Nat.le-div_iff_mul-le, Omega.arith}

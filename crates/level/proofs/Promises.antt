@@ -1,5 +1,5 @@
 -- What levels mean, in the rules' numbers: the level is the smallest that reaches the mean. Assumes nothing.
-use Rattle.core.specs.Prelude.{◌≡◌, ℕ, zero, suc, ◌+◌, ◌^◌, ◌<◌, ◌≤◌, leb}
+use Rattle.std.specs.Prelude.{◌≡◌, ℕ, zero, suc, ◌+◌, ◌^◌, ◌<◌, ◌≤◌, leb}
 use mathlib.Core.Path.{refl, sym, ap, ◌∙◌}
 use mathlib.Core.{Bool.Bool, Bool.true, Bool.false, Bool.cond, Bool.true≢false, Logic.⊎_elim}
 use native.Mathlib.{Nat.eq-or-lt_of_le, Omega.arith}

@@ -1,6 +1,6 @@
 -- How large the numbers of a load may be: for more movements than a book holds, so a larger book needs nothing new.
 -- Assumes nothing.
-use Rattle.core.specs.Prelude.{ℕ, ◌*◌, ◌/◌, ◌^◌}
+use Rattle.std.specs.Prelude.{ℕ, ◌*◌, ◌/◌, ◌^◌}
 
 -- the highest level, 12,000, with the weight of the night
 abbrev pub max_weighted : ℕ

@@ -1,7 +1,7 @@
 -- What RULES, "Energy and load", says of each number, by the whole numbers on both sides of it.
 -- Its own numbers stand here again, so that a definition with another of them, or another rounding, is stopped.
 -- Assumes nothing.
-use Rattle.core.specs.Prelude.{◌≡◌, ℕ, suc, ◌+◌, ◌*◌, ◌/◌, ◌%◌, ◌^◌, ◌<◌, ◌≤◌, ◌↔◌}
+use Rattle.std.specs.Prelude.{◌≡◌, ℕ, suc, ◌+◌, ◌*◌, ◌/◌, ◌%◌, ◌^◌, ◌<◌, ◌≤◌, ◌↔◌}
 use Rattle.level.specs.declared.Level.{Level}
 use Rattle.level.specs.Tables.{Root, table_a, table_b}
 use Rattle.level.specs.Energy.{energy_of, mean_of}

@@ -1,6 +1,6 @@
 -- The two tables of RULES, "Energy and load", by their rules.
 -- Assumes nothing.
-use Rattle.core.specs.Prelude.{◌≡◌, ℕ, zero, suc, ◌+◌, ◌*◌, ◌^◌, ◌<◌, ◌≤◌, cond, List, nat_le, slice_index}
+use Rattle.std.specs.Prelude.{◌≡◌, ℕ, zero, suc, ◌+◌, ◌*◌, ◌^◌, ◌<◌, ◌≤◌, cond, List, nat_le, slice_index}
 
 -- x is the largest whole number whose p-th power is at most v: its own is, and that of the next is not
 pub record Root (p v x : ℕ) : Type 0 where

@@ -1,7 +1,7 @@
 -- Laws of an account: from the sums that the code makes, from the array of arrays, and four numbers in lent room.
 -- Assumes nothing.
 use mathlib.Core.{Path.◌≡◌, Path.refl, Bool.true, List.List, List.[], List.◌∷◌}
-use Rattle.core.specs.Prelude.{ℕ, suc, ◌+◌, ◌*◌, ◌<◌, ◌≤◌}
+use Rattle.std.specs.Prelude.{ℕ, suc, ◌+◌, ◌*◌, ◌<◌, ◌≤◌}
 use native.Mathlib.{Numerals.add-one, Omega.arith}
 use lib.{ListN.length, ListN.set, Seq.sets-eq}
 use Rattle.movement.specs.Limits.{group_count}

@@ -1,7 +1,7 @@
 -- Laws of the sums over groups that movements within the bounds give: one group more fits, and so do the total and the
 -- mean. Assumes nothing.
 use mathlib.Core.{Path.◌≡◌, Path.refl, Bool.Bool, Bool.true, Bool.false, Bool.cond, List.List}
-use Rattle.core.specs.Prelude.{ℕ, suc, ◌+◌, ◌-◌, ◌*◌, ◌/◌, ◌<◌, ◌≤◌, eqb}
+use Rattle.std.specs.Prelude.{ℕ, suc, ◌+◌, ◌-◌, ◌*◌, ◌/◌, ◌<◌, ◌≤◌, eqb}
 use native.Mathlib.{Nat.div-le_self, Nat.div-div-eq-div-mul, Nat.le_trans, Omega.arith}
 use Rattle.level.specs.{Limits.max_energy, Limits.max_total, Limits.max_mean, Energy.mean_of}
 use Rattle.level.proofs.ScaleLaws.{scaled_le, div_mono}

@@ -1,7 +1,7 @@
 -- Laws of the groups, as an array of arrays and side by side: what stands at a group's number, and what a store there
 -- changes. Assumes nothing.
 use mathlib.Core.{Path.◌≡◌, Path.refl, Path.sym, Path.subst, Bool.cond, Logic.⊎_elim, List.List}
-use Rattle.core.specs.Prelude.{ℕ, zero, suc, ◌<◌}
+use Rattle.std.specs.Prelude.{ℕ, zero, suc, ◌<◌}
 use native.Mathlib.{Nat.eq-or-lt_of_le, Omega.arith}
 use lib.{ListN.replicate, ListN.set, Dec.eqb}
 use Rattle.load_rules.specs.declared.Group.{Group}

@@ -1,6 +1,6 @@
 -- A group, and the tally, with one row more. Assumes nothing.
 use mathlib.Core.{Path.◌≡◌, Path.refl, Path.ap, Path.fun_ext, Path.◌∙◌, Bool.Bool, Bool.true, Bool.false, Bool.cond}
-use Rattle.core.specs.Prelude.{ℕ, ◌+◌, ◌<◌, List, [], ◌∷◌, ◌++◌}
+use Rattle.std.specs.Prelude.{ℕ, ◌+◌, ◌<◌, List, [], ◌∷◌, ◌++◌}
 use mathlib.Core.List.{append-nil}
 use native.Mathlib.{Nat.add-zero, Omega.arith}
 use lib.{ListN.set, Dec.eqb}

@@ -1,6 +1,6 @@
 -- What a sound book says of its rows, one by one, and of the tally of its first rows. Assumes nothing.
 use mathlib.Core.{Path.◌≡◌, Path.sym, Path.ap, Bool.Bool, Bool.true, Bool.false, Bool.cond}
-use Rattle.core.specs.Prelude.{ℕ, zero, suc, ◌+◌, ◌*◌, ◌<◌, ◌≤◌, List, [], ◌∷◌, ◌++◌}
+use Rattle.std.specs.Prelude.{ℕ, zero, suc, ◌+◌, ◌*◌, ◌<◌, ◌≤◌, List, [], ◌∷◌, ◌++◌}
 use native.Mathlib.{Nat.suc-mul, Nat.mul-le-mul_right, Nat.add-mul, Numerals.add-one, Omega.arith}
 use lib.{ListN.length, ListN.get_or, ListN.set, ListN.length-append, Dec.eqb, Dec.lit≤}
 use Rattle.level.specs.Limits.{max_weighted, max_movements, max_energy}

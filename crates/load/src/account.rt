@@ -1,5 +1,5 @@
 // How a load comes about: RULES, "Energy and load". The numbers are those that the load itself works with.
-ghost use Rattle.core.specs.Prelude.{◌≡◌, ◌+◌, ◌<◌, ◌≤◌, true, length};
+ghost use Rattle.std.specs.Prelude.{◌≡◌, ◌+◌, ◌<◌, ◌≤◌, true, length};
 ghost use Rattle.movement.specs.Limits.{group_count};
 ghost use Rattle.book_rules.specs.Columns.{book_before};
 ghost use Rattle.room.specs.Room.{front, put, Writes};

@@ -1,9 +1,11 @@
 // The load and the verdict at a point of a book: RULES, "Energy and load".
+#![tactic(auto)]
+
 pub mod account;
 mod sums;
 mod tally;
 
-ghost use Rattle.core.specs.Prelude.{◌≡◌, ◌<◌, true, ◌&&◌, nat_lt};
+ghost use Rattle.std.specs.Prelude.{◌≡◌, ◌<◌, true, ◌&&◌, nat_lt};
 ghost use Rattle.book_rules.specs.Columns.{book_now, book_before, sound};
 ghost use Rattle.load_rules.specs.Shares.{book_shares};
 ghost use Rattle.load_rules.specs.Load.{refused_load, days_fit, load_of, book_load};
@@ -162,5 +164,5 @@ fn judged_by(load: Load, limit: u32) -> Judged
     if refused != 0 {
         return Judged::Refused(refused);
     }
-    Judged::Given(level::core::judge(level, limit))
+    Judged::Given(level::inner::judge(level, limit))
 }

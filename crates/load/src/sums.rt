@@ -1,5 +1,5 @@
 // Sums over the 18 groups.
-ghost use Rattle.core.specs.Prelude.{◌≡◌, ◌+◌, true, ◌&&◌, ◌==◌, nat_lt};
+ghost use Rattle.std.specs.Prelude.{◌≡◌, ◌+◌, true, ◌&&◌, ◌==◌, nat_lt};
 ghost use Rattle.movement.specs.Limits.{group_count};
 ghost use Rattle.load_rules.specs.Tally.{list_from};
 ghost use Rattle.load_rules.specs.Factors.{ratio, scaled_by};
@@ -34,7 +34,7 @@ pub(crate) fn scaled_by(energy: u64, upper: u32, lower: u32) -> u64
     if lower == 0 {
         return 0;
     }
-    level::core::scaled(energy, upper, lower)
+    level::inner::scaled(energy, upper, lower)
 }
 
 // The sums with one group more: the U of a group with none computed go into W.
@@ -92,7 +92,7 @@ pub(crate) fn totals_of(s: Sums, days: u32) -> Totals
     ensures { result ≡ totals_of s days }
 {
     let total = scaled_by(s.scaled, s.known + s.unknown, s.known);
-    let level = level::core::level_of(level::core::mean(total, days));
+    let level = level::inner::level_of(level::inner::mean(total, days));
     Totals {
         total: total,
         level: level,

@@ -1,5 +1,5 @@
 // The tally of a book's rows: V, U and S of each group at one point.
-ghost use Rattle.core.specs.Prelude.{◌≡◌, ◌+◌, ◌<◌, ◌≤◌, true, [], ◌∷◌};
+ghost use Rattle.std.specs.Prelude.{◌≡◌, ◌+◌, ◌<◌, ◌≤◌, true, [], ◌∷◌};
 ghost use Rattle.movement.specs.Limits.{max_level, group_count};
 ghost use Rattle.book_rules.specs.Columns.{book_now, book_before, sound};
 ghost use Rattle.load_rules.specs.Shares.{book_shares};
@@ -49,7 +49,7 @@ fn with_row(
             energy: seen.energy,
         };
     }
-    let e = level::core::energy(a, powers, level + movement::core::group_weight(group));
+    let e = level::inner::energy(a, powers, level + movement::inner::group_weight(group));
     Group {
         computed: seen.computed + 1,
         missing: seen.missing,

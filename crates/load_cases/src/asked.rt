@@ -132,7 +132,7 @@ fn told_of(
         verdict(ids, groups, marks, counts, levels, line);
         return;
     }
-    told(line, 5, 0, &[level::core::mean(40000000000, 1)]);
+    told(line, 5, 0, &[level::inner::mean(40000000000, 1)]);
 }
 
 pub(crate) fn ask(

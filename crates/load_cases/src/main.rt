@@ -2,10 +2,12 @@
 // output has a case, and each number beside what it should be. A line of the script fills a column (ids, groups, marks,
 // counts, levels), or says what is asked of a book (enter, supply, withdraw, total, verdict, average), how many rows,
 // marks and levels it has, as many counts as levels, and for how many points; and last what is shown of the answers.
+#![tactic(auto)]
+
 mod asked;
 
 use cases::column::stepped;
-use cases::core::line_past;
+use cases::inner::line_past;
 use cases::fields::{letter, number, numbers, place};
 use libc::STDIN_FILENO;
 

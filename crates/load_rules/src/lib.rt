@@ -1,6 +1,8 @@
 // What a load is made of and what it answers: RULES, "Energy and load". The rules stand in specs/, and in
 // proofs/ that every movement is counted once at each point where it counts (demand 3). There is no code here but the
 // types: the crate `load` has the functions.
+#![tactic(auto)]
+
 use movement::limits::GROUPS;
 
 // V, U and S of a group: its movements computed and not, and the energy of the computed ones.

@@ -1,5 +1,5 @@
 -- The ends of an edge of the network have small numbers. Assumes nothing.
-use Rattle.core.specs.Prelude.{ℕ, ◌<◌}
+use Rattle.std.specs.Prelude.{ℕ, ◌<◌}
 use native.Mathlib.Omega.{arith}
 use Rattle.network.specs.declared.Edge.{Edge}
 use Rattle.network.specs.declared.Edge.TheVariants.{Horizontal, Vertical}

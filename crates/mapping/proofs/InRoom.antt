@@ -1,7 +1,7 @@
 -- What the calls leave in lent room, place by place. Assumes nothing.
 use mathlib.Core.{Path.◌≡◌, Path.refl, Path.sym, Path.ap, Path.◌∙◌, Path.subst, Bool.Bool, Bool.true, Bool.◌&&◌}
 use mathlib.Core.{Logic.◌↔◌, List.List, List.[], List.◌∷◌}
-use Rattle.core.specs.Prelude.{ℕ, zero, suc, ◌+◌, ◌*◌, ◌<◌, ◌≤◌}
+use Rattle.std.specs.Prelude.{ℕ, zero, suc, ◌+◌, ◌*◌, ◌<◌, ◌≤◌}
 use native.Mathlib.Omega.{arith}
 use borrow.Author.Tests.{leb-true, le-leb}
 use lib.{Dec.leb, Ieee.Float, ListN.length, ListN.get_or}

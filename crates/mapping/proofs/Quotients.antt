@@ -1,7 +1,7 @@
 -- The binary64 quotient of two whole numbers is the nearest value to their fraction, and keeps the fraction's
 -- order. Assumes nothing.
 use mathlib.Core.{Path.◌≡◌, Path.sym, Path.◌∙◌, Path.subst, Bool.false}
-use Rattle.core.specs.Prelude.{ℕ, ◌*◌, ◌^◌, ◌<◌, ◌≤◌}
+use Rattle.std.specs.Prelude.{ℕ, ◌*◌, ◌^◌, ◌<◌, ◌≤◌}
 use native.Mathlib.{Nat.mul-one, Nat.mul-pos, Nat.mul_comm, Nat.mul_assoc, Nat.mul_left_comm, Omega.arith}
 use borrow.Author.Tests.{ne_eqb}
 use lib.Dec.{lit<}

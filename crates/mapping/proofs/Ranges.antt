@@ -1,7 +1,7 @@
 -- What is answered for the edge of a number is the rules' crossing and map point, or none. Assumes nothing.
 use mathlib.Core.{Path.◌≡◌, Path.refl, Path.sym, Path.ap, Path.◌∙◌, Bool.Bool, Bool.true, Bool.false}
 use mathlib.Core.{Logic.◌⊎◌, Logic.inl, List.List}
-use Rattle.core.specs.Prelude.{ℕ, ◌+◌, ◌*◌, ◌<◌, ◌≤◌}
+use Rattle.std.specs.Prelude.{ℕ, ◌+◌, ◌*◌, ◌<◌, ◌≤◌}
 use native.Mathlib.{Nat.mul-le-mul, Nat.le_of_lt, Omega.arith}
 use borrow.Author.Tests.{ltb-true, eqb-true, lt-ltb, le-ltb, eq-eqb}
 use lib.{Dec.ltb, Dec.eqb, Ieee.binary64, Ieee.round, Ieee.of_int}

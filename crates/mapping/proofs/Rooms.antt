@@ -1,7 +1,7 @@
 -- Calls that write map points and crossings into lent room: what they leave by each way out, and that two outcomes are
 -- equal. Assumes nothing.
 use mathlib.Core.{Path.◌≡◌, Bool.false, List.List}
-use Rattle.core.specs.Prelude.{ℕ, ◌*◌, ◌<◌, ◌≤◌}
+use Rattle.std.specs.Prelude.{ℕ, ◌*◌, ◌<◌, ◌≤◌}
 use lib.{Ieee.Float, ListN.length}
 use Rattle.room.specs.Room.{front, then_room}
 use Rattle.room.proofs.Answers.{write_both, short_first, short_second, one_outcome_two}

@@ -1,7 +1,7 @@
 -- The moving coordinate of a map point, step by step: each is the nearest binary64 to the exact result, and the
 -- last lies on the edge. Assumes nothing.
 use mathlib.Core.{Path.◌≡◌, Path.refl, Path.ap, Path.◌∙◌, Bool.true, Bool.false, Bool.true≢false}
-use Rattle.core.specs.Prelude.{ℕ, ◌+◌, ◌*◌, ◌<◌, ◌≤◌}
+use Rattle.std.specs.Prelude.{ℕ, ◌+◌, ◌*◌, ◌<◌, ◌≤◌}
 use native.Mathlib.Nat.{mul-one, one-mul, mul-pos, mul_comm, mul_assoc, mul_left_comm, mul-mul-mul_comm, mul-le-mul}
 use native.Mathlib.{Nat.le_of_lt, Nat.add-zero, Nat.add-mul, Omega.arith}
 use lib.Dec.{lit<}

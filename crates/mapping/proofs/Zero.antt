@@ -1,5 +1,5 @@
 -- The literal 0.0 is the whole number 0. Assumes nothing.
-use Rattle.core.specs.Prelude.{◌≡◌}
+use Rattle.std.specs.Prelude.{◌≡◌}
 use mathlib.Core.Path.{refl}
 use lib.Ieee.{binary64, of_bits, of_int}
 use Rattle.mapping.specs.Fractions.{whole}

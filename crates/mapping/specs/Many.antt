@@ -1,5 +1,5 @@
 -- Map points of many edges in one call, written into lent room. Assumes nothing.
-use Rattle.core.specs.Prelude.{ℕ, List, [], ◌∷◌}
+use Rattle.std.specs.Prelude.{ℕ, List, [], ◌∷◌}
 use Rattle.std.specs.Prelude.{Float}
 use Rattle.room.specs.Room.{WritesTwo}
 use Rattle.network.specs.declared.Frame.{Frame}

@@ -1,6 +1,6 @@
 -- What calls for map points leave in lent room, place by place: each edge's number and coordinates are those of the
 -- call for one edge, the rest stays, and a refused call changes nothing. Assumes nothing.
-use Rattle.core.specs.Prelude.{◌≡◌, ℕ, ◌+◌, ◌*◌, ◌<◌, ◌≤◌, List, length, ◌≢◌, slice_index, slice_index_or}
+use Rattle.std.specs.Prelude.{◌≡◌, ℕ, ◌+◌, ◌*◌, ◌<◌, ◌≤◌, List, length, ◌≢◌, slice_index, slice_index_or}
 use Rattle.std.specs.Prelude.{Float}
 use Rattle.network.specs.declared.Frame.{Frame}
 use Rattle.network.specs.Ranges.{RoomRefused}

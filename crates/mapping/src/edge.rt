@@ -1,5 +1,5 @@
 // The crossing of an edge: one rounded division.
-ghost use Rattle.core.specs.Prelude.{◌≡◌, ◌<◌, ◌≤◌, true, ◌⊎◌};
+ghost use Rattle.std.specs.Prelude.{◌≡◌, ◌<◌, ◌≤◌, true, ◌⊎◌};
 ghost use Rattle.network.specs.Edges.{Sized, Checked, WithinEdge};
 ghost use Rattle.network.specs.Crossed.{crossed_edge};
 ghost use Rattle.mapping.specs.Fractions.{Rounded, fraction_of, along_edge, crossing_of};
@@ -20,7 +20,7 @@ fn along(v: u32, a: u32, b: u32) -> f64
     requires { ((a < v) × (v ≤ b)) ⊎ ((b < v) × (v ≤ a)) }
     ensures { result ≡ fraction_of v a b }
 {
-    fraction(network::core::apart(v, a), network::core::apart(b, a))
+    fraction(network::inner::apart(v, a), network::inner::apart(b, a))
 }
 
 // The crossing of an edge that is crossed.
@@ -30,13 +30,13 @@ fn along_edge(levels: &[u32], nx: usize, ny: usize, v: u32, e: Edge) -> Crossing
 {
     match e {
         Edge::Horizontal(row, col) => {
-            let west = network::core::level(levels, nx, ny, row, col);
-            let east = network::core::level(levels, nx, ny, row, col + 1);
+            let west = network::inner::level(levels, nx, ny, row, col);
+            let east = network::inner::level(levels, nx, ny, row, col + 1);
             Crossing::AlongHorizontal(along(v, west, east))
         }
         Edge::Vertical(row, col) => {
-            let south = network::core::level(levels, nx, ny, row, col);
-            let north = network::core::level(levels, nx, ny, row + 1, col);
+            let south = network::inner::level(levels, nx, ny, row, col);
+            let north = network::inner::level(levels, nx, ny, row + 1, col);
             Crossing::AlongVertical(along(v, south, north))
         }
     }
@@ -50,9 +50,9 @@ pub(crate) fn crossing_of(levels: &[u32], frame: Frame, v: u32, n: u32) -> Cross
     let nx = frame.columns as usize;
     let ny = frame.rows as usize;
     let at = n as usize;
-    if at < network::core::edge_count(nx, ny) {
-        if network::core::crossed_at(levels, nx, ny, v, at) {
-            return along_edge(levels, nx, ny, v, network::core::edge_at(nx, ny, at));
+    if at < network::inner::edge_count(nx, ny) {
+        if network::inner::crossed_at(levels, nx, ny, v, at) {
+            return along_edge(levels, nx, ny, v, network::inner::edge_at(nx, ny, at));
         }
     }
     Crossing::Nowhere

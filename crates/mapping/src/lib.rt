@@ -1,5 +1,7 @@
 // Crossings and map points for map layers, in binary64: RULES, "Network and contours".
-ghost use Rattle.core.specs.Prelude.{◌≡◌, ◌*◌, ◌≤◌, [], ◌∷◌, length};
+#![tactic(auto)]
+
+ghost use Rattle.std.specs.Prelude.{◌≡◌, ◌*◌, ◌≤◌, [], ◌∷◌, length};
 ghost use Rattle.room.specs.Room.{front};
 ghost use Rattle.network.specs.Edges.{Checked};
 ghost use Rattle.mapping.specs.Fractions.{which_of, fraction_shown, crossing_asked};

@@ -1,5 +1,5 @@
 // The map point of a crossing: coordinates in a fixed order of operations, each step rounded once.
-ghost use Rattle.core.specs.Prelude.{◌≡◌, ◌<◌, ◌≤◌};
+ghost use Rattle.std.specs.Prelude.{◌≡◌, ◌<◌, ◌≤◌};
 ghost use Rattle.network.specs.Limits.{max_side, max_spacing, max_origin};
 ghost use Rattle.network.specs.Edges.{Checked};
 ghost use Rattle.mapping.specs.Places.{moving, still, row_of, col_of, locate, located_of};
@@ -71,9 +71,9 @@ pub(crate) fn locate_at(levels: &[u32], frame: Frame, v: u32, n: u32) -> Located
     let nx = frame.columns as usize;
     let ny = frame.rows as usize;
     let at = n as usize;
-    if at < network::core::edge_count(nx, ny) {
+    if at < network::inner::edge_count(nx, ny) {
         let c = edge::crossing_of(levels, frame, v, n);
-        let e = network::core::edge_at(nx, ny, at);
+        let e = network::inner::edge_at(nx, ny, at);
         let row = row_of(e) as u32;
         let col = col_of(e) as u32;
         return locate_crossing(c, row, col, frame);

@@ -1,5 +1,7 @@
 // The cases of the rules that run in no other program: crossings and map points, on the hill that they work by hand.
 // Each line of output has an answer and then what it should be.
+#![tactic(auto)]
+
 use libc::STDOUT_FILENO;
 use mapping::{Asked, Mapped};
 use network::Frame;

@@ -1,6 +1,6 @@
 -- Laws of `zero_elsewhere`: for the loop that reads both lists from their front, and point by point. Assumes nothing.
 use mathlib.Core.{Path.◌≡◌, Path.refl, Path.ap, Path.◌∙◌, Bool.Bool, Bool.true, Bool.◌&&◌, Bool.◌||◌, Bool.or-true}
-use Rattle.core.specs.Prelude.{ℕ, zero, suc, ◌+◌, ◌<◌, ◌≤◌, List, [], ◌∷◌}
+use Rattle.std.specs.Prelude.{ℕ, zero, suc, ◌+◌, ◌<◌, ◌≤◌, List, [], ◌∷◌}
 use native.Mathlib.{Nat.not-suc-le-zero, Omega.arith}
 use lib.{Dec.eqb, Dec.ltb, ListN.length, ListN.drop, ListN.get_or, ListN.replicate, ListN.drop_of_length-le}
 use borrow.Author.Tests.{eqb-true, eq-eqb, lt-ltb}

@@ -1,6 +1,6 @@
 -- A test passes exactly if its fact holds, and refusals in their order: each number exactly where its fact fails and
 -- every earlier one holds. Assumes nothing.
-use Rattle.core.specs.Prelude.{◌≡◌, ℕ, suc, ◌<◌, ◌≤◌, eqb, ltb, leb}
+use Rattle.std.specs.Prelude.{◌≡◌, ℕ, suc, ◌<◌, ◌≤◌, eqb, ltb, leb}
 use mathlib.Core.Path.{refl, sym}
 use mathlib.Core.{Bool.Bool, Bool.true, Bool.false, Bool.not, Bool.◌&&◌, Bool.false≢true, Logic.◌↔◌}
 use native.Mathlib.{Nat.lt_of_not-le, Nat.not-le_of_lt, Omega.arith}

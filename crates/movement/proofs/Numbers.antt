@@ -1,6 +1,6 @@
 -- The rules' numbers of types, kinds, periods and groups: a number in range and its case name each other, and a group
 -- is below 18. Assumes nothing.
-use Rattle.core.specs.Prelude.{◌≡◌, ℕ, zero, suc, ◌+◌, ◌*◌, ◌%◌, ◌<◌}
+use Rattle.std.specs.Prelude.{◌≡◌, ℕ, zero, suc, ◌+◌, ◌*◌, ◌%◌, ◌<◌}
 use mathlib.Core.Path.{refl, ap, ◌∙◌}
 use native.Mathlib.Omega.{arith}
 use Rattle.movement.specs.declared.aircraft.Aircraft.{Aircraft}

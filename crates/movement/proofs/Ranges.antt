@@ -1,5 +1,5 @@
 -- Every range and edge of a movement holds exactly. Assumes nothing.
-use Rattle.core.specs.Prelude.{ℕ, zero, suc, ◌*◌, ◌%◌, ◌<◌, ◌≤◌}
+use Rattle.std.specs.Prelude.{ℕ, zero, suc, ◌*◌, ◌%◌, ◌<◌, ◌≤◌}
 use mathlib.Core.{Path.◌≡◌, Path.refl, Bool.Bool, Bool.true, Bool.false, Bool.cond, Bool.◌&&◌}
 use mathlib.Core.Logic.Iff
 use mathlib.Core.{List.List, List.[], List.◌∷◌, Logic.◌↔◌}

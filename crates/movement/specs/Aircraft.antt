@@ -1,6 +1,6 @@
 -- The type of an aircraft: RULES, "Movements and the book".
 -- Assumes nothing.
-use Rattle.core.specs.Prelude.{ℕ, Bool, true, cond, ◌==◌, nat_lt}
+use Rattle.std.specs.Prelude.{ℕ, Bool, true, cond, ◌==◌, nat_lt}
 use Rattle.movement.specs.declared.aircraft.Aircraft.{Aircraft}
 use Rattle.movement.specs.declared.aircraft.Aircraft.TheVariants.{Large, Small, Helicopter}
 use Rattle.movement.specs.Limits.{small_below}

@@ -1,6 +1,6 @@
 -- The 18 groups of type, kind and period: RULES, "Movements and the book".
 -- Assumes nothing.
-use Rattle.core.specs.Prelude.{ℕ, ◌+◌, ◌*◌, ◌%◌}
+use Rattle.std.specs.Prelude.{ℕ, ◌+◌, ◌*◌, ◌%◌}
 use Rattle.movement.specs.declared.aircraft.Aircraft.{Aircraft}
 use Rattle.movement.specs.declared.kind.Kind.{Kind}
 use Rattle.movement.specs.declared.period.Period.{Period}

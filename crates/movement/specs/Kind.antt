@@ -1,6 +1,6 @@
 -- The kind of a movement: RULES, "Movements and the book".
 -- Assumes nothing.
-use Rattle.core.specs.Prelude.{ℕ, cond, ◌==◌}
+use Rattle.std.specs.Prelude.{ℕ, cond, ◌==◌}
 use Rattle.movement.specs.declared.kind.Kind.{Kind}
 use Rattle.movement.specs.declared.kind.Kind.TheVariants.{Start, Landing}
 

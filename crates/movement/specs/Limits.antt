@@ -1,6 +1,6 @@
 -- The ranges of RULES, "Numbers and sizes" and "Movements and the book", in one place.
 -- Assumes nothing.
-use Rattle.core.specs.Prelude.{ℕ}
+use Rattle.std.specs.Prelude.{ℕ}
 
 -- rows of a book, and points
 abbrev pub max_rows : ℕ

@@ -1,6 +1,6 @@
 -- The period of the day and its weight: RULES, "Movements and the book" and "Energy and load".
 -- Assumes nothing.
-use Rattle.core.specs.Prelude.{ℕ, cond, ◌==◌, nat_lt}
+use Rattle.std.specs.Prelude.{ℕ, cond, ◌==◌, nat_lt}
 use Rattle.movement.specs.declared.period.Period.{Period}
 use Rattle.movement.specs.declared.period.Period.TheVariants.{Day, Evening, Night}
 

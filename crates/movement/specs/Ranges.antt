@@ -1,6 +1,6 @@
 -- Every range and edge of a movement, "exactly if", with the rules' own numbers: one off by one is stopped here.
 -- Assumes nothing.
-use Rattle.core.specs.Prelude.{◌≡◌, ℕ, ◌+◌, ◌*◌, ◌%◌, ◌<◌, ◌≤◌, true, ◌↔◌, List, length, slice_index}
+use Rattle.std.specs.Prelude.{◌≡◌, ℕ, ◌+◌, ◌*◌, ◌%◌, ◌<◌, ◌≤◌, true, ◌↔◌, List, length, slice_index}
 use Rattle.movement.specs.Period.{period_of, period_number, weight_of}
 use Rattle.movement.specs.Group.{group_of, group_period}
 use Rattle.movement.specs.Rules.{fields_fit, counts, movement_refusal, identity_fits, levels_fit}

@@ -1,6 +1,6 @@
 -- Rules 1, 2, 3, 7 and 19, and what is given of a movement point by point: RULES, "Refusal numbers".
 -- Assumes nothing.
-use Rattle.core.specs.Prelude.{ℕ, Bool, true, ◌&&◌, ◌||◌, List, [], ◌∷◌, length, ◌==◌, nat_le, nat_lt}
+use Rattle.std.specs.Prelude.{ℕ, Bool, true, ◌&&◌, ◌||◌, List, [], ◌∷◌, length, ◌==◌, nat_le, nat_lt}
 use Rattle.refusal.specs.Range.{all_within}
 use Rattle.refusal.specs.Refuse.{refuse}
 use Rattle.movement.specs.Limits.{type_count, kind_count, seconds_a_day, max_mass, mass_not_counted}

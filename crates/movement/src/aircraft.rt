@@ -1,5 +1,5 @@
 // The type of an aircraft: 0 large, 1 small, 2 helicopter.
-ghost use Rattle.core.specs.Prelude.{◌≡◌};
+ghost use Rattle.std.specs.Prelude.{◌≡◌};
 ghost use Rattle.movement.specs.Aircraft.{aircraft_number, aircraft_numbered, mass_fits};
 
 use crate::limits::SMALL_BELOW;

@@ -1,5 +1,5 @@
 // The kind of a movement: 0 start, 1 landing.
-ghost use Rattle.core.specs.Prelude.{◌≡◌};
+ghost use Rattle.std.specs.Prelude.{◌≡◌};
 ghost use Rattle.movement.specs.Kind.{kind_number, kind_numbered};
 
 #[derive(Drop)]

@@ -1,5 +1,5 @@
 // The period of the day that a movement falls in: 0 day, 1 evening, 2 night.
-ghost use Rattle.core.specs.Prelude.{◌≡◌};
+ghost use Rattle.std.specs.Prelude.{◌≡◌};
 ghost use Rattle.movement.specs.Period.{period_of, period_number};
 
 #[derive(Drop)]

@@ -1,5 +1,5 @@
 // Rules 1, 2, 3, 7 and 19 of RULES, "Refusal numbers", and what is given of a movement point by point.
-ghost use Rattle.core.specs.Prelude.{◌≡◌, ◌&&◌, ◌||◌, length, ◌==◌, nat_lt};
+ghost use Rattle.std.specs.Prelude.{◌≡◌, ◌&&◌, ◌||◌, length, ◌==◌, nat_lt};
 ghost use Rattle.refusal.specs.Range.{all_within};
 ghost use Rattle.movement.specs.Rules.{fields_fit, movement_refusal, identity_fits, levels_fit};
 ghost use Rattle.movement.specs.Rules.{counts_fit, zero_elsewhere};

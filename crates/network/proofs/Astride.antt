@@ -1,6 +1,6 @@
 -- A crossed edge has a level below v at one end, and one of at least v at the other. Assumes nothing.
 use mathlib.Core.{Path.◌≡◌, Path.refl, Path.sym, Bool.Bool, Bool.true, Bool.false, Bool.true≢false}
-use Rattle.core.specs.Prelude.{ℕ, ◌<◌, ◌≤◌, leb, ◌⊎◌}
+use Rattle.std.specs.Prelude.{ℕ, ◌<◌, ◌≤◌, leb, ◌⊎◌}
 use mathlib.Core.Logic.{inl, inr, ⊎_elim}
 use borrow.Author.Tests.{leb-true, leb-false}
 use native.Mathlib.Omega.{arith}

@@ -1,6 +1,6 @@
 -- Edges and their numbers, one to one. Assumes nothing.
 use mathlib.Core.{Path.◌≡◌, Path.refl, Bool.Bool, Bool.true, Bool.false, Bool.cond}
-use Rattle.core.specs.Prelude.{ℕ, ◌+◌, ◌-◌, ◌*◌, ◌/◌, ◌<◌, ◌≤◌}
+use Rattle.std.specs.Prelude.{ℕ, ◌+◌, ◌-◌, ◌*◌, ◌/◌, ◌<◌, ◌≤◌}
 use native.Mathlib.{Nat.mod-lt, Nat.div-lt_iff_lt-mul, Nat.div-add-mod', Nat.mul-le-mul, Omega.arith}
 use borrow.Author.Tests.{lt-ltb, le-ltb, ltb-true, ltb-false}
 use lib.{Arith.digits_lt, Arith.digits_div, Arith.digits_mod, Dec.ltb}

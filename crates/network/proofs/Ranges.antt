@@ -1,5 +1,5 @@
 -- Refusals 12, 13 and 15 are given exactly where the rules say. Assumes nothing.
-use Rattle.core.specs.Prelude.{◌≡◌, ℕ, ◌≤◌, Bool, true, false, cond, ◌&&◌, leb}
+use Rattle.std.specs.Prelude.{◌≡◌, ℕ, ◌≤◌, Bool, true, false, cond, ◌&&◌, leb}
 use mathlib.Core.Path.{refl, sym, ◌∙◌, subst}
 use mathlib.Core.Bool.{true≢false}
 use mathlib.Core.{Logic.◌⊎◌, Logic.inl, Logic.inr, Logic.⊎_elim, Logic.◌↔◌, List.List}

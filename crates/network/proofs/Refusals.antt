@@ -1,6 +1,6 @@
 -- What a network that is not refused is. Assumes nothing.
 use mathlib.Core.{Path.◌≡◌, Path.refl, Bool.Bool, Bool.true, Bool.false, Bool.◌&&◌, Bool.cond, List.List}
-use Rattle.core.specs.Prelude.{ℕ, ◌≤◌, leb}
+use Rattle.std.specs.Prelude.{ℕ, ◌≤◌, leb}
 use native.Mathlib.Omega.{arith}
 use borrow.Author.Tests.{leb-true, eqb-true}
 use Rattle.refusal.specs.{Range.all_within, Refuse.first}

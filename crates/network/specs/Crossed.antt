@@ -1,5 +1,5 @@
 -- Which points are in, and which edges a contour crosses: RULES, "Network and contours". Assumes nothing.
-use Rattle.core.specs.Prelude.{ℕ, ◌+◌, ◌-◌, Bool, true, false, not, List, nat_le}
+use Rattle.std.specs.Prelude.{ℕ, ◌+◌, ◌-◌, Bool, true, false, not, List, nat_le}
 use Rattle.network.specs.declared.Edge.{Edge}
 use Rattle.network.specs.declared.Edge.TheVariants.{Horizontal, Vertical}
 use Rattle.network.specs.Edges.{level_at, edge_at}

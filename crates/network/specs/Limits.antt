@@ -1,5 +1,5 @@
 -- The ranges of a network, RULES, "Numbers and sizes", in one place. Assumes nothing.
-use Rattle.core.specs.Prelude.{ℕ}
+use Rattle.std.specs.Prelude.{ℕ}
 
 -- points a side
 abbrev pub least_side : ℕ

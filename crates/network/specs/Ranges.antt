@@ -1,6 +1,6 @@
 -- The ranges of a network and of a contour level, and the order of refusals, in the rules' own numbers.
 -- Assumes nothing.
-use Rattle.core.specs.Prelude.{◌≡◌, ℕ, ◌*◌, ◌<◌, ◌≤◌, ◌↔◌, List, length, slice_index}
+use Rattle.std.specs.Prelude.{◌≡◌, ℕ, ◌*◌, ◌<◌, ◌≤◌, ◌↔◌, List, length, slice_index}
 use Rattle.network.specs.declared.Frame.{Frame}
 
 -- 12 otherwise: 2 to 256 points a side, spacing 1 to 500 m, south-west point 0 to 900,000 m each way,

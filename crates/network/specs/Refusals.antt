@@ -1,6 +1,6 @@
 -- Which networks and contour levels are refused, and by which number: RULES, "Refusal numbers", 12, 13 and 15.
 -- Assumes nothing.
-use Rattle.core.specs.Prelude.{ℕ, ◌*◌, Bool, ◌&&◌, List, length, ◌==◌, nat_le}
+use Rattle.std.specs.Prelude.{ℕ, ◌*◌, Bool, ◌&&◌, List, length, ◌==◌, nat_le}
 use Rattle.refusal.specs.Range.{all_within}
 use Rattle.refusal.specs.Refuse.{refuse}
 use Rattle.network.specs.declared.Frame.{Frame}

@@ -1,13 +1,15 @@
 // A network of levels: its frame and check, its edges by number, and which of them a contour crosses: RULES,
 // "Network and contours".
-ghost use Rattle.core.specs.Prelude.{◌≡◌, ◌&&◌};
+#![tactic(auto)]
+
+ghost use Rattle.std.specs.Prelude.{◌≡◌, ◌&&◌};
 ghost use Rattle.network.specs.Refusals.{between, sided, placed, filled, checked, contour_checked};
 
 use crate::limits::{
     LEAST_CONTOUR, LEAST_SIDE, LEAST_SPACING, MAX_CONTOUR, MAX_ORIGIN, MAX_SIDE, MAX_SPACING,
 };
 
-pub mod core;
+pub mod inner;
 pub mod limits;
 
 // A network's size in points, the spacing of its points and its south-west point, in whole metres.

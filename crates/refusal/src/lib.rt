@@ -1,5 +1,7 @@
 // What calls share when they refuse: RULES, "Refusal numbers". The order of refusals stands in specs/Refuse.antt; a
 // function that refuses returns its number itself.
+#![tactic(auto)]
+
 ghost use Rattle.std.specs.Prelude.{◌≡◌, ◌&&◌};
 ghost use Rattle.refusal.specs.Range.{all_within};
 

@@ -1,7 +1,7 @@
 -- Laws of a row's columns, over the column: its text reads back, has no comma and at most eight bytes, and a field
 -- that was
 -- read is the text of its value. Assumes nothing.
-use Rattle.core.specs.Prelude.{ℕ, zero, suc, ◌<◌, ◌≤◌}
+use Rattle.std.specs.Prelude.{ℕ, zero, suc, ◌<◌, ◌≤◌}
 use mathlib.Core.{Path.◌≡◌, Path.refl, Path.sym, Path.ap, Path.◌∙◌, List.List, List.[], Bool.false, Bool.◌&&◌}
 use native.Mathlib.Omega.{arith}
 use borrow.Author.Tests.{le-leb, lt-leb, eq-eqb, ne_eqb, leb-true, eqb-true, eqb-false}

@@ -1,5 +1,5 @@
 -- Laws of the letters of types and kinds: they read back, and none is a comma. Assumes nothing.
-use Rattle.core.specs.Prelude.{◌≡◌, ℕ, zero, suc, ◌<◌}
+use Rattle.std.specs.Prelude.{◌≡◌, ℕ, zero, suc, ◌<◌}
 use mathlib.Core.Path.{refl}
 use native.Mathlib.Omega.{arith}
 use Rattle.text.specs.{Field.count_of, Letter.place_of, Letter.letter_of, Letter.show_letter}

@@ -1,5 +1,5 @@
 -- The longest row has 84 bytes before its CRLF: a longer one is off its layout. Assumes nothing.
-use Rattle.core.specs.Prelude.{ℕ, zero, suc, ◌+◌, ◌*◌, ◌<◌, ◌≤◌}
+use Rattle.std.specs.Prelude.{ℕ, zero, suc, ◌+◌, ◌*◌, ◌<◌, ◌≤◌}
 use mathlib.Core.{Path.◌≡◌, Path.ap, List.List}
 use native.Mathlib.Omega.{arith}
 use borrow.Author.Tests.{eqb-true}

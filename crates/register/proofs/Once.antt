@@ -1,5 +1,5 @@
 -- Two outcomes of one call are equal: an answer's number and values are the answer. Assumes nothing.
-use Rattle.core.specs.Prelude.{ℕ}
+use Rattle.std.specs.Prelude.{ℕ}
 use mathlib.Core.{Path.◌≡◌, Path.sym, Path.ap, Path.◌∙◌, List.List}
 use native.Mathlib.Omega.{arith}
 use Rattle.register.specs.Row.{answer_number, answer_values, field_list, RowRead}

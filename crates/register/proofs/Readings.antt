@@ -1,5 +1,5 @@
 -- Laws of a line's cells as they are read, one after the other. Assumes nothing.
-use Rattle.core.specs.Prelude.{ℕ, ◌+◌, ◌-◌, ◌≤◌}
+use Rattle.std.specs.Prelude.{ℕ, ◌+◌, ◌-◌, ◌≤◌}
 use mathlib.Core.{Path.◌≡◌, List.List, List.◌++◌, Bool.Bool, Bool.true, Bool.false, Bool.cond, Bool.and-false}
 use native.Mathlib.Omega.{arith}
 use borrow.Author.Tests.{leb-true, leb-false, eqb-true, ne_eqb}

@@ -1,5 +1,5 @@
 -- Laws of a row's refusals and of limits.csv. Assumes nothing.
-use Rattle.core.specs.Prelude.{ℕ, ◌-◌, ◌/◌, ◌%◌, ◌<◌, ◌≤◌}
+use Rattle.std.specs.Prelude.{ℕ, ◌-◌, ◌/◌, ◌%◌, ◌<◌, ◌≤◌}
 use mathlib.Core.{Path.◌≡◌, Path.ap, List.List, List.[], Bool.false, Bool.◌&&◌}
 use native.Mathlib.Omega.{arith}
 use borrow.Author.Tests.{leb-true, ltb-true, eqb-true}

@@ -1,5 +1,5 @@
 -- The columns of a register's row, by name: id,type,mtow,kind,time and then a level for each point. Assumes nothing.
-use Rattle.core.specs.Prelude.{ℕ, ◌+◌, [], ◌∷◌, slice_index_or}
+use Rattle.std.specs.Prelude.{ℕ, ◌+◌, [], ◌∷◌, slice_index_or}
 use Rattle.movement.specs.Limits.{max_points}
 
 -- where each stands, counted from 0

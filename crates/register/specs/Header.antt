@@ -1,6 +1,6 @@
 -- The header lines of a register and of limits.csv, for 1 to 8 points. Each is a fixed text, cut off after its last
 -- point. Assumes nothing.
-use Rattle.core.specs.Prelude.{ℕ, ◌-◌, ◌/◌, ◌%◌, cond, ◌&&◌, List, length, take, ◌==◌, nat_le, nat_lt}
+use Rattle.std.specs.Prelude.{ℕ, ◌-◌, ◌/◌, ◌%◌, cond, ◌&&◌, List, length, take, ◌==◌, nat_le, nat_lt}
 use Rattle.movement.specs.Limits.{max_points}
 use Rattle.text.specs.Same.{same_text}
 use Rattle.text.specs.Spelled.{bytes}

@@ -1,5 +1,5 @@
 -- Inner steps: no promise uses them. What the readers and writers of a row's columns ask and leave. Assumes nothing.
-use Rattle.core.specs.Prelude.{ℕ, ◌+◌, ◌<◌, ◌≤◌, Bool, cond, ◌&&◌, List, [], length, ◌==◌, nat_le, slice_index}
+use Rattle.std.specs.Prelude.{ℕ, ◌+◌, ◌<◌, ◌≤◌, Bool, cond, ◌&&◌, List, [], length, ◌==◌, nat_le, slice_index}
 use Rattle.movement.specs.Limits.{max_points, seconds_a_day, type_count, kind_count}
 use Rattle.text.specs.Spelled.{bytes}
 use Rattle.register.specs.Column.{level_columns, in_column}

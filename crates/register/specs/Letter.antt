@@ -1,5 +1,5 @@
 -- The letters of a register's types and kinds. Assumes nothing.
-use Rattle.core.specs.Prelude.{ℕ, List}
+use Rattle.std.specs.Prelude.{ℕ, List}
 use Rattle.text.specs.Spelled.{bytes}
 
 -- types G, K, H are 0 large, 1 small, 2 helicopter; kinds S, L are 0 start, 1 landing

@@ -1,5 +1,5 @@
 -- limits.csv as a whole text: RULES, "Files and the report program". Assumes nothing.
-use Rattle.core.specs.Prelude.{ℕ, ◌+◌, cond, ◌&&◌, List, [], length, replicate, nat_le, slice_index, slice_index_or}
+use Rattle.std.specs.Prelude.{ℕ, ◌+◌, cond, ◌&&◌, List, [], length, replicate, nat_le, slice_index, slice_index_or}
 use Rattle.refusal.specs.Range.{all_within}
 use Rattle.movement.specs.Limits.{max_points, max_days, max_limit}
 use Rattle.text.specs.Line.{lines_of}

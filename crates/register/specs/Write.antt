@@ -1,5 +1,5 @@
 -- A register row written: RULES, "Files and the report program". Assumes nothing.
-use Rattle.core.specs.Prelude.{◌≡◌, ℕ, ◌+◌, Bool, true, cond, ◌&&◌, List, [], ◌∷◌, ◌++◌, length, ◌==◌, nat_le, slice_index}
+use Rattle.std.specs.Prelude.{◌≡◌, ℕ, ◌+◌, Bool, true, cond, ◌&&◌, List, [], ◌∷◌, ◌++◌, length, ◌==◌, nat_le, slice_index}
 use Rattle.refusal.specs.Refuse.{refuse}
 use Rattle.refusal.specs.Range.{all_within}
 use Rattle.movement.specs.Rules.{levels_fit}

@@ -1,12 +1,12 @@
 // The columns of a register's row and of the second line of limits.csv, read field by field.
-ghost use Rattle.core.specs.Prelude.{◌≡◌, ◌≤◌, if◌then◌else◌, nat_eq};
+ghost use Rattle.std.specs.Prelude.{◌≡◌, ◌≤◌, if◌then◌else◌, nat_eq};
 ghost use Rattle.register.specs.Column.{max_columns};
 ghost use Rattle.register.specs.Cell.{level_or_blank, row_cell, cell_of, cells_of, got_cells, off_cells};
 ghost use Rattle.register.specs.InnerCell.{blank_cell};
 
 use crate::column::{IDENTITY, KIND, LEVELS, MASS, MAX_COLUMNS, TIME, TYPE};
 use text::clock::time;
-use text::core::{field_end, letter};
+use text::inner::{field_end, letter};
 use text::number::{Number, level, whole};
 
 // Whose columns: those of a register or of limits.csv.

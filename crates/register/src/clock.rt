@@ -1,10 +1,10 @@
 // Times of day as text, written.
-ghost use Rattle.core.specs.Prelude.{◌+◌, ◌<◌, ◌≤◌, length};
+ghost use Rattle.std.specs.Prelude.{◌+◌, ◌<◌, ◌≤◌, length};
 ghost use Rattle.movement.specs.Limits.{seconds_a_day};
 ghost use Rattle.room.specs.Room.{Wrote};
 ghost use Rattle.text.specs.Clock.{show_time};
 
-use text::core::{put_byte, put_digits};
+use text::inner::{put_byte, put_digits};
 
 // Writes a second of the day.
 pub(crate) fn put_time(out: &mut [u8], at: usize, n: u32) -> usize

@@ -1,5 +1,5 @@
 // The header lines of a register and of limits.csv: a fixed text, cut off after its last point.
-ghost use Rattle.core.specs.Prelude.{◌≡◌};
+ghost use Rattle.std.specs.Prelude.{◌≡◌};
 ghost use Rattle.register.specs.Header.{header_of, register_header, register_lead, limits_header, limits_lead};
 
 use movement::limits::MAX_POINTS;

@@ -1,9 +1,9 @@
 // Types and kinds as text, written.
-ghost use Rattle.core.specs.Prelude.{◌<◌, length};
+ghost use Rattle.std.specs.Prelude.{◌<◌, length};
 ghost use Rattle.room.specs.Room.{Wrote};
 ghost use Rattle.text.specs.Letter.{show_letter};
 
-use text::core::put_byte;
+use text::inner::put_byte;
 
 // Writes the letter at a place.
 pub(crate) fn put_letter(out: &mut [u8], at: usize, letters: &[u8], n: u32) -> usize

@@ -1,4 +1,6 @@
 // Register rows, headers and limits.csv: RULES, "Files and the report program".
+#![tactic(auto)]
+
 mod cell;
 mod clock;
 pub mod column;

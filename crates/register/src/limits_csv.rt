@@ -1,5 +1,5 @@
 // limits.csv as a whole text: its header, one line of days and limits, and nothing more.
-ghost use Rattle.core.specs.Prelude.{◌≡◌, ◌+◌, ◌≤◌, length, drop};
+ghost use Rattle.std.specs.Prelude.{◌≡◌, ◌+◌, ◌≤◌, length, drop};
 ghost use Rattle.movement.specs.Limits.{max_points};
 ghost use Rattle.text.specs.Line.{first_line, lines_of};
 ghost use Rattle.register.specs.LimitsFile.{refused_limits, judged_limits, second_limits, limits_of};
@@ -10,7 +10,7 @@ use crate::header::limits_points;
 use crate::row::eight_from;
 use movement::limits::{MAX_DAYS, MAX_LIMIT, MAX_POINTS};
 use refusal::all_within;
-use text::core::line_end;
+use text::inner::line_end;
 use text::number::Number;
 
 // What limits.csv reads as: points, days and a limit for each point, zero past the points; or a refusal and its line.

@@ -1,5 +1,5 @@
 // Register rows, read: the layout alone, and on it the row with its refusals.
-ghost use Rattle.core.specs.Prelude.{◌≡◌, ◌≤◌, length, take};
+ghost use Rattle.std.specs.Prelude.{◌≡◌, ◌≤◌, length, take};
 ghost use Rattle.movement.specs.Limits.{max_points};
 ghost use Rattle.room.specs.Room.{front};
 ghost use Rattle.register.specs.Column.{level_columns};

@@ -1,5 +1,5 @@
 // Register rows, written.
-ghost use Rattle.core.specs.Prelude.{◌≡◌, ◌+◌, ◌<◌, ◌≤◌, ◌++◌, length, take, slice_index};
+ghost use Rattle.std.specs.Prelude.{◌≡◌, ◌+◌, ◌<◌, ◌≤◌, ◌++◌, length, take, slice_index};
 ghost use Rattle.room.specs.Room.{front, Wrote};
 ghost use Rattle.register.specs.Column.{level_columns};
 ghost use Rattle.register.specs.Cell.{cell_text};
@@ -13,7 +13,7 @@ use crate::row::{Fields, fault};
 use movement::limits::MAX_POINTS;
 use movement::rules::levels_fit;
 use refusal::all_within;
-use text::core::{put_byte, put_level, put_text, put_whole};
+use text::inner::{put_byte, put_level, put_text, put_whole};
 
 // What writing answers: how many bytes were written, or a refusal.
 #[derive(Drop)]

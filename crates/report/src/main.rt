@@ -1,6 +1,8 @@
 // The program report: limits.csv in the current folder and a register on standard input make the report on
 // standard output.
-use files::core::{REPORT, run};
+#![tactic(auto)]
+
+use files::inner::{REPORT, run};
 use libc::STDERR_FILENO;
 
 fn main() {

@@ -1,7 +1,7 @@
 -- A row that is taken, case by case: from what the layout reads and what the two calls promise to what the row's
 -- definition says. Assumes nothing.
 use mathlib.Core.{Path.◌≡◌, Path.refl, Path.ap, Path.◌∙◌, Bool.Bool, Bool.true, Bool.false, Bool.cond}
-use Rattle.core.specs.Prelude.{ℕ, zero, suc, ◌≤◌, List, ◌∷◌}
+use Rattle.std.specs.Prelude.{ℕ, zero, suc, ◌≤◌, List, ◌∷◌}
 use native.Mathlib.Omega.{arith}
 use lib.{ListN.take, ListN.replicate, Dec.eqb}
 use borrow.Author.Tests.{eq-eqb, ne_eqb}

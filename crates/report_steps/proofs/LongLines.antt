@@ -1,5 +1,5 @@
 -- A line longer than any layout is refused, and leaves the book. Assumes nothing.
-use Rattle.core.specs.Prelude.{◌≡◌, ℕ, ◌<◌}
+use Rattle.std.specs.Prelude.{◌≡◌, ℕ, ◌<◌}
 use mathlib.Core.Path.{refl}
 use mathlib.Core.{Bool.and-false, List.List}
 use native.Mathlib.Omega.{arith}

@@ -1,7 +1,7 @@
 -- What the code knows of a line of a register: it keeps a sound book sound, and is the header or a row.
 -- Assumes nothing.
 use mathlib.Core.{Path.◌≡◌, Path.refl, Path.ap, Path.◌∙◌, Bool.true, List.List}
-use Rattle.core.specs.Prelude.{ℕ, eqb}
+use Rattle.std.specs.Prelude.{ℕ, eqb}
 use borrow.Author.Tests.{eq-eqb, ne_eqb}
 use Rattle.text.specs.declared.number.Number.{Number}
 use Rattle.text.specs.declared.number.Number.TheVariants.{Got, Off}

@@ -1,6 +1,6 @@
 -- The calls that a register makes on a book, in their order: what links the bytes to the theorems on histories.
 -- Assumes nothing.
-use Rattle.core.specs.Prelude.{ℕ, cond, List, [], ◌∷◌, ◌++◌, ◌==◌}
+use Rattle.std.specs.Prelude.{ℕ, cond, List, [], ◌∷◌, ◌++◌, ◌==◌}
 use Rattle.book_rules.specs.Columns.{Book}
 use Rattle.book_rules.specs.Calls.{refusal}
 use Rattle.book_rules.specs.History.{Made, made}

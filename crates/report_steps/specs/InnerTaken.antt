@@ -1,5 +1,5 @@
 -- Inner steps: no promise uses them. What a row leaves in the book. Assumes nothing.
-use Rattle.core.specs.Prelude.{◌≡◌, ℕ, List, take}
+use Rattle.std.specs.Prelude.{◌≡◌, ℕ, List, take}
 use Rattle.book_rules.specs.Columns.{Book}
 use Rattle.book_rules.specs.Calls.{Call, refusal, after}
 use Rattle.report_steps.specs.declared.Taken.{Taken}

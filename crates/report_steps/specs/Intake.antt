@@ -1,6 +1,6 @@
 -- A register's row into a book: RULES, "Files and the report program".
 -- Assumes nothing.
-use Rattle.core.specs.Prelude.{ℕ, cond, List, take, replicate, ◌==◌}
+use Rattle.std.specs.Prelude.{ℕ, cond, List, take, replicate, ◌==◌}
 use Rattle.book_rules.specs.Columns.{Book}
 use Rattle.book_rules.specs.Calls.{Call, refusal, after}
 use Rattle.register.specs.declared.row.Layout.{Layout}

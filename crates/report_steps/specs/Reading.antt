@@ -1,6 +1,6 @@
 -- A register read whole, from its bytes to the book: RULES, "Files and the report program".
 -- Assumes nothing.
-use Rattle.core.specs.Prelude.{ℕ, cond, List, ◌==◌}
+use Rattle.std.specs.Prelude.{ℕ, cond, List, ◌==◌}
 use Rattle.book_rules.specs.Columns.{Book}
 use Rattle.text.specs.declared.number.Number.{Number}
 use Rattle.text.specs.declared.number.Number.TheVariants.{Got, Off}

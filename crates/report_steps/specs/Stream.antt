@@ -1,6 +1,6 @@
 -- How long a line can be: RULES, "Files and the report program".
 -- Assumes nothing.
-use Rattle.core.specs.Prelude.{ℕ}
+use Rattle.std.specs.Prelude.{ℕ}
 
 -- the longest row on its layout, and with its CRLF the longest line
 abbrev pub longest_row : ℕ

@@ -1,9 +1,11 @@
 // What the report program decides, apart from its bytes in and out: RULES, "Files and the report program". A register's
 // lines as they come, and a row into the book.
-ghost use Rattle.core.specs.Prelude.{◌≡◌};
+#![tactic(auto)]
+
+ghost use Rattle.std.specs.Prelude.{◌≡◌};
 ghost use Rattle.report_steps.specs.Intake.{taken_number};
 
-pub mod core;
+pub mod inner;
 
 // What a register's row did to the book.
 #[derive(Drop)]

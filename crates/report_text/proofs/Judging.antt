@@ -1,5 +1,5 @@
 -- The points of a book, judged one after another: the first that is refused decides. Assumes nothing.
-use Rattle.core.specs.Prelude.{◌≡◌, ℕ, zero, suc, ◌+◌, ◌<◌, eqb}
+use Rattle.std.specs.Prelude.{◌≡◌, ℕ, zero, suc, ◌+◌, ◌<◌, eqb}
 use mathlib.Core.Path.{refl}
 use native.Mathlib.{Numerals.add-one, Omega.arith}
 use borrow.Author.Tests.{ne_eqb, eqb-true, eqb-false}

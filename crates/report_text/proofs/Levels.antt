@@ -1,5 +1,5 @@
 -- A level that a load answers has a text: it is at most 200.00. Assumes nothing.
-use Rattle.core.specs.Prelude.{ℕ, zero, suc, ◌+◌, ◌<◌, ◌≤◌, Bool, ◌&&◌, eqb, ltb, leb}
+use Rattle.std.specs.Prelude.{ℕ, zero, suc, ◌+◌, ◌<◌, ◌≤◌, Bool, ◌&&◌, eqb, ltb, leb}
 use native.Mathlib.Omega.{arith}
 use Rattle.level.specs.{Level.bound, Level.first_from, Level.level_of, Level.level_value, Energy.mean_of}
 use Rattle.text.proofs.Digits.{either}

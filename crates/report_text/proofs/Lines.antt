@@ -1,6 +1,6 @@
 -- The lines of a report, as the writers group them. Assumes nothing.
 use mathlib.Core.{Path.◌≡◌, Path.refl, Path.sym, List.List, List.[], List.◌∷◌, List.◌++◌, List.append_assoc}
-use Rattle.core.specs.Prelude.{ℕ, ◌+◌, ◌≤◌, length}
+use Rattle.std.specs.Prelude.{ℕ, ◌+◌, ◌≤◌, length}
 use native.Mathlib.Omega.{arith}
 use lib.ListN.{length-append}
 use Rattle.room.specs.Room.{Wrote}

@@ -1,6 +1,6 @@
 -- The lines of the points, one after another, behind the header. Assumes nothing.
 use mathlib.Core.{Path.◌≡◌, Bool.cond, List.List, List.◌++◌}
-use Rattle.core.specs.Prelude.{ℕ, ◌+◌, ◌≤◌}
+use Rattle.std.specs.Prelude.{ℕ, ◌+◌, ◌≤◌}
 use native.Mathlib.Omega.{arith}
 use lib.{Dec.eqb, ListN.length, ListN.get_or, ListN.length-append}
 use borrow.Author.Tests.{ne_eqb}

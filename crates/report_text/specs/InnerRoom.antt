@@ -1,11 +1,11 @@
 -- Inner steps: no promise uses them. What the writers of the report ask and leave: room for the longest text, and
 -- numbers that have one. Assumes nothing.
-use Rattle.core.specs.Prelude.{◌≡◌, ℕ, ◌<◌, ◌≤◌, List, slice_index}
+use Rattle.std.specs.Prelude.{◌≡◌, ℕ, ◌<◌, ◌≤◌, List, slice_index}
 use Rattle.room.specs.Room.{Wrote}
 use Rattle.movement.specs.Limits.{max_points}
 use Rattle.book_rules.specs.Columns.{Book}
 use Rattle.register.specs.declared.limits_csv.LimitsFile.{LimitsFile}
-use Rattle.report_text.specs.declared.core.Report.{Report}
+use Rattle.report_text.specs.declared.inner.Report.{Report}
 use Rattle.report_text.specs.Text.{book_text, book_refusal}
 
 -- a level, a limit or a verdict of at most 6 bytes, with its comma; and all three

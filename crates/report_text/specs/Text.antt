@@ -1,5 +1,5 @@
 -- The report as text, from the limits and a book: RULES, "Files and the report program". Assumes nothing.
-use Rattle.core.specs.Prelude.{ℕ, zero, suc, ◌+◌, cond, List, [], ◌∷◌, ◌==◌, slice_index}
+use Rattle.std.specs.Prelude.{ℕ, zero, suc, ◌+◌, cond, List, [], ◌∷◌, ◌==◌, slice_index}
 use Rattle.level.specs.declared.Level.{Level}
 use Rattle.level.specs.declared.Level.TheVariants.{BelowZero, At}
 use Rattle.level.specs.declared.Verdict.{Verdict}

@@ -1,6 +1,6 @@
 -- The movements computed and those without levels, of all groups: RULES, "Files and the report program".
 -- Assumes nothing.
-use Rattle.core.specs.Prelude.{ℕ, List, slice_index_or}
+use Rattle.std.specs.Prelude.{ℕ, List, slice_index_or}
 use Rattle.movement.specs.Limits.{group_count}
 use Rattle.load_rules.specs.declared.Counts.{Counts}
 use Rattle.load_rules.specs.Factors.{sum_to}

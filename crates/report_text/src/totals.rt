@@ -1,5 +1,5 @@
 // The movements computed and those without levels, of all groups of a load.
-ghost use Rattle.core.specs.Prelude.{◌≡◌, ◌+◌, ◌*◌, ◌^◌, ◌≤◌};
+ghost use Rattle.std.specs.Prelude.{◌≡◌, ◌+◌, ◌*◌, ◌^◌, ◌≤◌};
 ghost use Rattle.movement.specs.Limits.{group_count};
 ghost use Rattle.report_text.specs.Totals.{all_computed, all_missing};
 

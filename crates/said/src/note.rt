@@ -1,10 +1,10 @@
 // A sentence, put together in a buffer so that it goes out in one write. Each part is put at a place and answers the
 // place past it; what finds no room is left out.
-ghost use Rattle.core.specs.Prelude.{◌<◌};
+ghost use Rattle.std.specs.Prelude.{◌<◌};
 
 use libc::STDERR_FILENO;
 use sentence::MAX_SENTENCE;
-use text::core::put_number;
+use text::inner::put_number;
 
 // Room for any sentence.
 pub const ROOM: usize = 2048;

@@ -1,7 +1,7 @@
 // The columns and the lines of a text.
-ghost use Rattle.core.specs.Prelude.{◌≤◌, length};
+ghost use Rattle.std.specs.Prelude.{◌≤◌, length};
 
-use crate::core::{column_end, row_end};
+use crate::inner::{column_end, row_end};
 
 // A part of a text.
 #[derive(Drop)]

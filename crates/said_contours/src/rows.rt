@@ -1,8 +1,8 @@
 // The rows of a network and their values: the first one that is not as it should be.
-ghost use Rattle.core.specs.Prelude.{◌≤◌, length};
+ghost use Rattle.std.specs.Prelude.{◌≤◌, length};
 
 use network::limits::MAX_NETWORK_LEVEL;
-use said::core::{column_end, row_end};
+use said::inner::{column_end, row_end};
 use said::part::{last, one_more};
 use text::number::Number;
 use text::same::same_text;

@@ -1,6 +1,8 @@
 // The sentences of the program couple on standard error, each in one write: why tracks.csv or the movements are
 // refused, and how many movements have a track. None of it is a promise: the functions are safe and end, and tests hold
 // what they say.
+#![tactic(auto)]
+
 use crate::row::reason;
 use flights::TRACK_COLUMNS;
 use said::note::{ROOM, below, number, place, rule, send, words};

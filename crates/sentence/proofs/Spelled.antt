@@ -1,5 +1,5 @@
 -- A sentence that was put is its number's, and the numbers that no arm of a match has. Assumes nothing.
-use Rattle.core.specs.Prelude.{ℕ, ◌+◌, ◌<◌, ◌≤◌}
+use Rattle.std.specs.Prelude.{ℕ, ◌+◌, ◌<◌, ◌≤◌}
 use mathlib.Core.{Path.◌≡◌, List.List}
 use native.Mathlib.Omega.{arith}
 use Rattle.room.specs.Room.{Wrote}

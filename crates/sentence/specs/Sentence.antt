@@ -1,5 +1,5 @@
 -- The sentence for each refusal number: RULES, "Refusal numbers". Assumes nothing.
-use Rattle.core.specs.Prelude.{ℕ, List, [], ◌∷◌, ◌++◌, slice_index_or}
+use Rattle.std.specs.Prelude.{ℕ, List, [], ◌∷◌, ◌++◌, slice_index_or}
 use Rattle.text.specs.Spelled.{bytes}
 
 -- a network, and what is wrong with it

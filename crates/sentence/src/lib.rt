@@ -1,12 +1,14 @@
 // The sentence for each refusal number: RULES, "Refusal numbers". The programs, the library and Python take it from
 // here.
-pub mod core;
+#![tactic(auto)]
 
-ghost use Rattle.core.specs.Prelude.{◌≤◌, [], ◌∷◌, length};
+pub mod inner;
+
+ghost use Rattle.std.specs.Prelude.{◌≤◌, [], ◌∷◌, length};
 ghost use Rattle.room.specs.Room.{Wrote, WritesTwo};
 ghost use Rattle.sentence.specs.Sentence.{max_sentence, sentence_of};
 
-use text::core::put_text;
+use text::inner::put_text;
 
 // Room for any sentence.
 pub const MAX_SENTENCE: usize = 120;
@@ -15,7 +17,7 @@ pub const MAX_SENTENCE: usize = 120;
 pub fn put_sentence(out: &mut [u8; 120], number: u32) -> usize
     ensures { Wrote out.old 0 (sentence_of number) out.new result × (result ≤ max_sentence) }
 {
-    core::put_any(out, number)
+    inner::put_any(out, number)
 }
 
 // The sentence in lent room, and its size; 14 where there is too little of either.

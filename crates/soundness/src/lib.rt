@@ -1,4 +1,6 @@
 // When the lent columns are a sound book.
+#![tactic(auto)]
+
 ghost use Rattle.std.specs.Prelude.{◌≡◌, true, cond, ◌*◌, length, eqb};
 ghost use Rattle.refusal.specs.Range.{all_within};
 ghost use Rattle.book_rules.specs.Columns.{shape_fits, rising, follows, head_sound, top_level, cells_sound, row_sound};

@@ -1,6 +1,6 @@
 -- A piece of a text, and the bytes of it that wait at the front of the buffer. Assumes nothing.
 use mathlib.Core.{Path.◌≡◌, Path.sym, Path.ap, Path.◌∙◌, List.List, List.◌++◌}
-use Rattle.core.specs.Prelude.{ℕ, suc, ◌+◌, ◌-◌, ◌<◌, ◌≤◌, length, get_or, take, drop, set}
+use Rattle.std.specs.Prelude.{ℕ, suc, ◌+◌, ◌-◌, ◌<◌, ◌≤◌, length, get_or, take, drop, set}
 use native.Mathlib.{Numerals.add-one, Omega.arith}
 use lib.ListN.{length-drop}
 use lib.Seq.{drop_at, drop-drop, length-take-le, take-add, drop-set-lt, get_or-drop, take-suc, take-suc-set}

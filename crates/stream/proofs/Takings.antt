@@ -1,6 +1,6 @@
 -- What the code knows on its way through a text: the lines taken so far, and the last bytes. Assumes nothing.
 use mathlib.Core.{Path.◌≡◌, Path.refl, Path.◌∙◌, List.List, List.◌++◌}
-use Rattle.core.specs.Prelude.{ℕ, ◌+◌, ◌-◌, ◌<◌, ◌≤◌}
+use Rattle.std.specs.Prelude.{ℕ, ◌+◌, ◌-◌, ◌<◌, ◌≤◌}
 use native.Mathlib.Omega.{arith}
 use lib.{ListN.length, ListN.take, ListN.drop, ListN.length-drop, Seq.drop-drop}
 use borrow.Author.Tests.{ne_eqb}

@@ -1,6 +1,6 @@
 -- How the bytes of a text came, and what is then known of the whole text: RULES, "Files and the report program".
 -- Assumes nothing.
-use Rattle.core.specs.Prelude.{ℕ, ◌+◌, List, ◌++◌, replicate}
+use Rattle.std.specs.Prelude.{ℕ, ◌+◌, List, ◌++◌, replicate}
 use Rattle.channel.specs.System.{Origin, First, Whole, Broken}
 
 -- to their end; up to a line that is refused, where the reading stops; or up to a read that failed

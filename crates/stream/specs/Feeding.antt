@@ -1,5 +1,5 @@
 -- What the reading of a text promises. Which bytes came, and that they are all, is channel's to say. Assumes nothing.
-use Rattle.core.specs.Prelude.{◌≡◌, ℕ, ◌+◌, ◌^◌, ◌<◌, ◌≤◌, List, ◌++◌, length, take, ◌≢◌}
+use Rattle.std.specs.Prelude.{◌≡◌, ℕ, ◌+◌, ◌^◌, ◌<◌, ◌≤◌, List, ◌++◌, length, take, ◌≢◌}
 use Rattle.channel.specs.System.{Origin, Whole, Broken}
 use Rattle.channel.specs.Input.{Came}
 use Rattle.stream.specs.declared.Turn.{Turn}

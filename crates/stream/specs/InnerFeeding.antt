@@ -1,6 +1,6 @@
 -- Inner steps: no promise uses them. A piece of a text and its end, as a turn of the reading takes them, and what the
 -- turns have come to. Assumes nothing.
-use Rattle.core.specs.Prelude.{◌≡◌, ℕ, ◌≤◌, List, take, ◌≢◌}
+use Rattle.std.specs.Prelude.{◌≡◌, ℕ, ◌≤◌, List, take, ◌≢◌}
 use Rattle.channel.specs.System.{Origin}
 use Rattle.channel.specs.Input.{Came}
 use Rattle.stream.specs.declared.Turn.{Turn}

@@ -1,6 +1,6 @@
 -- Inner steps: no promise uses them. What each step of a reading leaves, from a line to a piece of the bytes.
 -- Assumes nothing.
-use Rattle.core.specs.Prelude.{◌≡◌, ℕ, ◌+◌, ◌≤◌, List, length, drop}
+use Rattle.std.specs.Prelude.{◌≡◌, ℕ, ◌+◌, ◌≤◌, List, length, drop}
 use Rattle.stream.specs.Reading.{Step, Reading, read_on, closing, Onward, Unended}
 
 -- one line: what is answered, and what is held at the end

@@ -1,6 +1,6 @@
 -- The lines of a text, one after another, whatever each line does: RULES, "Files and the report program".
 -- Assumes nothing.
-use Rattle.core.specs.Prelude.{◌≡◌, ℕ, ◌+◌, ◌<◌, cond, ◌&&◌, List, [], ◌∷◌, ◌++◌, length, ◌==◌}
+use Rattle.std.specs.Prelude.{◌≡◌, ℕ, ◌+◌, ◌<◌, cond, ◌&&◌, List, [], ◌∷◌, ◌++◌, length, ◌==◌}
 use Rattle.text.specs.Line.{first_line, lines_of, bare_line}
 
 -- What line n does where so much is held: its refusal, 0 for none, and what is held after it

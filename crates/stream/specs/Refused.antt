@@ -1,6 +1,6 @@
 -- The first refusal of a text counts, and a read that fails is never an end: RULES, "Files and the report program".
 -- Assumes nothing.
-use Rattle.core.specs.Prelude.{◌≡◌, ℕ, ◌+◌, ◌<◌, ◌≤◌, List, [], ◌∷◌, ◌++◌, length, take, ◌≢◌, slice_index_or}
+use Rattle.std.specs.Prelude.{◌≡◌, ℕ, ◌+◌, ◌<◌, ◌≤◌, List, [], ◌∷◌, ◌++◌, length, take, ◌≢◌, slice_index_or}
 use Rattle.text.specs.Line.{lines_of}
 use Rattle.stream.specs.Reading.{Step, opening, lines_read, whole_read}
 use Rattle.stream.specs.Coming.{endless}

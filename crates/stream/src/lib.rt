@@ -1,6 +1,8 @@
 // The lines of a text as they come in pieces, whatever each line does: RULES, "Files and the report program". What is
 // read of all pieces is what is read of the whole.
-pub mod core;
+#![tactic(auto)]
+
+pub mod inner;
 
 // Where the reading of a piece stands: the bytes before `at` are read; `line` is the number of the next line, or of the
 // one that is refused.

@@ -1,5 +1,5 @@
 -- A run of digits, one byte at a time. Assumes nothing.
-use Rattle.core.specs.Prelude.{ℕ, suc, ◌+◌, ◌-◌, ◌*◌, ◌^◌, ◌<◌, ◌≤◌, Bool, true, false, cond, not, ◌&&◌, eqb, ltb, leb}
+use Rattle.std.specs.Prelude.{ℕ, suc, ◌+◌, ◌-◌, ◌*◌, ◌^◌, ◌<◌, ◌≤◌, Bool, true, false, cond, not, ◌&&◌, eqb, ltb, leb}
 use mathlib.Core.{Path.◌≡◌, Path.refl, List.List, List.[], List.◌∷◌}
 use native.Mathlib.{Nat.pow-le-pow_right, Nat.pow-suc, Nat.add-zero, Numerals.add-one, Omega.arith}
 use borrow.Author.Tests.{le-leb, lt-leb, leb-true}

@@ -1,5 +1,5 @@
 -- Laws of texts that are compared. Assumes nothing.
-use Rattle.core.specs.Prelude.{ℕ, suc, ◌+◌, ◌<◌, ◌≤◌}
+use Rattle.std.specs.Prelude.{ℕ, suc, ◌+◌, ◌<◌, ◌≤◌}
 use mathlib.Core.{Path.◌≡◌, Path.refl, Path.ap, List.List, List.[], List.◌∷◌, Bool.true, Bool.false, Bool.and-false}
 use native.Mathlib.{Numerals.add-one, Omega.arith}
 use borrow.Author.Tests.{eq-eqb, ne_eqb, eqb-true}

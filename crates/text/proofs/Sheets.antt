@@ -1,5 +1,5 @@
 -- What is written line by line comes apart again, and so does the one line of a refusal. Assumes nothing.
-use Rattle.core.specs.Prelude.{ℕ, zero, suc, ◌<◌, ◌≤◌, List, [], ◌∷◌, ◌++◌}
+use Rattle.std.specs.Prelude.{ℕ, zero, suc, ◌<◌, ◌≤◌, List, [], ◌∷◌, ◌++◌}
 use mathlib.Core.{Path.◌≡◌, Path.refl, Path.ap, Path.◌∙◌, Bool.Bool, Bool.true, Bool.◌&&◌}
 use mathlib.Core.List.{append_assoc}
 use native.Mathlib.Omega.{arith}

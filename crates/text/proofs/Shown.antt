@@ -1,5 +1,5 @@
 -- What is written reads back: of a whole number, and of one with decimals. Assumes nothing.
-use Rattle.core.specs.Prelude.{ℕ, zero, suc, ◌+◌, ◌-◌, ◌*◌, ◌/◌, ◌%◌, ◌^◌, ◌<◌, ◌≤◌, false, ◌&&◌, length, get_or}
+use Rattle.std.specs.Prelude.{ℕ, zero, suc, ◌+◌, ◌-◌, ◌*◌, ◌/◌, ◌%◌, ◌^◌, ◌<◌, ◌≤◌, false, ◌&&◌, length, get_or}
 use mathlib.Core.{Path.◌≡◌, Path.refl, Path.sym, Path.ap, Path.◌∙◌, List.List, List.[], List.◌∷◌, List.◌++◌}
 use mathlib.Core.Bool.{and-false}
 use native.Mathlib.Nat.{pow-suc, pow-succ', pow-zero, pow-le-pow_right, zero-lt-suc, add-mul, mul_assoc, div-one}

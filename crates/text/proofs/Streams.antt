@@ -1,6 +1,6 @@
 -- A line cut off the bytes read so far is the next line of the whole text, whatever follows. Assumes nothing.
 use mathlib.Core.{Path.◌≡◌, Path.refl, Path.ap, Path.◌∙◌, Bool.Bool, Bool.true, Bool.false, Bool.cond, Bool.◌&&◌}
-use Rattle.core.specs.Prelude.{ℕ, suc, ◌+◌, ◌≤◌, List, [], ◌∷◌, ◌++◌}
+use Rattle.std.specs.Prelude.{ℕ, suc, ◌+◌, ◌≤◌, List, [], ◌∷◌, ◌++◌}
 use native.Mathlib.Omega.{arith}
 use lib.{Dec.eqb, ListN.length, ListN.drop, ListN.length-append, Seq.drop-append-le}
 use Rattle.text.specs.Line.{first_line, lines_of}

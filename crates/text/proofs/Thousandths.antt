@@ -1,6 +1,6 @@
 -- Levels of a network: a text reads as so many thousandths exactly if it spells them with three decimals, or with two
 -- and a zero left out. Assumes nothing.
-use Rattle.core.specs.Prelude.{ℕ, ◌+◌, ◌*◌, ◌/◌, ◌%◌, ◌<◌, ◌≤◌, List, [], ◌∷◌, ◌++◌}
+use Rattle.std.specs.Prelude.{ℕ, ◌+◌, ◌*◌, ◌/◌, ◌%◌, ◌<◌, ◌≤◌, List, [], ◌∷◌, ◌++◌}
 use mathlib.Core.{Path.◌≡◌, Path.refl, Path.sym, Path.ap, Path.◌∙◌, Logic.◌⊎◌, Logic.inl, Logic.inr}
 use mathlib.Core.List.{append_assoc, append_cancel_right}
 use native.Mathlib.Omega.{arith}

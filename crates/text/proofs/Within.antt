@@ -1,6 +1,6 @@
 -- Writes within so many bytes, one past the other. Assumes nothing.
 use mathlib.Core.{Path.◌≡◌, List.List, List.[], List.◌∷◌, List.◌++◌}
-use Rattle.core.specs.Prelude.{ℕ, ◌+◌, ◌≤◌, length}
+use Rattle.std.specs.Prelude.{ℕ, ◌+◌, ◌≤◌, length}
 use native.Mathlib.Omega.{arith}
 use lib.ListN.{length-append}
 use Rattle.room.specs.Room.{Wrote}

@@ -1,6 +1,6 @@
 -- Inner steps: no promise uses them. A text written within so many bytes, and how many a number or a level takes.
 -- Assumes nothing.
-use Rattle.core.specs.Prelude.{ℕ, ◌+◌, ◌≤◌, List}
+use Rattle.std.specs.Prelude.{ℕ, ◌+◌, ◌≤◌, List}
 use Rattle.room.specs.Room.{Wrote}
 
 -- a number has at most 20 digits, and a comma may stand before it

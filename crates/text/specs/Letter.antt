@@ -1,5 +1,5 @@
 -- One letter as text, which stands for its place among the letters of its column. Assumes nothing.
-use Rattle.core.specs.Prelude.{ℕ, suc, cond, List, [], ◌∷◌, length, ◌==◌, slice_index}
+use Rattle.std.specs.Prelude.{ℕ, suc, cond, List, [], ◌∷◌, length, ◌==◌, slice_index}
 use Rattle.text.specs.declared.number.Number.{Number}
 use Rattle.text.specs.declared.number.Number.TheVariants.{Got, Off}
 

@@ -1,6 +1,6 @@
 -- The lines of a text. Only CRLF ends a line: a bare one of the two is a byte of its line. The last CRLF may be
 -- missing, and a text of no bytes has no line. Assumes nothing.
-use Rattle.core.specs.Prelude.{ℕ, ◌+◌, ◌-◌, Bool, cond, ◌&&◌, List, [], ◌∷◌, length, take, ◌==◌, nat_le, slice_index}
+use Rattle.std.specs.Prelude.{ℕ, ◌+◌, ◌-◌, Bool, cond, ◌&&◌, List, [], ◌∷◌, length, take, ◌==◌, nat_le, slice_index}
 use Rattle.text.specs.Spelled.{byte}
 
 -- the two bytes are a CRLF

@@ -1,5 +1,5 @@
 -- Texts compared byte for byte.
-use Rattle.core.specs.Prelude.{ℕ, Bool, true, false, ◌&&◌, List, [], ◌∷◌, ◌==◌}
+use Rattle.std.specs.Prelude.{ℕ, Bool, true, false, ◌&&◌, List, [], ◌∷◌, ◌==◌}
 
 unfoldable pub same_text : List ℕ → List ℕ → Bool
 same_text [] [] = true

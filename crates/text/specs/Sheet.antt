@@ -1,5 +1,5 @@
 -- Lines as a text, and the one line of a refusal: RULES, "Files and the report program". Assumes nothing.
-use Rattle.core.specs.Prelude.{◌≡◌, ℕ, List, [], ◌∷◌, ◌++◌, length, slice_index_or}
+use Rattle.std.specs.Prelude.{◌≡◌, ℕ, List, [], ◌∷◌, ◌++◌, length, slice_index_or}
 use Rattle.text.specs.Number.{show_number}
 use Rattle.text.specs.Field.{field_of, joined_by}
 use Rattle.text.specs.Line.{lines_of}

@@ -1,5 +1,5 @@
 -- Texts and bytes spelled as such. Every text of ours has plain characters, of one byte each. Assumes nothing.
-use Rattle.core.specs.Prelude.{ℕ, List, [], ◌∷◌}
+use Rattle.std.specs.Prelude.{ℕ, List, [], ◌∷◌}
 use Prim.Native.Char.{Char, code}
 use Prim.Native.String as string
 use Prim.Native.String.{String}

@@ -1,8 +1,8 @@
 // Times of day as text, hh:mm:ss.
-ghost use Rattle.core.specs.Prelude.{◌≡◌, ◌+◌, ◌≤◌, length};
+ghost use Rattle.std.specs.Prelude.{◌≡◌, ◌+◌, ◌≤◌, length};
 ghost use Rattle.text.specs.Clock.{two_at, time_of};
 
-use crate::core::digits;
+use crate::inner::digits;
 use crate::number::Number;
 
 // Two digits at a place, for a number under `bound`.

@@ -1,5 +1,5 @@
 // A line with its CRLF or without.
-ghost use Rattle.core.specs.Prelude.{◌≡◌, length};
+ghost use Rattle.std.specs.Prelude.{◌≡◌, length};
 ghost use Rattle.text.specs.Line.{bare_line};
 
 // The length of a line without its CRLF, which may be missing.

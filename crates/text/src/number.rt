@@ -1,8 +1,8 @@
 // Whole numbers, levels and levels of a network as text. Each reader takes the whole slice of a field.
-ghost use Rattle.core.specs.Prelude.{◌≡◌};
+ghost use Rattle.std.specs.Prelude.{◌≡◌};
 ghost use Rattle.text.specs.Number.{whole_of, level_of, thousandths_of};
 
-use crate::core::{decimal, digits};
+use crate::inner::{decimal, digits};
 
 // What a field reads as: its value, or that it is off its layout.
 #[derive(Drop)]

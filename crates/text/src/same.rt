@@ -1,5 +1,5 @@
 // Texts compared byte for byte.
-ghost use Rattle.core.specs.Prelude.{◌≡◌};
+ghost use Rattle.std.specs.Prelude.{◌≡◌};
 ghost use Rattle.text.specs.Same.{same_text};
 
 // Whether two texts are the same.

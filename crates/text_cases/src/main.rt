@@ -1,10 +1,12 @@
 // Register rows, headers and limits.csv: the examples of the rules and a table of damaged lines, as the script in the
 // file stdin has them. Each line of output has a text, the answer, and what it should be. A line of the script has its
 // kind, the points and the text or the row's fields and levels, and last what is shown of the answers.
+#![tactic(auto)]
+
 mod read;
 mod written;
 
-use cases::core::line_past;
+use cases::inner::line_past;
 use cases::fields::{letter, text};
 use libc::STDIN_FILENO;
 

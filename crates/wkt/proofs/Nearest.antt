@@ -1,5 +1,5 @@
 -- The rounded place: nearest, halves up, and never past the edge's end. Assumes nothing.
-use Rattle.core.specs.Prelude.{◌≡◌, ℕ, ◌+◌, ◌*◌, ◌%◌, ◌<◌, ◌≤◌}
+use Rattle.std.specs.Prelude.{◌≡◌, ℕ, ◌+◌, ◌*◌, ◌%◌, ◌<◌, ◌≤◌}
 use native.Mathlib.Nat.{mod-lt, div-add-mod', div-lt_iff_lt-mul, add-mul, one-mul, mul_left_comm, mul-le-mul}
 use native.Mathlib.{Nat.mul-le-mul_left, Nat.le_of_lt, Omega.arith}
 use Rattle.network.specs.Limits.{max_side, max_spacing}

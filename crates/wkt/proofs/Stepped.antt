@@ -1,7 +1,7 @@
 -- What `put_step` leaves, wherever printing calls it: the cursor went on, and its buffer is as long as before. Assumes
 -- nothing.
 use mathlib.Core.{Path.◌≡◌, Path.◌∙◌, List.List}
-use Rattle.core.specs.Prelude.{ℕ, ◌≤◌, length}
+use Rattle.std.specs.Prelude.{ℕ, ◌≤◌, length}
 use native.Mathlib.Omega.{arith}
 use Rattle.room.specs.Room.{Wrote}
 use Rattle.room.proofs.Laws.{length_wrote}

@@ -1,6 +1,6 @@
 -- The call that prints the contours of a network, and what it leaves in the room lent to it: RULES, "Files and the
 -- report program". Assumes nothing.
-use Rattle.core.specs.Prelude.{ℕ, ◌&&◌, List, [], ◌∷◌, length}
+use Rattle.std.specs.Prelude.{ℕ, ◌&&◌, List, [], ◌∷◌, length}
 use Rattle.room.specs.Lent.{Lent}
 use Rattle.room.specs.Room.{fits_in, then_room, WritesTwo}
 use Rattle.network.specs.declared.Frame.{Frame}

@@ -1,6 +1,6 @@
 -- Inner steps: no promise uses them. Printing in parts: what is printed by calls one after the other, each with a room
 -- of its own, from a cursor to the end. Assumes nothing.
-use Rattle.core.specs.Prelude.{ℕ, ◌<◌, List, [], ◌++◌, length, take}
+use Rattle.std.specs.Prelude.{ℕ, ◌<◌, List, [], ◌++◌, length, take}
 use Rattle.network.specs.declared.Frame.{Frame}
 use Rattle.wkt.specs.declared.Cursor.{Cursor}
 use Rattle.wkt.specs.declared.Part.{Part}

@@ -1,6 +1,6 @@
 -- Printed contours as the rules lay them out, "Network and contours" and "Files and the report program".
 -- Assumes nothing.
-use Rattle.core.specs.Prelude.{◌≡◌, ℕ, ◌+◌, ◌-◌, ◌*◌, ◌<◌, ◌≤◌, cond, List, [], ◌∷◌, ◌++◌, map, slice_index}
+use Rattle.std.specs.Prelude.{◌≡◌, ℕ, ◌+◌, ◌-◌, ◌*◌, ◌<◌, ◌≤◌, cond, List, [], ◌∷◌, ◌++◌, map, slice_index}
 use Rattle.text.specs.Spelled.{bytes}
 use Rattle.text.specs.Number.{whole_of}
 use Rattle.text.specs.declared.number.Number.TheVariants.{Got}

@@ -1,5 +1,5 @@
 -- The text of contours: RULES, "Files and the report program". Assumes nothing.
-use Rattle.core.specs.Prelude.{ℕ, List, [], ◌∷◌, ◌++◌, map, take}
+use Rattle.std.specs.Prelude.{ℕ, List, [], ◌∷◌, ◌++◌, map, take}
 use Rattle.text.specs.Spelled.{bytes}
 use Rattle.text.specs.Number.{show_decimal}
 use Rattle.network.specs.declared.Frame.{Frame}

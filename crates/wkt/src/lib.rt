@@ -1,16 +1,18 @@
 // Contours printed as well-known text: RULES, "Files and the report program", last paragraph.
-ghost use Rattle.core.specs.Prelude.{◌≤◌, length, take};
+#![tactic(auto)]
+
+ghost use Rattle.std.specs.Prelude.{◌≤◌, length, take};
 ghost use Rattle.network.specs.Edges.{Checked};
 ghost use Rattle.network.specs.Refusals.{contour_refusal};
 ghost use Rattle.wkt.specs.Text.{text_of};
 ghost use Rattle.wkt.specs.Calls.{network_text, Prints};
 ghost use Rattle.wkt.specs.InnerParts.{lines_from, Printable, PrintableNow, text_before};
 
-use contour::core::Progress;
+use contour::inner::Progress;
 use network::Frame;
 use network::limits::{MAX_EDGES, MAX_NETWORK_LEVEL};
 
-pub mod core;
+pub mod inner;
 mod place;
 mod put;
 
@@ -51,10 +53,10 @@ fn print_listed(
     requires { PrintableNow levels frame v edges counts closed }
     ensures { Prints 0 (text_before levels frame v edges counts closed) text size result }
 {
-    let needed = core::text_size(levels, frame, v, edges, counts, closed);
+    let needed = inner::text_size(levels, frame, v, edges, counts, closed);
     if needed <= text.len() {
         if 1 <= size.len() {
-            core::print_part(levels, frame, v, edges, counts, closed, core::first(), text);
+            inner::print_part(levels, frame, v, edges, counts, closed, inner::first(), text);
             size[0] = needed as u32;
             return 0;
         }
@@ -106,7 +108,7 @@ fn print_checked(levels: &[u32], frame: Frame, v: u32, text: &mut [u8], size: &m
     let mut closed = [0u32; MAX_EDGES];
     let nx = frame.columns as usize;
     let ny = frame.rows as usize;
-    let got = contour::core::list_contours(levels, nx, ny, v, &mut edges, &mut counts, &mut closed);
+    let got = contour::inner::list_contours(levels, nx, ny, v, &mut edges, &mut counts, &mut closed);
     print_fronts(levels, frame, v, &edges, &counts, &closed, got, text, size)
 }
 

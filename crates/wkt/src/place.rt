@@ -1,5 +1,5 @@
 // The printed place of a crossing.
-ghost use Rattle.core.specs.Prelude.{◌≡◌, ◌<◌, ◌≤◌, true, ◌⊎◌};
+ghost use Rattle.std.specs.Prelude.{◌≡◌, ◌<◌, ◌≤◌, true, ◌⊎◌};
 ghost use Rattle.network.specs.Limits.{max_side, max_spacing, max_origin};
 ghost use Rattle.network.specs.Edges.{Checked, WithinEdge};
 ghost use Rattle.network.specs.Crossed.{crossed_edge};
@@ -25,8 +25,8 @@ fn slide(v: u32, a: u32, b: u32, spacing: u32) -> u32
 {
     offset(
         spacing,
-        network::core::apart(v, a),
-        network::core::apart(b, a),
+        network::inner::apart(v, a),
+        network::inner::apart(b, a),
     )
 }
 
@@ -49,16 +49,16 @@ pub(crate) fn spot_of(levels: &[u32], frame: Frame, v: u32, e: Edge) -> Spot
     let spacing = frame.spacing;
     match e {
         Edge::Horizontal(row, col) => {
-            let west = network::core::level(levels, nx, ny, row, col);
-            let east = network::core::level(levels, nx, ny, row, col + 1);
+            let west = network::inner::level(levels, nx, ny, row, col);
+            let east = network::inner::level(levels, nx, ny, row, col + 1);
             Spot {
                 x: stand(col, spacing, frame.west) + slide(v, west, east, spacing),
                 y: stand(row, spacing, frame.south),
             }
         }
         Edge::Vertical(row, col) => {
-            let south = network::core::level(levels, nx, ny, row, col);
-            let north = network::core::level(levels, nx, ny, row + 1, col);
+            let south = network::inner::level(levels, nx, ny, row, col);
+            let north = network::inner::level(levels, nx, ny, row + 1, col);
             Spot {
                 x: stand(col, spacing, frame.west),
                 y: stand(row, spacing, frame.south) + slide(v, south, north, spacing),

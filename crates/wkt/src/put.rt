@@ -1,5 +1,5 @@
 // Pieces of the text put into a buffer that has room.
-ghost use Rattle.core.specs.Prelude.{◌≡◌, ◌+◌, ◌-◌, ◌<◌, ◌≤◌, true, length, if◌then◌else◌, nat_lt};
+ghost use Rattle.std.specs.Prelude.{◌≡◌, ◌+◌, ◌-◌, ◌<◌, ◌≤◌, true, length, if◌then◌else◌, nat_lt};
 ghost use Rattle.room.specs.Room.{Wrote};
 ghost use Rattle.network.specs.Edges.{edges, Checked};
 ghost use Rattle.network.specs.Crossed.{crossed_at};
@@ -20,9 +20,9 @@ pub(crate) fn put_spot(out: &mut [u8], at: usize, spot: Spot) -> usize
 {
     let x = spot.x;
     let y = spot.y;
-    let space = text::core::put_decimal(out, at, x, DECIMALS);
-    let next = text::core::put_byte(out, space, b' ');
-    text::core::put_decimal(out, next, y, DECIMALS)
+    let space = text::inner::put_decimal(out, at, x, DECIMALS);
+    let next = text::inner::put_byte(out, space, b' ');
+    text::inner::put_decimal(out, next, y, DECIMALS)
 }
 
 // The place of the crossing on the edge of a number.
@@ -35,7 +35,7 @@ fn put_place(levels: &[u32], frame: Frame, v: u32, n: u32, out: &mut [u8], at: u
 {
     let nx = frame.columns as usize;
     let ny = frame.rows as usize;
-    let edge = network::core::edge_at(nx, ny, n as usize);
+    let edge = network::inner::edge_at(nx, ny, n as usize);
     put_spot(out, at, spot_of(levels, frame, v, edge))
 }
 
@@ -45,9 +45,9 @@ fn put_end(piece: &mut [u8], line: usize) -> usize
     ensures { Wrote piece.old 0 (end_text line) piece.new result }
 {
     if line == 0 {
-        return text::core::put_text(piece, 0, b"MULTILINESTRING EMPTY");
+        return text::inner::put_text(piece, 0, b"MULTILINESTRING EMPTY");
     }
-    text::core::put_byte(piece, 0, b')')
+    text::inner::put_byte(piece, 0, b')')
 }
 
 // What stands before a point.
@@ -57,11 +57,11 @@ fn put_before(piece: &mut [u8], line: usize, point: usize) -> usize
 {
     if point == 0 {
         if line == 0 {
-            return text::core::put_text(piece, 0, b"MULTILINESTRING ((");
+            return text::inner::put_text(piece, 0, b"MULTILINESTRING ((");
         }
-        return text::core::put_text(piece, 0, b", (");
+        return text::inner::put_text(piece, 0, b", (");
     }
-    text::core::put_text(piece, 0, b", ")
+    text::inner::put_text(piece, 0, b", ")
 }
 
 // The place of a point's edge past the line's first: past the last edge a closed line is at its first again.
@@ -113,7 +113,7 @@ pub(crate) fn put_step(
                 start: start + count,
                 point: 0,
             },
-            size: text::core::put_byte(piece, 0, b')'),
+            size: text::inner::put_byte(piece, 0, b')'),
         };
     }
     let n = listed[start + around(point, count)];

@@ -1,5 +1,5 @@
 -- `book_cases::run` is safe and ends: each line starts past the one before it. Assumes nothing.
-use Rattle.core.specs.Prelude.{◌-◌, ◌≤◌, length}
+use Rattle.std.specs.Prelude.{◌-◌, ◌≤◌, length}
 use borrow.Author.Rules.{rules}
 use Rattle.book_cases.proofs.run.Statement.{statement}
 use Rattle.book_cases.proofs.run.Tie as tie

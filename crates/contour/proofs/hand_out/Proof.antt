@@ -1,6 +1,6 @@
 -- `contour::hand_out` meets its contract. Assumes nothing.
 use borrow.Author.Rules.{rules}
-use Rattle.core.specs.Prelude.{◌≡◌, ◌≤◌}
+use Rattle.std.specs.Prelude.{◌≡◌, ◌≤◌}
 use mathlib.Core.Path.{refl, sym, ◌∙◌}
 use lib.{ListN.length, ListN.take, Seq.length-take-le}
 use Rattle.contour.proofs.{Buffers.all_fit, Handing.outcomes}

@@ -1,6 +1,6 @@
 -- `contour::list_apart` meets its contract. Assumes nothing.
 use borrow.Author.Rules.{rules}
-use Rattle.core.specs.Prelude.{ℕ, ◌≤◌, length, replicate}
+use Rattle.std.specs.Prelude.{ℕ, ◌≤◌, length, replicate}
 use native.Mathlib.Omega.{arith}
 use lib.ListN.{length-replicate}
 use Rattle.network.specs.{Limits.max_side, Limits.max_edges, Edges.edges}

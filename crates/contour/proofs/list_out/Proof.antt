@@ -2,7 +2,7 @@
 use borrow.Author.Rules.{rules}
 use mathlib.Core.Path.{sym, ◌∙◌}
 use native.Mathlib.Omega.{arith}
-use Rattle.core.specs.Prelude.{length}
+use Rattle.std.specs.Prelude.{length}
 use Rattle.contour.proofs.Buffers.{all_fit}
 use Rattle.contour.proofs.list_out.Statement.{statement}
 use Rattle.contour.proofs.list_out.Tie as tie

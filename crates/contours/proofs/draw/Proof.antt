@@ -1,7 +1,7 @@
 -- `contours::draw`: the network that was stored is the text's, and the levels in front of their room are the words'.
 -- Assumes nothing.
 use mathlib.Core.{Path.◌≡◌, Path.sym, List.List}
-use Rattle.core.specs.Prelude.{ℕ, ◌*◌, ◌≤◌}
+use Rattle.std.specs.Prelude.{ℕ, ◌*◌, ◌≤◌}
 use native.Mathlib.Omega.{arith}
 use lib.{ListN.length, ListN.get_or, Seq.length-take-le}
 use Rattle.grid.specs.Read.{text_frame, text_levels}

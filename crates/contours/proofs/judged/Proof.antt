@@ -1,5 +1,5 @@
 -- `contours::judged`: a network that is not refused is stored. Assumes nothing.
-use Rattle.core.specs.Prelude.{◌≡◌, ℕ, replicate}
+use Rattle.std.specs.Prelude.{◌≡◌, ℕ, replicate}
 use mathlib.Core.Path.{refl, sym, ◌∙◌}
 use native.Mathlib.Omega.{arith}
 use lib.ListN.{length-replicate}

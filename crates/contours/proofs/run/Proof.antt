@@ -1,6 +1,6 @@
 -- `contours::run`: what was read and gathered is handed on. Assumes nothing.
 use mathlib.Core.Path.{◌∙◌}
-use Rattle.core.specs.Prelude.{ℕ}
+use Rattle.std.specs.Prelude.{ℕ}
 use lib.ListN.{length-replicate}
 use borrow.Author.Rules.{rules}
 use Rattle.contours.proofs.run.Statement.{statement}

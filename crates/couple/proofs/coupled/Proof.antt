@@ -1,6 +1,6 @@
 -- `couple::coupled`: what was read may be coupled, and what went is the sheet. Assumes nothing.
 use mathlib.Core.Path.{refl}
-use Rattle.core.specs.Prelude.{ℕ, ◌-◌, ◌≤◌, length, replicate}
+use Rattle.std.specs.Prelude.{ℕ, ◌-◌, ◌≤◌, length, replicate}
 use native.Mathlib.Omega.{arith}
 use lib.ListN.{length-replicate}
 use borrow.Author.Rules.{rules}

@@ -1,6 +1,6 @@
 -- `couple::run`: tracks.csv is read into its table, and is refused, or the movements follow. Assumes nothing.
 use mathlib.Core.Path.{refl, ◌∙◌}
-use Rattle.core.specs.Prelude.{ℕ}
+use Rattle.std.specs.Prelude.{ℕ}
 use native.Mathlib.Omega.{arith}
 use lib.ListN.{length-replicate}
 use borrow.Author.Rules.{rules}

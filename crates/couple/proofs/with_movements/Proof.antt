@@ -1,7 +1,7 @@
 -- `couple::with_movements`: the movements are read into a table of their own, and are refused or coupled.
 -- Assumes nothing.
 use mathlib.Core.Path.{◌∙◌}
-use Rattle.core.specs.Prelude.{ℕ}
+use Rattle.std.specs.Prelude.{ℕ}
 use native.Mathlib.Omega.{arith}
 use lib.ListN.{length-replicate}
 use borrow.Author.Rules.{rules}

@@ -1,5 +1,5 @@
 -- `coupling::couple` meets its contract: nothing is written before 18 and 14 are found not to hold. Assumes nothing.
-use Rattle.core.specs.Prelude.{length}
+use Rattle.std.specs.Prelude.{length}
 use Rattle.coupling_rules.specs.Flights.{Flights, Movements, flights_now, movements_now}
 use Rattle.coupling_rules.specs.{Rule.tracks_for, Refusals.couple_refusal}
 use Rattle.coupling_rules.proofs.Packing.{length_tracks}

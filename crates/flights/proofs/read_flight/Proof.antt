@@ -1,6 +1,6 @@
 -- `flights::read_flight` meets its contract: so many columns have a layout, and the line without its end is read.
 -- Assumes nothing.
-use Rattle.core.specs.Prelude.{◌≤◌}
+use Rattle.std.specs.Prelude.{◌≤◌}
 use mathlib.Core.{Path.◌≡◌, Path.sym, Path.ap, Path.◌∙◌, Bool.true, Logic.⊎_elim}
 use native.Mathlib.Omega.{arith}
 use borrow.Author.Rules.{rules}

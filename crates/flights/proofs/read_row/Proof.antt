@@ -1,6 +1,6 @@
 -- `flights::read_row` meets its contract. The invariant: every field passed is on its layout, its value is noted, and
 -- here the next one starts. Assumes nothing.
-use Rattle.core.specs.Prelude.{◌+◌, ◌-◌, ◌<◌, ◌≤◌, length, drop, set}
+use Rattle.std.specs.Prelude.{◌+◌, ◌-◌, ◌<◌, ◌≤◌, length, drop, set}
 use mathlib.Core.{Path.◌≡◌, Path.refl, Path.sym, Path.ap, Path.◌∙◌, Bool.true}
 use native.Mathlib.Omega.{arith}
 use borrow.Author.Rules.{rules}

@@ -1,5 +1,5 @@
 -- `journal::replay_refusal` meets its contract. Assumes nothing.
-use Rattle.core.specs.Prelude.{◌≡◌}
+use Rattle.std.specs.Prelude.{◌≡◌}
 use lib.{Dec.leb, ListN.length}
 use borrow.Author.{Tests.lt-leb, Tests.le-leb, Needs.needs}
 use Rattle.refusal.specs.Refuse.{refuse}

@@ -1,6 +1,6 @@
 -- `load::answer_from` meets its contract: the sums give refusal 10 or the total and its level. Assumes nothing.
 use mathlib.Core.{Path.◌≡◌, Path.sym, Path.◌∙◌, Bool.◌&&◌}
-use Rattle.core.specs.Prelude.{◌+◌, eqb, ltb}
+use Rattle.std.specs.Prelude.{◌+◌, eqb, ltb}
 use Rattle.load_rules.specs.{Factors.known_sum, Factors.unknown_sum, Load.counts_of}
 use Rattle.load.specs.InnerSteps.{group_at, Scalable}
 use Rattle.load.proofs.SumsLaws.{sums_fit, sums_totals, sums_none, from_refused, from_answered}

@@ -2,7 +2,7 @@
 -- Assumes nothing.
 use mathlib.Core.Path.{ap, ◌∙◌}
 use native.Mathlib.Omega.{arith}
-use Rattle.core.specs.Prelude.{length}
+use Rattle.std.specs.Prelude.{length}
 use Rattle.book_rules.specs.Columns.{Book, book_now}
 use Rattle.load_rules.specs.{Shares.book_shares, Tally.tally}
 use Rattle.load.specs.InnerSteps.{group_at, load_from}

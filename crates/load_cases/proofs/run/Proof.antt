@@ -1,6 +1,6 @@
 -- `load_cases::run` is safe and ends: each line starts past the one before it, and the columns keep their lengths.
 -- Assumes nothing.
-use Rattle.core.specs.Prelude.{◌≡◌, ◌-◌, ◌≤◌, length}
+use Rattle.std.specs.Prelude.{◌≡◌, ◌-◌, ◌≤◌, length}
 use borrow.Author.Rules.{rules}
 use Rattle.load_cases.proofs.run.Statement.{statement}
 use Rattle.load_cases.proofs.run.Tie as tie

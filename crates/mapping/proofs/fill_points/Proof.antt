@@ -1,5 +1,5 @@
 -- `mapping::fill_points` meets its contract. Assumes nothing.
-use Rattle.core.specs.Prelude.{◌≡◌, ◌-◌, ◌≤◌}
+use Rattle.std.specs.Prelude.{◌≡◌, ◌-◌, ◌≤◌}
 use mathlib.Core.Path.{ap, ◌∙◌}
 use lib.{ListN.length, ListN.get_or, ListN.take, ListN.length-set, Seq.take_all}
 use borrow.Author.Rules.{rules}

@@ -1,5 +1,5 @@
 -- `mapping::map_points` meets its contract. Assumes nothing.
-use Rattle.core.specs.Prelude.{◌≡◌}
+use Rattle.std.specs.Prelude.{◌≡◌}
 use mathlib.Core.Path.{sym, ◌∙◌}
 use native.Mathlib.Omega.{arith}
 use Rattle.room.proofs.Answers.{fault_two}

@@ -1,5 +1,5 @@
 -- `mapping::put_crossing` meets its contract. Assumes nothing.
-use Rattle.core.specs.Prelude.{◌≡◌}
+use Rattle.std.specs.Prelude.{◌≡◌}
 use mathlib.Core.Path.{sym, ◌∙◌}
 use Rattle.room.proofs.Fronts.{front_one_lem}
 use Rattle.room.proofs.Answers.{write_both, short_first, short_second, fault_two}

@@ -1,5 +1,5 @@
 -- `network::is_filled` meets its contract. Assumes nothing.
-use Rattle.core.specs.Prelude.{◌≤◌}
+use Rattle.std.specs.Prelude.{◌≤◌}
 use native.Mathlib.{Nat.mul-le-mul, Omega.arith}
 use borrow.Author.Rules.{rules}
 use Rattle.network.proofs.is_filled.Statement.{statement}

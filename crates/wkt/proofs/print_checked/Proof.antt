@@ -1,5 +1,5 @@
 -- `wkt::print_checked` meets its contract. Assumes nothing.
-use Rattle.core.specs.Prelude.{ℕ, ◌≤◌, length, replicate}
+use Rattle.std.specs.Prelude.{ℕ, ◌≤◌, length, replicate}
 use native.Mathlib.Omega.{arith}
 use lib.ListN.{length-replicate}
 use Rattle.network.specs.{Limits.max_side, Limits.max_edges, Edges.edges}

@@ -1,5 +1,5 @@
 -- `wkt::print_contours` meets its contract. Assumes nothing.
-use Rattle.core.specs.Prelude.{◌≡◌}
+use Rattle.std.specs.Prelude.{◌≡◌}
 use mathlib.Core.Path.{sym, ◌∙◌}
 use Rattle.room.proofs.Answers.{fault_two}
 use Rattle.network.specs.Refusals.{contour_refusal}

@@ -1,6 +1,6 @@
 -- `wkt::print_listed` meets its contract. Assumes nothing.
 use mathlib.Core.{Path.refl, Path.ap, Path.◌∙◌, List.List}
-use Rattle.core.specs.Prelude.{ℕ, ◌≤◌, length, set}
+use Rattle.std.specs.Prelude.{ℕ, ◌≤◌, length, set}
 use native.Mathlib.Omega.{arith}
 use Rattle.room.proofs.{Fronts.front_one_lem, Answers.write_both, Answers.short_first, Answers.short_second}
 use Rattle.wkt.specs.{Text.text_of, InnerParts.lines_from}

@@ -1,6 +1,6 @@
 -- `book::place::place_of` meets its contract: the place is never outside low to high. Assumes nothing.
 use mathlib.Core.Path.{sym, ◌∙◌}
-use Rattle.core.specs.Prelude.{◌-◌, ◌≤◌, length}
+use Rattle.std.specs.Prelude.{◌-◌, ◌≤◌, length}
 use native.Mathlib.Omega.{arith}
 use borrow.Author.Rules.{rules}
 use Rattle.book_rules.specs.Columns.{place_of}

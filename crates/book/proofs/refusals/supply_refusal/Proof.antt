@@ -1,6 +1,6 @@
 -- `book::refusals::supply_refusal` meets its contract. Assumes nothing.
 use mathlib.Core.{Path.◌≡◌, Path.refl, Path.sym, Path.◌∙◌, Bool.Bool}
-use Rattle.core.specs.Prelude.{◌+◌, ◌*◌, ◌≤◌, length}
+use Rattle.std.specs.Prelude.{◌+◌, ◌*◌, ◌≤◌, length}
 use native.Mathlib.Omega.{arith}
 use borrow.Author.{Tests.not-true, Tests.not-false, Needs.needs}
 use Rattle.refusal.specs.Refuse.{refuse}

@@ -1,6 +1,6 @@
 -- `book::refusals::take_back_refusal` meets its contract: it is refused as a withdrawal is, and then for the mark.
 -- Assumes nothing.
-use Rattle.core.specs.Prelude.{◌≡◌, ◌<◌, length}
+use Rattle.std.specs.Prelude.{◌≡◌, ◌<◌, length}
 use mathlib.Core.Path.{refl, sym, ◌∙◌}
 use native.Mathlib.Omega.{arith}
 use borrow.Author.{Tests.eq-eqb, Tests.ne_eqb, Needs.needs}

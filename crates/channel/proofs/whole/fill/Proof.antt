@@ -1,7 +1,7 @@
 -- `channel::whole::fill` meets its contract. The loop's invariant: what came stands at the front of the buffer.
 -- Assumes nothing.
 use mathlib.Core.{Path.◌≡◌, Path.refl, Path.◌∙◌, List.List}
-use Rattle.core.specs.Prelude.{ℕ, ◌+◌, ◌-◌, ◌≤◌, length, take}
+use Rattle.std.specs.Prelude.{ℕ, ◌+◌, ◌-◌, ◌≤◌, length, take}
 use native.Mathlib.Omega.{arith}
 use borrow.Author.Rules.{rules}
 use borrow.Rule.Slice.PartMut.{put_mid}

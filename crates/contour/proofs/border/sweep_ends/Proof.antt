@@ -1,6 +1,6 @@
 -- `contour::border::sweep_ends` meets its contract. Assumes nothing.
 use borrow.Author.Rules.{rules}
-use Rattle.core.specs.Prelude.{ℕ, ◌-◌, ◌*◌, ◌<◌, ◌≤◌}
+use Rattle.std.specs.Prelude.{ℕ, ◌-◌, ◌*◌, ◌<◌, ◌≤◌}
 use native.Mathlib.Omega.{arith}
 use Rattle.network.specs.Edges.{edges, number_of}
 use Rattle.network.specs.declared.Edge.TheVariants.{Vertical}

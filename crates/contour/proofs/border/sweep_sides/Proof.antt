@@ -1,6 +1,6 @@
 -- `contour::border::sweep_sides` meets its contract. Assumes nothing.
 use mathlib.Core.{Path.◌≡◌, Path.sym, Bool.false}
-use Rattle.core.specs.Prelude.{◌-◌, ◌<◌}
+use Rattle.std.specs.Prelude.{◌-◌, ◌<◌}
 use native.Mathlib.Omega.{arith}
 use Rattle.contour_rules.specs.Picture.{picture}
 use Rattle.contour.specs.InnerDesk.{desk, Sweeps}

@@ -1,7 +1,7 @@
 -- `contour::fill::copy_front` meets its contract. Assumes nothing.
 use borrow.Author.Rules.{rules}
 use mathlib.Core.{Path.◌≡◌, Path.◌∙◌, List.◌++◌}
-use Rattle.core.specs.Prelude.{◌-◌, ◌≤◌, length, take, drop}
+use Rattle.std.specs.Prelude.{◌-◌, ◌≤◌, length, take, drop}
 use native.Mathlib.Omega.{arith}
 use lib.ListN.{length-set}
 use Rattle.contour.proofs.Buffers.{copy_more}

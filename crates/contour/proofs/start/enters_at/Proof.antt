@@ -1,6 +1,6 @@
 -- `contour::start::enters_at` meets its contract. Assumes nothing.
 use borrow.Author.Rules.{rules}
-use Rattle.core.specs.Prelude.{◌≡◌}
+use Rattle.std.specs.Prelude.{◌≡◌}
 use mathlib.Core.Path.{sym, ◌∙◌}
 use Rattle.network.specs.Edges.{WithinEdge}
 use Rattle.network.proofs.Numbers.{found_within}

@@ -1,7 +1,7 @@
 -- `contour::sweep::first_waiting` meets its contract. Assumes nothing.
 use borrow.Author.{Needs.needs, Tests.ne_eqb}
 use mathlib.Core.{Path.◌≡◌, Path.subst, Path.sym, Bool.false, Logic.⊎_elim}
-use Rattle.core.specs.Prelude.{ℕ, ◌-◌, ◌<◌, ◌≤◌}
+use Rattle.std.specs.Prelude.{ℕ, ◌-◌, ◌<◌, ◌≤◌}
 use native.Mathlib.Omega.{arith}
 use Rattle.contour_rules.specs.Contours.{waits}
 use Rattle.contour_rules.proofs.Waiting.{is_or_not}

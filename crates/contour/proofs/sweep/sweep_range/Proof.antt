@@ -1,6 +1,6 @@
 -- `contour::sweep::sweep_range` meets its contract: while edges are tried, the buffers hold what the edges below n
 -- gave. Assumes nothing.
-use Rattle.core.specs.Prelude.{◌≡◌, ◌-◌, ◌≤◌}
+use Rattle.std.specs.Prelude.{◌≡◌, ◌-◌, ◌≤◌}
 use mathlib.Core.Path.{sym}
 use native.Mathlib.Omega.{arith}
 use Rattle.contour_rules.specs.Picture.{picture}

@@ -2,7 +2,7 @@
 -- wait. Assumes nothing.
 use borrow.Author.Rules.{rules}
 use mathlib.Core.{Path.◌≡◌, Path.sym, Path.◌∙◌, Bool.true}
-use Rattle.core.specs.Prelude.{◌<◌, length}
+use Rattle.std.specs.Prelude.{◌<◌, length}
 use native.Mathlib.Omega.{arith}
 use Rattle.network.specs.Edges.{edges}
 use Rattle.network.proofs.Numbers.{edges_le}

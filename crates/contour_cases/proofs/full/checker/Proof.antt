@@ -1,6 +1,6 @@
 -- `contour_cases::full::checker` meets its contract. Assumes nothing.
 use borrow.Author.Rules.{rules}
-use Rattle.core.specs.Prelude.{◌≡◌, ◌-◌, ◌≤◌, length}
+use Rattle.std.specs.Prelude.{◌≡◌, ◌-◌, ◌≤◌, length}
 use mathlib.Core.Path.{◌∙◌}
 use lib.ListN.{length-set}
 use Rattle.contour_cases.proofs.full.checker.Statement.{statement}

@@ -1,5 +1,5 @@
 -- `contours::input::word_at` meets its contract: the argument is handed over into the room of a word. Assumes nothing.
-use Rattle.core.specs.Prelude.{◌≡◌, ℕ, length}
+use Rattle.std.specs.Prelude.{◌≡◌, ℕ, length}
 use mathlib.Core.Path.{◌∙◌}
 use lib.ListN.{length-replicate}
 use borrow.Author.Rules.{rules}

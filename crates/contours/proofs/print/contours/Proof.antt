@@ -1,6 +1,6 @@
 -- `contours::print::contours` meets its contract: the buffers have room for the edges of every network, and the listed
 -- contours are the network's. Assumes nothing.
-use Rattle.core.specs.Prelude.{ℕ, ◌≤◌, length, replicate}
+use Rattle.std.specs.Prelude.{ℕ, ◌≤◌, length, replicate}
 use native.Mathlib.Omega.{arith}
 use lib.ListN.{length-replicate}
 use Rattle.network.specs.Edges.{edges}

@@ -1,5 +1,5 @@
 -- `contours::print::lines` meets its contract: the lines of the levels from i on are due. Assumes nothing.
-use Rattle.core.specs.Prelude.{◌+◌, ◌-◌, ◌≤◌, length, get_or, drop}
+use Rattle.std.specs.Prelude.{◌+◌, ◌-◌, ◌≤◌, length, get_or, drop}
 use native.Mathlib.Omega.{arith}
 use borrow.Author.{Needs.needs, Tests.not-true, Tests.not-false}
 use Rattle.channel.specs.Due.{Due, Sends}

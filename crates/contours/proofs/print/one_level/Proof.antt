@@ -1,6 +1,6 @@
 -- `contours::print::one_level` meets its contract: the start, the text and the end are due one behind the other.
 -- Assumes nothing.
-use Rattle.core.specs.Prelude.{ℕ, List, ◌++◌, get_or}
+use Rattle.std.specs.Prelude.{ℕ, List, ◌++◌, get_or}
 use Rattle.wkt.specs.Calls.{network_text}
 use Rattle.contours_steps.specs.Sheet.{line_end, line_start}
 use Rattle.channel.proofs.Dues.{due_front, due_rest, sends_lost, sends_then}

@@ -1,7 +1,7 @@
 -- `contours::print::parts` meets its contract: what is left of the text is due where the last part ended.
 -- Assumes nothing.
 use mathlib.Core.{Path.◌≡◌, Path.sym, Path.ap, Logic.⊎_elim}
-use Rattle.core.specs.Prelude.{◌+◌, ◌-◌, min}
+use Rattle.std.specs.Prelude.{◌+◌, ◌-◌, min}
 use native.Mathlib.Omega.{arith}
 use lib.{ListN.length, ListN.take, ListN.length-append, Seq.length-take-le}
 use borrow.Author.{Needs.needs, Tests.not-true, Tests.not-false}

@@ -1,5 +1,5 @@
 -- `contours::say::first_off` is safe: the loop stays within the arguments. Assumes nothing.
-use Rattle.core.specs.Prelude.{◌-◌, ◌≤◌}
+use Rattle.std.specs.Prelude.{◌-◌, ◌≤◌}
 use borrow.Author.Rules.{rules}
 use Rattle.contours.proofs.say.first_off.Statement.{statement}
 use Rattle.contours.proofs.say.first_off.Tie as tie

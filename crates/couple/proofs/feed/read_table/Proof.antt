@@ -1,5 +1,5 @@
 -- `couple::feed::read_table` meets its contract: all bytes that came, and where their reading stands. Assumes nothing.
-use Rattle.core.specs.Prelude.{◌≡◌, ◌-◌, ◌^◌, [], length}
+use Rattle.std.specs.Prelude.{◌≡◌, ◌-◌, ◌^◌, [], length}
 use mathlib.Core.Path.{refl}
 use native.Mathlib.Omega.{arith}
 use borrow.Author.Rules.{rules}

@@ -1,5 +1,5 @@
 -- `couple::print::sheet` meets its contract: the lines of the movements from i on are due. Assumes nothing.
-use Rattle.core.specs.Prelude.{◌≡◌, ◌-◌, ◌≤◌}
+use Rattle.std.specs.Prelude.{◌≡◌, ◌-◌, ◌≤◌}
 use mathlib.Core.Path.{refl, sym, ◌∙◌}
 use native.Mathlib.Omega.{arith}
 use lib.{ListN.length, ListN.take, Seq.length-take-le}

@@ -1,6 +1,6 @@
 -- `couple::say::count` is safe: no count is more than the movements before i. Assumes nothing.
 use mathlib.Core.Logic.{⊎_elim}
-use Rattle.core.specs.Prelude.{◌-◌, ◌≤◌}
+use Rattle.std.specs.Prelude.{◌-◌, ◌≤◌}
 use native.Mathlib.Omega.{arith}
 use borrow.Author.Rules.{rules}
 use Rattle.couple.proofs.say.count.Statement.{statement}

@@ -1,6 +1,6 @@
 -- `coupling::fit::all_exist` meets its contract. The loop's invariant: all dates exist exactly if those still to be
 -- read do. Assumes nothing.
-use Rattle.core.specs.Prelude.{◌≡◌, ◌-◌, ◌≤◌, length, drop}
+use Rattle.std.specs.Prelude.{◌≡◌, ◌-◌, ◌≤◌, length, drop}
 use mathlib.Core.Path.{sym, ◌∙◌}
 use native.Mathlib.Omega.{arith}
 use Rattle.refusal.proofs.Laws.{passed, failed}

@@ -1,6 +1,6 @@
 -- `coupling::gap::gap_between` meets its contract: two classes are one exactly if both of their numbers are. Assumes
 -- nothing.
-use Rattle.core.specs.Prelude.{◌≡◌}
+use Rattle.std.specs.Prelude.{◌≡◌}
 use native.Mathlib.Omega.{arith}
 use Rattle.coupling_rules.specs.InnerPacked.{ranked}
 use Rattle.coupling.proofs.Ranking.{high_other, low_other, gap_other, gap_near, gap_far}

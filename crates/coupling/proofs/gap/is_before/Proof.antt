@@ -1,6 +1,6 @@
 -- `coupling::gap::is_before` meets its contract: the weightier numbers decide, and where they are equal the next.
 -- Assumes nothing.
-use Rattle.core.specs.Prelude.{◌≡◌}
+use Rattle.std.specs.Prelude.{◌≡◌}
 use native.Mathlib.Omega.{arith}
 use Rattle.coupling_rules.specs.InnerPacked.{ranked}
 use Rattle.coupling_rules.proofs.Gapped.{ranked_high, ranked_low}

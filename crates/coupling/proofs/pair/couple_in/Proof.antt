@@ -1,7 +1,7 @@
 -- `coupling::pair::couple_in` meets its contract: both orders are by class and moment, and sorting the movements by
 -- class as well changes no answer. Assumes nothing.
 use mathlib.Core.{Path.◌≡◌, Path.ap, Path.◌∙◌, List.List}
-use Rattle.core.specs.Prelude.{ℕ, ◌≤◌, length}
+use Rattle.std.specs.Prelude.{ℕ, ◌≤◌, length}
 use native.Mathlib.Omega.{arith}
 use Rattle.coupling_rules.specs.Rule.{couple, places}
 use Rattle.coupling_rules.specs.InnerPacked.{Packed, packed_now, moment_in, in_order, gaps_in}

@@ -1,7 +1,7 @@
 -- `coupling::pair::pair` meets its contract. The loop's invariant: the tracks that are free stand in the two lists, and
 -- what the rest of the turns makes of the answers so far is the whole. Assumes nothing.
 use mathlib.Core.{Path.◌≡◌, Path.refl, Path.sym, Path.ap, Path.subst, Path.◌∙◌, List.List, List.[]}
-use Rattle.core.specs.Prelude.{ℕ, ◌+◌, ◌-◌, ◌<◌, ◌≤◌}
+use Rattle.std.specs.Prelude.{ℕ, ◌+◌, ◌-◌, ◌<◌, ◌≤◌}
 use native.Mathlib.Omega.{arith}
 use lib.{ListN.length, ListN.get_or, ListN.drop, ListN.set, ListN.length-set, Seq.drop-length}
 use Rattle.coupling_rules.specs.Rule.{couple, places}

@@ -1,7 +1,7 @@
 -- `coupling::turn::pull` meets its contract. The loop's invariant: whatever was free stands in the two lists as they
 -- are now, and nothing before the movement's rank was passed by. Assumes nothing.
 use mathlib.Core.{Path.◌≡◌, Path.refl, Path.sym, Path.ap, Path.subst, Path.◌∙◌, List.List, List.◌++◌}
-use Rattle.core.specs.Prelude.{ℕ, ◌+◌, ◌-◌, ◌<◌, ◌≤◌}
+use Rattle.std.specs.Prelude.{ℕ, ◌+◌, ◌-◌, ◌<◌, ◌≤◌}
 use native.Mathlib.Omega.{arith}
 use lib.{ListN.length, ListN.get_or, ListN.take, ListN.drop, ListN.drop_of_length-le, Seq.drop-drop}
 use borrow.Author.{Tests.ltb-true, Tests.ltb-false, Needs.needs}

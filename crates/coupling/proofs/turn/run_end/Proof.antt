@@ -1,6 +1,6 @@
 -- `coupling::turn::run_end` meets its contract. The loop's invariant: what was passed and what of the run is still to
 -- come make the whole run. Assumes nothing.
-use Rattle.core.specs.Prelude.{◌≡◌, ◌+◌, ◌-◌, ◌≤◌, length, get_or, drop}
+use Rattle.std.specs.Prelude.{◌≡◌, ◌+◌, ◌-◌, ◌≤◌, length, get_or, drop}
 use mathlib.Core.Path.{refl}
 use native.Mathlib.Omega.{arith}
 use borrow.Author.{Tests.eqb-true, Tests.eqb-false, Needs.needs}

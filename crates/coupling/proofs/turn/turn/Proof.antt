@@ -1,7 +1,7 @@
 -- `coupling::turn::turn` meets its contract: what stood before the movement is pulled over, so the best is the first of
 -- the nearer list, and none fits where neither first does. Assumes nothing.
 use mathlib.Core.{Path.◌≡◌, List.List}
-use Rattle.core.specs.Prelude.{ℕ, ◌-◌, ◌*◌, ◌<◌, length, drop}
+use Rattle.std.specs.Prelude.{ℕ, ◌-◌, ◌*◌, ◌<◌, length, drop}
 use native.Mathlib.Omega.{arith}
 use Rattle.sorting.specs.Sorted.{key_of}
 use Rattle.coupling_rules.specs.InnerSides.{Turned}

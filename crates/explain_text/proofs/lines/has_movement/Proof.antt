@@ -1,6 +1,6 @@
 -- `explain_text::lines::has_movement` meets its contract: one of two numbers is above 0, or neither. Assumes nothing.
 use mathlib.Core.Path.{sym}
-use Rattle.core.specs.Prelude.{◌+◌}
+use Rattle.std.specs.Prelude.{◌+◌}
 use native.Mathlib.Omega.{arith}
 use borrow.Author.Tests.{lt-ltb, le-ltb}
 use Rattle.explain_text.proofs.lines.has_movement.Statement.{statement}

@@ -1,7 +1,7 @@
 -- `files::feed::read_on` meets its contract: a read leaves the bytes that waited as they were, and what it gave is a
 -- piece, the end or a failure. Assumes nothing.
 use mathlib.Core.{Path.◌≡◌, Path.sym, List.List}
-use Rattle.core.specs.Prelude.{ℕ, ◌+◌, ◌-◌, ◌≤◌}
+use Rattle.std.specs.Prelude.{ℕ, ◌+◌, ◌-◌, ◌≤◌}
 use native.Mathlib.Omega.{arith}
 use lib.{ListN.length, ListN.take, Seq.length-take-le}
 use borrow.Rule.Slice.PartMut.{put_mid, take_put}

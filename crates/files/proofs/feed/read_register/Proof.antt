@@ -1,7 +1,7 @@
 -- `files::feed::read_register` meets its contract: all bytes that came, and where their reading stands.
 -- Assumes nothing.
 use mathlib.Core.{Path.◌≡◌, Path.refl, Bool.true}
-use Rattle.core.specs.Prelude.{◌-◌, ◌^◌, length}
+use Rattle.std.specs.Prelude.{◌-◌, ◌^◌, length}
 use native.Mathlib.Omega.{arith}
 use borrow.Author.Rules.{rules}
 use Rattle.book_rules.specs.Columns.{book_of, sound}

@@ -1,7 +1,7 @@
 -- `flights::cell::circuit` meets its contract. Assumes nothing.
 use mathlib.Core.Path.{sym, ◌∙◌}
 use borrow.Author.{Tests.eq-eqb, Tests.ne_eqb, Needs.needs}
-use Rattle.core.specs.Prelude.{length}
+use Rattle.std.specs.Prelude.{length}
 use Rattle.flights.specs.Cell.{circuit_of}
 use Rattle.flights.proofs.cell.circuit.Statement.{statement}
 use Rattle.flights.proofs.cell.circuit.Tie as tie

@@ -1,5 +1,5 @@
 -- `flights::day::date` meets its contract: the three tests, and then the three numbers. Assumes nothing.
-use Rattle.core.specs.Prelude.{◌≡◌, ◌<◌, length, get_or}
+use Rattle.std.specs.Prelude.{◌≡◌, ◌<◌, length, get_or}
 use mathlib.Core.Path.{sym, ◌∙◌}
 use native.Mathlib.Omega.{arith}
 use borrow.Author.{Tests.eq-eqb, Tests.ne_eqb, Needs.needs}

@@ -2,7 +2,7 @@
 use mathlib.Core.{Path.ap, Path.◌∙◌, Logic.⊎_elim}
 use native.Mathlib.Omega.{arith}
 use borrow.Author.{Tests.eq-eqb, Tests.ne_eqb, Needs.needs}
-use Rattle.core.specs.Prelude.{get_or}
+use Rattle.std.specs.Prelude.{get_or}
 use lib.ListN.{get_or-eq_default}
 use Rattle.text.proofs.Digits.{part-rest}
 use Rattle.grid.specs.File.{is_number}

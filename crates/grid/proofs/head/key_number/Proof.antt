@@ -1,6 +1,6 @@
 -- `grid::head::key_number` meets its contract. Assumes nothing.
 use mathlib.Core.Path.{sym, ap, ◌∙◌}
-use Rattle.core.specs.Prelude.{◌≤◌, length}
+use Rattle.std.specs.Prelude.{◌≤◌, length}
 use Rattle.text.specs.Number.{whole_of}
 use Rattle.text.proofs.Digits.{part-rest}
 use Rattle.grid.specs.File.{number_after}

@@ -1,7 +1,7 @@
 -- `grid::head::names_well` meets its contract. Assumes nothing.
 use mathlib.Core.Path.{sym, ap, ◌∙◌}
 use borrow.Author.{Tests.eq-eqb, Tests.ne_eqb, Needs.needs}
-use Rattle.core.specs.Prelude.{get_or}
+use Rattle.std.specs.Prelude.{get_or}
 use Rattle.text.proofs.Digits.{part-rest}
 use Rattle.grid.specs.File.{names_well, is_spelling}
 use Rattle.grid.proofs.HeadLaws.{names_short}

@@ -1,5 +1,5 @@
 -- `grid::head::read_head` meets its contract: one header line after the other. Assumes nothing.
-use Rattle.core.specs.Prelude.{ℕ}
+use Rattle.std.specs.Prelude.{ℕ}
 use mathlib.Core.{Path.refl, List.List}
 use native.Mathlib.Omega.{arith}
 use Rattle.grid.specs.File.{ncols, nrows, xllcenter, yllcenter, cellsize, first_off, frame_of}

@@ -1,6 +1,6 @@
 -- `grid::judge::judge_rows` meets its contract. The invariant: the rows passed, and what all of them were. Assumes
 -- nothing.
-use Rattle.core.specs.Prelude.{◌≡◌, ◌-◌, length}
+use Rattle.std.specs.Prelude.{◌≡◌, ◌-◌, length}
 use mathlib.Core.Path.{refl, sym, ap, ◌∙◌}
 use native.Mathlib.Omega.{arith}
 use Rattle.grid.specs.InnerSteps.{line_from, row_of}

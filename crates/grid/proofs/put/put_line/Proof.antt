@@ -1,5 +1,5 @@
 -- `grid::put::put_line` meets its contract: the key, the number and the end, each past the other. Assumes nothing.
-use Rattle.core.specs.Prelude.{◌+◌, ◌≤◌, length}
+use Rattle.std.specs.Prelude.{◌+◌, ◌≤◌, length}
 use native.Mathlib.Omega.{arith}
 use Rattle.text.specs.Number.{show_whole}
 use Rattle.room.proofs.Laws.{wrote_then}

@@ -1,5 +1,5 @@
 -- `grid::put::put_network` meets its contract: the header in two parts, then the rows. Assumes nothing.
-use Rattle.core.specs.Prelude.{◌+◌, ◌≤◌, length}
+use Rattle.std.specs.Prelude.{◌+◌, ◌≤◌, length}
 use native.Mathlib.Omega.{arith}
 use mathlib.Core.List.{append_assoc}
 use Rattle.text.proofs.Within.{room_after, wrote_three}

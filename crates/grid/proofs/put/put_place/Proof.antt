@@ -1,5 +1,5 @@
 -- `grid::put::put_place` meets its contract: three lines. Assumes nothing.
-use Rattle.core.specs.Prelude.{◌+◌, ◌≤◌, length}
+use Rattle.std.specs.Prelude.{◌+◌, ◌≤◌, length}
 use native.Mathlib.Omega.{arith}
 use Rattle.text.proofs.Within.{room_after, wrote_three}
 use Rattle.grid.specs.{File.xllcenter, File.yllcenter, File.cellsize, Write.key_line, InnerSteps.ended}

@@ -5,7 +5,7 @@ use Rattle.room.specs.Room.{Wrote}
 use Rattle.grid.specs.InnerSteps.{ended, Quiet}
 use Rattle.room.proofs.Writing.{Writing, writing_start, writing_room, writing_more, writing_end}
 use Rattle.grid.proofs.WriteLaws.{row_inside, part_row, quiet_part, rows_more, rows_none}
-use Rattle.core.specs.Prelude.{◌+◌, ◌-◌, ◌*◌, ◌≤◌}
+use Rattle.std.specs.Prelude.{◌+◌, ◌-◌, ◌*◌, ◌≤◌}
 use native.Mathlib.Omega.{arith}
 use borrow.Author.Rules.{rules}
 use Rattle.grid.specs.Write.{row_line, row_at, row_lines, text_of}

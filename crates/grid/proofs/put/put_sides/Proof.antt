@@ -1,5 +1,5 @@
 -- `grid::put::put_sides` meets its contract: two lines. Assumes nothing.
-use Rattle.core.specs.Prelude.{◌+◌, ◌≤◌, length}
+use Rattle.std.specs.Prelude.{◌+◌, ◌≤◌, length}
 use native.Mathlib.Omega.{arith}
 use lib.ListN.{length-append}
 use Rattle.room.proofs.Laws.{wrote_then}

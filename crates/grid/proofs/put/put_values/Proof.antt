@@ -1,6 +1,6 @@
 -- `grid::put::put_values` meets its contract. The invariant: what is written, and what is left to write. Assumes
 -- nothing.
-use Rattle.core.specs.Prelude.{ℕ, ◌+◌, ◌-◌, ◌≤◌, length, get_or, drop}
+use Rattle.std.specs.Prelude.{ℕ, ◌+◌, ◌-◌, ◌≤◌, length, get_or, drop}
 use mathlib.Core.{Path.◌≡◌, Path.refl, Path.ap, Path.◌∙◌, List.List, List.◌∷◌, List.◌++◌}
 use native.Mathlib.Omega.{arith}
 use borrow.Author.Rules.{rules}

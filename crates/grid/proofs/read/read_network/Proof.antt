@@ -1,6 +1,6 @@
 -- `grid::read::read_network` meets its contract: off the layout, refused for its shape, too little room, or read.
 -- Assumes nothing.
-use Rattle.core.specs.Prelude.{◌≡◌}
+use Rattle.std.specs.Prelude.{◌≡◌}
 use mathlib.Core.Path.{subst, sym, ap, ◌∙◌}
 use native.Mathlib.Omega.{arith}
 use Rattle.grid.specs.{Row.levels_of, Read.numbers_of, InnerSteps.file_read, InnerSteps.shape_refusal}

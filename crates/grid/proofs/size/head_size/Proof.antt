@@ -1,5 +1,5 @@
 -- `grid::size::head_size` meets its contract. Assumes nothing.
-use Rattle.core.specs.Prelude.{◌+◌, ◌≤◌}
+use Rattle.std.specs.Prelude.{◌+◌, ◌≤◌}
 use native.Mathlib.Omega.{arith}
 use Rattle.grid.proofs.WriteSizes.{whole_most, head_length}
 use borrow.Author.Rules.{rules}

@@ -1,5 +1,5 @@
 -- `grid::size::text_size` meets its contract. Assumes nothing.
-use Rattle.core.specs.Prelude.{◌≤◌}
+use Rattle.std.specs.Prelude.{◌≤◌}
 use Rattle.grid.proofs.WriteSizes.{near, network_size}
 use Rattle.grid.proofs.WriteLaws.{head_most, levels_most, points_most}
 use native.Mathlib.Omega.{arith}

@@ -1,6 +1,6 @@
 -- `grid::size::whole_size` meets its contract. The invariant: a digit fewer is left for each one counted. Assumes
 -- nothing.
-use Rattle.core.specs.Prelude.{◌≡◌, ◌+◌, ◌≤◌, length}
+use Rattle.std.specs.Prelude.{◌≡◌, ◌+◌, ◌≤◌, length}
 use mathlib.Core.Path.{refl, ap}
 use native.Mathlib.Omega.{arith}
 use Rattle.text.specs.Number.{show_whole}

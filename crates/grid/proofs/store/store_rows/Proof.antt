@@ -1,7 +1,7 @@
 -- `grid::store::store_rows` meets its contract. The invariant: what the rest of the rows still changes. Assumes
 -- nothing.
 use native.Mathlib.{Nat.mul-le-mul_right, Omega.arith}
-use Rattle.core.specs.Prelude.{◌≡◌, ◌+◌, ◌-◌, ◌*◌, ◌≤◌, length}
+use Rattle.std.specs.Prelude.{◌≡◌, ◌+◌, ◌-◌, ◌*◌, ◌≤◌, length}
 use mathlib.Core.Path.{refl, sym, ap, ◌∙◌}
 use Rattle.room.specs.Room.{front, put}
 use Rattle.grid.specs.Row.{values_of, row_levels, levels_of}

@@ -1,5 +1,5 @@
 -- `journal::making::supply_from` meets its contract. Assumes nothing.
-use Rattle.core.specs.Prelude.{◌≡◌, ◌+◌, ◌-◌, get_or}
+use Rattle.std.specs.Prelude.{◌≡◌, ◌+◌, ◌-◌, get_or}
 use native.Mathlib.Omega.{arith}
 use borrow.Author.Rules.{rules}
 use Rattle.journal.proofs.making.supply_from.Statement.{statement}

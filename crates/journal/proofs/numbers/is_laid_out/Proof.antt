@@ -1,6 +1,6 @@
 -- `journal::numbers::is_laid_out` meets its contract. Assumes nothing.
 use mathlib.Core.{Path.◌≡◌, Path.sym, Path.◌∙◌, Logic.inl, Logic.inr}
-use Rattle.core.specs.Prelude.{◌-◌, ◌≤◌, length, drop}
+use Rattle.std.specs.Prelude.{◌-◌, ◌≤◌, length, drop}
 use native.Mathlib.Omega.{arith}
 use lib.ListN.{length-drop}
 use borrow.Author.Rules.{rules}

@@ -1,6 +1,6 @@
 -- `journal::numbers::width_of` meets its contract. Assumes nothing.
 use mathlib.Core.Path.{sym, ap, ◌∙◌}
-use Rattle.core.specs.Prelude.{◌+◌}
+use Rattle.std.specs.Prelude.{◌+◌}
 use borrow.Author.Rules.{rules}
 use Rattle.journal.proofs.Reading.{width_enter, width_supply, width_take_back, width_withdraw, width_none}
 use Rattle.journal.proofs.numbers.width_of.Statement.{statement}

@@ -1,6 +1,6 @@
 -- `level::tables::powers` meets its contract: antt computes the test `x ≡ 10 ^ q` at each of the table's entries.
 -- Assumes nothing.
-use Rattle.core.specs.Prelude.{◌^◌, eqb}
+use Rattle.std.specs.Prelude.{◌^◌, eqb}
 use lib.Dec.{eqb→eq}
 use Rattle.level.proofs.Table.{at}
 use Rattle.level.proofs.tables.powers.Statement.{statement}

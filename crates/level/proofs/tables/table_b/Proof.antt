@@ -1,7 +1,7 @@
 -- `level::tables::table_b` meets its contract: the table's rule is a test at each of its entries, which antt computes.
 -- Assumes nothing.
 use mathlib.Core.Path.{ap, ◌∙◌}
-use Rattle.core.specs.Prelude.{ℕ, ◌+◌, ◌*◌, ◌^◌}
+use Rattle.std.specs.Prelude.{ℕ, ◌+◌, ◌*◌, ◌^◌}
 use native.Mathlib.Omega.{arith}
 use lib.Dec.{lit<}
 use Rattle.level.specs.Tables.{largest_root, table_b}

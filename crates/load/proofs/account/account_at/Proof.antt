@@ -1,6 +1,6 @@
 -- `load::account::account_at` meets its contract: 9, 11, and then the account of the rows. Assumes nothing.
 use mathlib.Core.{Path.◌≡◌, Path.refl, Bool.true}
-use Rattle.core.specs.Prelude.{◌<◌, length}
+use Rattle.std.specs.Prelude.{◌<◌, length}
 use native.Mathlib.Omega.{arith}
 use Rattle.refusal.proofs.Laws.{passed, failed}
 use Rattle.room.proofs.Answers.{refuse}

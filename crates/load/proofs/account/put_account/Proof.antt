@@ -1,7 +1,7 @@
 -- `load::account::put_account` meets its contract: the sums give refusal 10, or the numbers of the groups and of the
 -- whole are written where there is room. Assumes nothing.
 use mathlib.Core.{Path.◌≡◌, Path.sym, Path.ap, Path.◌∙◌, Bool.◌&&◌}
-use Rattle.core.specs.Prelude.{◌+◌, eqb, ltb}
+use Rattle.std.specs.Prelude.{◌+◌, eqb, ltb}
 use native.Mathlib.Omega.{arith}
 use Rattle.room.proofs.Answers.{refuse, lack, write}
 use Rattle.load_rules.specs.declared.Load.{Load}

@@ -1,5 +1,5 @@
 -- `load::account::put_whole` meets its contract: six stores, one past the other. Assumes nothing.
-use Rattle.core.specs.Prelude.{◌+◌}
+use Rattle.std.specs.Prelude.{◌+◌}
 use native.Mathlib.Omega.{arith}
 use lib.{ListN.length-set, Seq.sets-eq}
 use borrow.Author.Rules.{rules}

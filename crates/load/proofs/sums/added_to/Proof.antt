@@ -1,5 +1,5 @@
 -- `load::sums::added_to` meets its contract: by cases on V. Assumes nothing.
-use Rattle.core.specs.Prelude.{◌+◌}
+use Rattle.std.specs.Prelude.{◌+◌}
 use native.Mathlib.{Nat.add-zero, Omega.arith}
 use borrow.Author.{Tests.eq-eqb, Tests.ne_eqb, Needs.needs}
 use Rattle.load_rules.specs.{Factors.known, Factors.unknown, Load.scaled_energy}

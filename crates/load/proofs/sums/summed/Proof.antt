@@ -1,5 +1,5 @@
 -- `load::sums::summed` meets its contract: the invariant is the sums over the groups so far. Assumes nothing.
-use Rattle.core.specs.Prelude.{◌≡◌, ◌-◌, ◌≤◌}
+use Rattle.std.specs.Prelude.{◌≡◌, ◌-◌, ◌≤◌}
 use mathlib.Core.Path.{refl, ap, ◌∙◌}
 use native.Mathlib.{Numerals.add-one, Omega.arith}
 use borrow.Author.Rules.{rules}

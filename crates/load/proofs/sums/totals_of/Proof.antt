@@ -1,6 +1,6 @@
 -- `load::sums::totals_of` meets its contract: the total and its mean fit. Assumes nothing.
 use mathlib.Core.Path.{refl}
-use Rattle.core.specs.Prelude.{◌+◌, ◌≤◌}
+use Rattle.std.specs.Prelude.{◌+◌, ◌≤◌}
 use native.Mathlib.Omega.{arith}
 use Rattle.level.specs.Limits.{max_total}
 use Rattle.load.specs.InnerSteps.{totals_of}

@@ -1,5 +1,5 @@
 -- `load::tally::arranged` meets its contract: three periods at a time. Assumes nothing.
-use Rattle.core.specs.Prelude.{◌≡◌}
+use Rattle.std.specs.Prelude.{◌≡◌}
 use mathlib.Core.Path.{refl}
 use borrow.Author.Rules.{rules}
 use Rattle.load.specs.InnerSteps.{table}

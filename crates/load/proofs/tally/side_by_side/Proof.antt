@@ -1,5 +1,5 @@
 -- `load::tally::side_by_side` meets its contract: the invariant is the list filled so far. Assumes nothing.
-use Rattle.core.specs.Prelude.{◌≡◌, ◌-◌, ◌≤◌}
+use Rattle.std.specs.Prelude.{◌≡◌, ◌-◌, ◌≤◌}
 use mathlib.Core.Path.{refl, ap, ◌∙◌}
 use native.Mathlib.{Numerals.add-one, Omega.arith}
 use borrow.Author.Rules.{rules}

@@ -1,6 +1,6 @@
 -- `load::tally::with_row` meets its contract: by cases on the mark; the energy of a level in range is at most 10^13.
 -- Assumes nothing.
-use Rattle.core.specs.Prelude.{◌≡◌, ◌+◌, ◌≤◌}
+use Rattle.std.specs.Prelude.{◌≡◌, ◌+◌, ◌≤◌}
 use mathlib.Core.Path.{ap, ◌∙◌}
 use native.Mathlib.Omega.{arith}
 use Rattle.level.specs.{Limits.max_weighted, Energy.energy_of}

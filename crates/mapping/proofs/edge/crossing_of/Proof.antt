@@ -1,6 +1,6 @@
 -- `mapping::edge::crossing_of` meets its contract. Assumes nothing.
 use mathlib.Core.{Path.◌≡◌, Path.sym, Path.subst, Path.◌∙◌, Bool.true}
-use Rattle.core.specs.Prelude.{◌<◌}
+use Rattle.std.specs.Prelude.{◌<◌}
 use native.Mathlib.Omega.{arith}
 use borrow.Author.{Tests.lt-ltb, Tests.le-ltb, Needs.needs}
 use Rattle.network.specs.declared.Edge.{Edge}

@@ -1,6 +1,6 @@
 -- `mapping::place::locate_at` meets its contract. Assumes nothing.
 use mathlib.Core.Path.{◌∙◌}
-use Rattle.core.specs.Prelude.{◌<◌}
+use Rattle.std.specs.Prelude.{◌<◌}
 use native.Mathlib.Omega.{arith}
 use borrow.Author.{Tests.le-ltb, Needs.needs}
 use Rattle.network.specs.{Limits.max_side, Edges.edges}

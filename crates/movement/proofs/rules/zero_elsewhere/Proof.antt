@@ -1,7 +1,7 @@
 -- `movement::rules::zero_elsewhere` meets its contract. The loop's invariant: the whole passes exactly if what is still
 -- to be read does. Assumes nothing.
 use mathlib.Core.{Path.◌≡◌, Path.sym, Path.◌∙◌, Bool.Bool, Bool.◌&&◌}
-use Rattle.core.specs.Prelude.{◌+◌, ◌-◌, ◌≤◌, length, drop}
+use Rattle.std.specs.Prelude.{◌+◌, ◌-◌, ◌≤◌, length, drop}
 use native.Mathlib.Omega.{arith}
 use borrow.Author.{Tests.not-true, Tests.not-false, Needs.needs}
 use Rattle.movement.specs.Rules.{zero_elsewhere}

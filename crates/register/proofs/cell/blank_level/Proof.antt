@@ -1,6 +1,6 @@
 -- `register::cell::blank_level` meets its contract. Assumes nothing.
 use borrow.Author.Tests.{le-leb, lt-leb, eq-eqb, ne_eqb}
-use Rattle.core.specs.Prelude.{length}
+use Rattle.std.specs.Prelude.{length}
 use Rattle.register.proofs.cell.blank_level.Statement.{statement}
 use Rattle.register.proofs.cell.blank_level.Tie as tie
 

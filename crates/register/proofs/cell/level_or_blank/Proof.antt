@@ -1,7 +1,7 @@
 -- `register::cell::level_or_blank` meets its contract. Assumes nothing.
 use mathlib.Core.Path.{◌∙◌}
 use borrow.Author.{Tests.eq-eqb, Tests.ne_eqb, Needs.needs}
-use Rattle.core.specs.Prelude.{length}
+use Rattle.std.specs.Prelude.{length}
 use Rattle.register.specs.Cell.{level_or_blank}
 use Rattle.register.proofs.cell.level_or_blank.Statement.{statement}
 use Rattle.register.proofs.cell.level_or_blank.Tie as tie

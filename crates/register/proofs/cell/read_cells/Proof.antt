@@ -1,7 +1,7 @@
 -- `register::cell::read_cells` meets its contract. The invariant: every field passed is on its layout, its value
 -- and the blank
 -- levels are noted, and here the next one starts. Assumes nothing.
-use Rattle.core.specs.Prelude.{◌+◌, ◌-◌, ◌<◌, ◌≤◌, length, drop, set, replicate}
+use Rattle.std.specs.Prelude.{◌+◌, ◌-◌, ◌<◌, ◌≤◌, length, drop, set, replicate}
 use mathlib.Core.{Path.◌≡◌, Path.refl, Path.sym, Path.ap, Path.◌∙◌, List.◌++◌, Bool.true, Bool.cond}
 use native.Mathlib.Omega.{arith}
 use lib.ListN.{length-drop}

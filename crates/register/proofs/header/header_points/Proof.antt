@@ -1,6 +1,6 @@
 -- `register::header::header_points` meets its contract: each test on the way settles one of `header_of`'s. Assumes
 -- nothing.
-use Rattle.core.specs.Prelude.{◌-◌, ◌/◌, ◌%◌}
+use Rattle.std.specs.Prelude.{◌-◌, ◌/◌, ◌%◌}
 use mathlib.Core.{Path.◌≡◌, Path.sym, Path.◌∙◌, Bool.cond, Bool.◌&&◌}
 use borrow.Author.{Tests.lt-ltb, Tests.le-ltb, Tests.le-leb, Tests.lt-leb, Tests.eq-eqb, Tests.ne_eqb, Needs.needs}
 use lib.{Dec.leb, ListN.length, ListN.take, Seq.length-take-le}

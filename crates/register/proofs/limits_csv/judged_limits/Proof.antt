@@ -1,5 +1,5 @@
 -- `register::limits_csv::judged_limits` meets its contract: each test settles one of `judged_limits`'. Assumes nothing.
-use Rattle.core.specs.Prelude.{◌≡◌, get_or}
+use Rattle.std.specs.Prelude.{◌≡◌, get_or}
 use mathlib.Core.Path.{ap, ◌∙◌}
 use native.Mathlib.Omega.{arith}
 use borrow.Author.{Tests.le-leb, Tests.lt-leb, Needs.needs}

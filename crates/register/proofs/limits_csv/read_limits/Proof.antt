@@ -1,5 +1,5 @@
 -- `register::limits_csv::read_limits` meets its contract: the first line, and what follows its CRLF. Assumes nothing.
-use Rattle.core.specs.Prelude.{◌+◌, ◌-◌, ◌≤◌}
+use Rattle.std.specs.Prelude.{◌+◌, ◌-◌, ◌≤◌}
 use mathlib.Core.{Path.◌≡◌, Path.sym, Path.ap, Path.◌∙◌, List.[]}
 use native.Mathlib.Omega.{arith}
 use lib.{ListN.length, ListN.take, ListN.drop, ListN.get_or, Seq.length-take-le}

@@ -1,5 +1,5 @@
 -- `register::limits_csv::second_limits` meets its contract. Assumes nothing.
-use Rattle.core.specs.Prelude.{◌+◌, ◌-◌, ◌≤◌}
+use Rattle.std.specs.Prelude.{◌+◌, ◌-◌, ◌≤◌}
 use mathlib.Core.{Path.◌≡◌, Path.ap, Path.◌∙◌, Bool.cond}
 use native.Mathlib.Omega.{arith}
 use borrow.Author.{Tests.le-leb, Tests.lt-leb, Tests.not-true, Tests.not-false, Needs.needs}

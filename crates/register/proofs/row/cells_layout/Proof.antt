@@ -1,6 +1,6 @@
 -- `register::row::cells_layout` meets its contract: each test settles one of `cells_layout`'s. Assumes nothing.
 use mathlib.Core.{Path.◌≡◌, Path.◌∙◌, Bool.cond}
-use Rattle.core.specs.Prelude.{eqb}
+use Rattle.std.specs.Prelude.{eqb}
 use borrow.Author.{Tests.eq-eqb, Tests.ne_eqb, Tests.not-true, Tests.not-false, Needs.needs}
 use Rattle.register.specs.Row.{off_layout, row_layout, cells_layout}
 use Rattle.register.proofs.row.cells_layout.Statement.{statement}

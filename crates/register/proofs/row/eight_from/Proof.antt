@@ -1,5 +1,5 @@
 -- `register::row::eight_from` meets its contract. The invariant: so many values are copied. Assumes nothing.
-use Rattle.core.specs.Prelude.{◌+◌, ◌-◌, ◌≤◌, get_or, replicate}
+use Rattle.std.specs.Prelude.{◌+◌, ◌-◌, ◌≤◌, get_or, replicate}
 use mathlib.Core.{Path.◌≡◌, Path.refl, Path.◌∙◌, List.◌++◌, List.append-nil}
 use native.Mathlib.Omega.{arith}
 use Rattle.text.specs.Index.{listing}

@@ -1,5 +1,5 @@
 -- `register::row::fault` meets its contract: each test settles one of `fault_of`'s. Assumes nothing.
-use Rattle.core.specs.Prelude.{◌≡◌}
+use Rattle.std.specs.Prelude.{◌≡◌}
 use Rattle.refusal.specs.Refuse.{refuse}
 use Rattle.refusal.proofs.Laws.{passed, failed}
 use Rattle.register.specs.Row.{fault_of}

@@ -1,5 +1,5 @@
 -- `register::row::put_levels` meets its contract. The invariant: so many levels stand in the slice. Assumes nothing.
-use Rattle.core.specs.Prelude.{◌≡◌, ◌+◌, ◌-◌, ◌≤◌, length, take}
+use Rattle.std.specs.Prelude.{◌≡◌, ◌+◌, ◌-◌, ◌≤◌, length, take}
 use mathlib.Core.Path.{refl, ◌∙◌}
 use native.Mathlib.Omega.{arith}
 use lib.ListN.{length-set}

@@ -1,5 +1,5 @@
 -- `register::row::read_layout` meets its contract. Assumes nothing.
-use Rattle.core.specs.Prelude.{◌≡◌, ◌+◌, ◌≤◌}
+use Rattle.std.specs.Prelude.{◌≡◌, ◌+◌, ◌≤◌}
 use mathlib.Core.Path.{sym, ap, ◌∙◌}
 use native.Mathlib.Omega.{arith}
 use borrow.Author.{Tests.le-leb, Tests.lt-leb, Needs.needs}

@@ -1,6 +1,6 @@
 -- `register::row::read_row` meets its contract: the layout, then the rules and the room, and then the levels.
 -- Assumes nothing.
-use Rattle.core.specs.Prelude.{◌≡◌, length, take}
+use Rattle.std.specs.Prelude.{◌≡◌, length, take}
 use mathlib.Core.Path.{sym, ap, ◌∙◌}
 use borrow.Author.{Tests.eq-eqb, Tests.ne_eqb, Needs.needs}
 use Rattle.room.specs.Room.{front}

@@ -1,5 +1,5 @@
 -- `register::row::row_refusal` meets its contract: each test settles one of `row_refusal`'s. Assumes nothing.
-use Rattle.core.specs.Prelude.{◌≡◌, leb}
+use Rattle.std.specs.Prelude.{◌≡◌, leb}
 use mathlib.Core.Path.{ap, ◌∙◌}
 use borrow.Author.{Tests.le-leb, Tests.lt-leb, Tests.eq-eqb, Tests.ne_eqb, Needs.needs}
 use Rattle.refusal.specs.{Range.all_within, Refuse.refuse}

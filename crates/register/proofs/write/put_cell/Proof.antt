@@ -1,5 +1,5 @@
 -- `register::write::put_cell` meets its contract: each column by its own writer. Assumes nothing.
-use Rattle.core.specs.Prelude.{◌<◌}
+use Rattle.std.specs.Prelude.{◌<◌}
 use native.Mathlib.Omega.{arith}
 use Rattle.room.proofs.Laws.{wrote_none}
 use Rattle.text.proofs.Shown.{level_most, shown_width}

@@ -1,6 +1,6 @@
 -- `register::write::put_line` meets its contract. The invariant: the columns passed stand at the front. Assumes
 -- nothing.
-use Rattle.core.specs.Prelude.{◌+◌, ◌-◌, ◌*◌, ◌<◌, ◌≤◌, length}
+use Rattle.std.specs.Prelude.{◌+◌, ◌-◌, ◌*◌, ◌<◌, ◌≤◌, length}
 use mathlib.Core.{Path.◌≡◌, Path.refl, Path.◌∙◌, List.◌++◌}
 use native.Mathlib.Omega.{arith}
 use lib.ListN.{length-append}

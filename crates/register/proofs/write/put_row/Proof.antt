@@ -1,5 +1,5 @@
 -- `register::write::put_row` meets its contract: the line, and past it the CRLF. Assumes nothing.
-use Rattle.core.specs.Prelude.{◌+◌}
+use Rattle.std.specs.Prelude.{◌+◌}
 use mathlib.Core.{Path.◌∙◌, List.[], List.◌∷◌, List.◌++◌, List.append_assoc}
 use native.Mathlib.Omega.{arith}
 use lib.ListN.{length-append}

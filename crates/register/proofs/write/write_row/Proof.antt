@@ -3,7 +3,7 @@
 use mathlib.Core.{Path.◌≡◌, Path.sym, Path.ap, Path.◌∙◌, List.[], List.◌∷◌}
 use native.Mathlib.Omega.{arith}
 use borrow.Author.{Tests.le-leb, Tests.lt-leb, Tests.eq-eqb, Tests.ne_eqb, Needs.needs}
-use Rattle.core.specs.Prelude.{length}
+use Rattle.std.specs.Prelude.{length}
 use Rattle.room.specs.Room.{front}
 use Rattle.room.proofs.Laws.{wrote_front, wrote_fits}
 use Rattle.register.specs.Write.{show_row, write_fault, write_refusal}

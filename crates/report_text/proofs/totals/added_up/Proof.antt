@@ -1,7 +1,7 @@
 -- `report_text::totals::added_up` meets its contract. The loop's invariant: both sums are those of the groups passed,
 -- each of which adds less than 2^32. Assumes nothing.
 use mathlib.Core.{Path.◌≡◌, Path.ap, Path.◌∙◌, List.List}
-use Rattle.core.specs.Prelude.{ℕ, ◌+◌, ◌-◌, ◌*◌, ◌^◌, ◌≤◌}
+use Rattle.std.specs.Prelude.{ℕ, ◌+◌, ◌-◌, ◌*◌, ◌^◌, ◌≤◌}
 use native.Mathlib.{Numerals.add-one, Omega.arith}
 use borrow.Author.Rules.{rules}
 use Rattle.movement.specs.Limits.{group_count}

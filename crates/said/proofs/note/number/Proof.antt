@@ -1,6 +1,6 @@
 -- `said::note::number` is safe: a number has at most 20 digits. Assumes nothing.
 use mathlib.Core.Path.{sym}
-use Rattle.core.specs.Prelude.{◌≤◌}
+use Rattle.std.specs.Prelude.{◌≤◌}
 use native.Mathlib.Omega.{arith}
 use lib.{ListN.length, Seq.length-take-le}
 use borrow.Author.Rules.{rules}

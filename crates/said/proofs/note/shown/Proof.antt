@@ -1,5 +1,5 @@
 -- `said::note::shown` is safe: the loop stays within the text. Assumes nothing.
-use Rattle.core.specs.Prelude.{◌-◌, ◌≤◌, length}
+use Rattle.std.specs.Prelude.{◌-◌, ◌≤◌, length}
 use borrow.Author.Rules.{rules}
 use Rattle.said.proofs.note.shown.Statement.{statement}
 use Rattle.said.proofs.note.shown.Tie as tie

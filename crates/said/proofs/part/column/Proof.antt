@@ -1,5 +1,5 @@
 -- `said::part::column` keeps to the text: each column ends where the next parting byte stands. Assumes nothing.
-use Rattle.core.specs.Prelude.{◌≤◌, length}
+use Rattle.std.specs.Prelude.{◌≤◌, length}
 use borrow.Author.Rules.{rules}
 use Rattle.said.proofs.part.column.Statement.{statement}
 use Rattle.said.proofs.part.column.Tie as tie

@@ -1,5 +1,5 @@
 -- `said::part::is_digits` is safe: the loop stays within the text. Assumes nothing.
-use Rattle.core.specs.Prelude.{◌-◌, ◌≤◌, length}
+use Rattle.std.specs.Prelude.{◌-◌, ◌≤◌, length}
 use borrow.Author.Rules.{rules}
 use Rattle.said.proofs.part.is_digits.Statement.{statement}
 use Rattle.said.proofs.part.is_digits.Tie as tie

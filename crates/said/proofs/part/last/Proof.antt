@@ -1,6 +1,6 @@
 -- `said::part::last` is safe: there are no more parting bytes than bytes. Assumes nothing.
 use mathlib.Core.Logic.{⊎_elim}
-use Rattle.core.specs.Prelude.{◌-◌, ◌≤◌, length}
+use Rattle.std.specs.Prelude.{◌-◌, ◌≤◌, length}
 use native.Mathlib.Omega.{arith}
 use borrow.Author.Rules.{rules}
 use Rattle.said.proofs.part.last.Statement.{statement}

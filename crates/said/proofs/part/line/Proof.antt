@@ -1,5 +1,5 @@
 -- `said::part::line` keeps to the text: each line ends where the next CRLF stands. Assumes nothing.
-use Rattle.core.specs.Prelude.{◌≤◌, length}
+use Rattle.std.specs.Prelude.{◌≤◌, length}
 use borrow.Author.Rules.{rules}
 use Rattle.said.proofs.part.line.Statement.{statement}
 use Rattle.said.proofs.part.line.Tie as tie

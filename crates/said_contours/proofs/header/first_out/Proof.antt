@@ -1,5 +1,5 @@
 -- `said_contours::header::first_out` is safe: the loop ends past the header's lines. Assumes nothing.
-use Rattle.core.specs.Prelude.{◌-◌, ◌≤◌}
+use Rattle.std.specs.Prelude.{◌-◌, ◌≤◌}
 use borrow.Author.Rules.{rules}
 use Rattle.said_contours.proofs.header.first_out.Statement.{statement}
 use Rattle.said_contours.proofs.header.first_out.Tie as tie

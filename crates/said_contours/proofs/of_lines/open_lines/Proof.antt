@@ -1,6 +1,6 @@
 -- `said_contours::of_lines::open_lines` is safe: there are no more open lines than lines. Assumes nothing.
 use mathlib.Core.Logic.{⊎_elim}
-use Rattle.core.specs.Prelude.{◌-◌, ◌≤◌, length}
+use Rattle.std.specs.Prelude.{◌-◌, ◌≤◌, length}
 use native.Mathlib.Omega.{arith}
 use borrow.Author.Rules.{rules}
 use Rattle.said_contours.proofs.of_lines.open_lines.Statement.{statement}

@@ -1,5 +1,5 @@
 -- `said_contours::rows::first_row` keeps to the text: each row ends where the next CRLF stands. Assumes nothing.
-use Rattle.core.specs.Prelude.{◌-◌, ◌≤◌, length}
+use Rattle.std.specs.Prelude.{◌-◌, ◌≤◌, length}
 use borrow.Author.Rules.{rules}
 use Rattle.said_contours.proofs.rows.first_row.Statement.{statement}
 use Rattle.said_contours.proofs.rows.first_row.Tie as tie

@@ -1,5 +1,5 @@
 -- `said_contours::rows::first_value` keeps to the row: each value ends where the next space stands. Assumes nothing.
-use Rattle.core.specs.Prelude.{◌-◌, ◌≤◌, length}
+use Rattle.std.specs.Prelude.{◌-◌, ◌≤◌, length}
 use borrow.Author.Rules.{rules}
 use Rattle.said_contours.proofs.rows.first_value.Statement.{statement}
 use Rattle.said_contours.proofs.rows.first_value.Tie as tie

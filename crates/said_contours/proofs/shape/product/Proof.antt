@@ -1,5 +1,5 @@
 -- `said_contours::shape::product` is safe: the product of two numbers of 32 bits has 64. Assumes nothing.
-use Rattle.core.specs.Prelude.{◌≤◌}
+use Rattle.std.specs.Prelude.{◌≤◌}
 use native.Mathlib.{Nat.mul-le-mul, Omega.arith}
 use borrow.Author.Rules.{rules}
 use Rattle.said_contours.proofs.shape.product.Statement.{statement}

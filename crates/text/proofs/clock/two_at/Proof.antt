@@ -1,5 +1,5 @@
 -- `text::clock::two_at` meets its contract: what `digits` answered, and the bound. Assumes nothing.
-use Rattle.core.specs.Prelude.{◌≡◌, ◌+◌, ◌-◌, take, drop}
+use Rattle.std.specs.Prelude.{◌≡◌, ◌+◌, ◌-◌, take, drop}
 use mathlib.Core.Path.{sym, ◌∙◌}
 use native.Mathlib.Omega.{arith}
 use borrow.Author.{Tests.lt-ltb, Tests.le-ltb, Needs.needs}

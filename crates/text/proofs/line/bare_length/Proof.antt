@@ -1,5 +1,5 @@
 -- `text::line::bare_length` meets its contract: each test on the way settles one of `bare_line`'s. Assumes nothing.
-use Rattle.core.specs.Prelude.{◌+◌, ◌-◌}
+use Rattle.std.specs.Prelude.{◌+◌, ◌-◌}
 use mathlib.Core.{Path.◌≡◌, Path.sym, Bool.cond}
 use native.Mathlib.Omega.{arith}
 use borrow.Author.{Tests.le-leb, Tests.lt-leb, Tests.eq-eqb, Tests.ne_eqb, Needs.needs}

@@ -2,13 +2,13 @@
 use mathlib.Core.{Path.◌∙◌, Logic.⊎_elim}
 use native.Mathlib.Omega.{arith}
 use borrow.Author.{Tests.le-leb, Tests.lt-leb, Tests.lt-ltb, Tests.le-ltb, Tests.eq-eqb, Tests.ne_eqb, Needs.needs}
-use Rattle.core.specs.Prelude.{length, get_or}
+use Rattle.std.specs.Prelude.{length, get_or}
 use Rattle.text.specs.Number.{whole_of}
 use Rattle.text.proofs.number.whole.Statement.{statement}
 use Rattle.text.proofs.number.whole.Tie as tie
 use Rattle.text.proofs.number.whole.Reads as reads
 use Rattle.text.proofs.number.whole.Lts as lts
-use Rattle.text.proofs.core.digits.Reads as digits-reads
+use Rattle.text.proofs.inner.digits.Reads as digits-reads
 
 returns-2 : tie.Need-returns-2
 unfolding whole_of

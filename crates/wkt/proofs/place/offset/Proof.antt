@@ -1,5 +1,5 @@
 -- `wkt::place::offset` meets its contract. Assumes nothing.
-use Rattle.core.specs.Prelude.{◌*◌, ◌≤◌}
+use Rattle.std.specs.Prelude.{◌*◌, ◌≤◌}
 use native.Mathlib.Omega.{arith}
 use Rattle.wkt.specs.Places.{offset_of}
 use Rattle.wkt.proofs.Nearest.{offset_small, product_small}

@@ -1,6 +1,6 @@
 -- `wkt::place::spot_of` meets its contract. Assumes nothing.
 use mathlib.Core.{Path.◌≡◌, Path.subst, Bool.true}
-use Rattle.core.specs.Prelude.{◌*◌, ◌≤◌}
+use Rattle.std.specs.Prelude.{◌*◌, ◌≤◌}
 use native.Mathlib.Omega.{arith}
 use Rattle.network.specs.declared.Edge.{Edge}
 use Rattle.network.specs.declared.Edge.TheVariants.{Horizontal, Vertical}

@@ -1,5 +1,5 @@
 -- `wkt::put::put_spot` meets its contract. Assumes nothing.
-use Rattle.core.specs.Prelude.{◌+◌, ◌≤◌, ◌∷◌, length}
+use Rattle.std.specs.Prelude.{◌+◌, ◌≤◌, ◌∷◌, length}
 use native.Mathlib.Omega.{arith}
 use lib.ListN.{length-append}
 use Rattle.room.proofs.Laws.{wrote_then}

@@ -2,7 +2,7 @@
 use Rattle.network.specs.Limits.{max_edges}
 use Rattle.network.proofs.Numbers.{edges_le}
 use mathlib.Core.{Path.◌≡◌, List.List, List.◌++◌}
-use Rattle.core.specs.Prelude.{ℕ, ◌+◌, ◌<◌, ◌≤◌, length, get_or}
+use Rattle.std.specs.Prelude.{ℕ, ◌+◌, ◌<◌, ◌≤◌, length, get_or}
 use native.Mathlib.Omega.{arith}
 use borrow.Author.{Tests.eq-eqb, Tests.ne_eqb, Needs.needs}
 use lib.ListN.{length-append}

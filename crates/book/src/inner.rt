@@ -1,0 +1,125 @@
+// The calls on a book that is known to be sound. Each keeps it sound (book_rules, proofs/Kept.antt), so a caller that
+// makes many calls checks once.
+ghost use Rattle.std.specs.Prelude.{◌≡◌, true};
+ghost use Rattle.book_rules.specs.Columns.{book_now, book_before, book_after, sound};
+ghost use Rattle.book_rules.specs.Calls.{Call, Called};
+
+use crate::place::{place_of, standing_rows};
+use crate::refusals::{enter_refusal, supply_refusal, take_back_refusal, withdraw_refusal};
+use crate::rows::{row_in, row_out};
+use column::inner::{copy_at, fill_at};
+use movement::inner::group_of;
+
+// Enters a movement, which counts where `given` says: its row goes in at its place, not computed.
+pub fn enter(
+    ids: &mut [u32],
+    groups: &mut [u32],
+    marks: &mut [u32],
+    counts: &mut [u32],
+    levels: &mut [u32],
+    points: usize,
+    identity: u32,
+    ty: u32,
+    kind: u32,
+    time: u32,
+    mass: u32,
+    given: &[u32],
+) -> u32
+    requires { sound points (book_now ids groups marks counts levels) ≡ true }
+    ensures { Called points (book_before ids groups marks counts levels)
+        (Call.enter identity ty kind time mass given.now) result (book_after ids groups marks counts levels) }
+{
+    let at = place_of(ids, identity);
+    let rows = standing_rows(ids);
+    let not_entered = enter_refusal(ids, at, rows, points, identity, ty, kind, time, mass, given);
+    if not_entered != 0 {
+        return not_entered;
+    }
+    row_in(
+        ids,
+        groups,
+        marks,
+        counts,
+        levels,
+        points,
+        at,
+        rows,
+        identity,
+        group_of(ty, kind, time),
+        given,
+    );
+    0
+}
+
+// Supplies all levels of a standing movement, replacing earlier ones.
+pub fn supply(
+    ids: &[u32],
+    groups: &[u32],
+    marks: &mut [u32],
+    counts: &[u32],
+    levels: &mut [u32],
+    points: usize,
+    identity: u32,
+    given: &[u32],
+) -> u32
+    requires { sound points (book_now ids groups marks counts levels) ≡ true }
+    ensures { Called points (book_before ids groups marks counts levels)
+        (Call.supply identity given.now) result (book_after ids groups marks counts levels) }
+{
+    let at = place_of(ids, identity);
+    let not_supplied = supply_refusal(ids, counts, at, points, identity, given);
+    if not_supplied != 0 {
+        return not_supplied;
+    }
+    fill_at(marks, at, 1, 1);
+    copy_at(levels, at * points, given);
+    0
+}
+
+// Takes the levels of a movement back: it is no longer computed.
+pub fn take_back(
+    ids: &[u32],
+    groups: &[u32],
+    marks: &mut [u32],
+    counts: &[u32],
+    levels: &mut [u32],
+    points: usize,
+    identity: u32,
+) -> u32
+    requires { sound points (book_now ids groups marks counts levels) ≡ true }
+    ensures { Called points (book_before ids groups marks counts levels) (Call.take_back identity) result
+        (book_after ids groups marks counts levels) }
+{
+    let at = place_of(ids, identity);
+    let not_taken_back = take_back_refusal(ids, marks, at, identity);
+    if not_taken_back != 0 {
+        return not_taken_back;
+    }
+    fill_at(marks, at, 1, 0);
+    fill_at(levels, at * points, points, 0);
+    0
+}
+
+// Withdraws a movement: later rows move down.
+pub fn withdraw(
+    ids: &mut [u32],
+    groups: &mut [u32],
+    marks: &mut [u32],
+    counts: &mut [u32],
+    levels: &mut [u32],
+    points: usize,
+    identity: u32,
+) -> u32
+    requires { sound points (book_now ids groups marks counts levels) ≡ true }
+    ensures { Called points (book_before ids groups marks counts levels) (Call.withdraw identity) result
+        (book_after ids groups marks counts levels) }
+{
+    let at = place_of(ids, identity);
+    let not_withdrawn = withdraw_refusal(ids, at, identity);
+    if not_withdrawn != 0 {
+        return not_withdrawn;
+    }
+    let rows = standing_rows(ids);
+    row_out(ids, groups, marks, counts, levels, points, at, rows);
+    0
+}

@@ -1,0 +1,120 @@
+// The text of how each load comes about, put into a buffer that has room for the longest.
+ghost use Rattle.std.specs.Prelude.{◌≡◌, ◌+◌, ◌<◌, ◌≤◌, ◌++◌, length};
+ghost use Rattle.movement.specs.Limits.{max_points};
+ghost use Rattle.book_rules.specs.Columns.{book_now, book_before};
+ghost use Rattle.load_rules.specs.Load.{book_load};
+ghost use Rattle.room.specs.Room.{Wrote};
+ghost use Rattle.report_text.specs.Text.{book_refusal};
+ghost use Rattle.report_text.specs.InnerRoom.{LimitsFit};
+ghost use Rattle.text.specs.Sheet.{ended};
+ghost use Rattle.text.specs.Spelled.{crlf};
+ghost use Rattle.text.specs.InnerWithin.{WroteWithin};
+ghost use Rattle.explain_text.specs.Text.{header_line, lines_at, points_text};
+ghost use Rattle.explain_text.specs.InnerRoom.{longest_point, header_size, longest_text, Explained};
+
+use crate::lines::put_point;
+use load::account::account_at;
+use register::limits_csv::LimitsFile;
+use report_text::inner::{Report, book_refusal};
+use text::inner::{put_end, put_refused, put_text};
+
+// The bytes of the longest text: the header, and at eight points nineteen lines of at most 160 bytes.
+pub const LONGEST_TEXT: usize = 24_383;
+
+// The header.
+fn put_header(out: &mut [u8]) -> usize
+    requires { longest_text ≤ length out.old }
+    ensures { WroteWithin header_size out.old 0 (header_line ++ crlf) out.new result }
+{
+    let next = put_text(
+        out,
+        0,
+        b"point,type,kind,period,computed,missing,factor,energy,counted",
+    );
+    put_end(out, next)
+}
+
+// The lines of a point of a book whose load is answered there.
+fn put_answered(
+    out: &mut [u8],
+    at: usize,
+    ids: &[u32],
+    groups: &[u32],
+    marks: &[u32],
+    counts: &[u32],
+    levels: &[u32],
+    points: usize,
+    point: usize,
+    days: u32,
+) -> usize
+    requires point_lt_max_points { (point < max_points) × (at + longest_point ≤ length out.old) }
+    requires days_value { (book_load points point (book_now ids groups marks counts levels) days).refused ≡ 0 }
+    ensures { WroteWithin longest_point out.old at
+        (ended (lines_at points point (book_before ids groups marks counts levels))) out.new result }
+{
+    let mut numbers = [0u64; 78];
+    account_at(
+        ids,
+        groups,
+        marks,
+        counts,
+        levels,
+        points,
+        point,
+        days,
+        &mut numbers,
+    );
+    put_point(out, at, point, &numbers)
+}
+
+// The header, and the lines of each point.
+fn put_points(
+    out: &mut [u8],
+    ids: &[u32],
+    groups: &[u32],
+    marks: &[u32],
+    counts: &[u32],
+    levels: &[u32],
+    limits: LimitsFile,
+) -> usize
+    requires limits_fit { LimitsFit limits × (longest_text ≤ length out.old) }
+    requires levels_value { book_refusal limits (book_now ids groups marks counts levels) ≡ 0 }
+    ensures { Wrote out.old 0 (points_text limits (book_before ids groups marks counts levels))
+        out.new result }
+{
+    let points = limits.points as usize;
+    let days = limits.days;
+    let mut at = put_header(out);
+    let mut point = 0;
+    while point < points {
+        at = put_answered(
+            out, at, ids, groups, marks, counts, levels, points, point, days,
+        );
+        point += 1;
+    }
+    at
+}
+
+// How the loads of a book come about, at the front of a buffer.
+pub fn put_explained(
+    out: &mut [u8],
+    ids: &[u32],
+    groups: &[u32],
+    marks: &[u32],
+    counts: &[u32],
+    levels: &[u32],
+    limits: LimitsFile,
+) -> Report
+    requires { LimitsFit limits × (longest_text ≤ length out.old) }
+    ensures { Explained limits (book_before ids groups marks counts levels) out.old result
+        out.new }
+{
+    let points = limits.points as usize;
+    let refused = book_refusal(ids, groups, marks, counts, levels, points, limits.days);
+    if refused != 0 {
+        let size = put_refused(out, refused, 0);
+        return Report { size, refused };
+    }
+    let size = put_points(out, ids, groups, marks, counts, levels, limits);
+    Report { size, refused }
+}

@@ -1,0 +1,17 @@
+-- `level::inner::mean` meets its contract: 1000·total / (86,400·days) is 5·total / 432 / days, and 5·total / 432
+-- fits. Assumes nothing.
+use mathlib.Core.Path.{ap, ◌∙◌}
+use Rattle.std.specs.Prelude.{ℕ, ◌/◌}
+use native.Mathlib.Omega.{arith}
+use borrow.Author.Rules.{rules}
+use Rattle.level.proofs.ScaleLaws.{mean_by_parts}
+use Rattle.level.proofs.inner.mean.Statement.{statement}
+use Rattle.level.proofs.inner.mean.Tie as tie
+
+returns : tie.Need-returns
+returns c =
+    let a = c.before.args in
+    ap (λ (t : ℕ). t / a.days) c.scaled.ensures ∙ mean_by_parts a.total a.days
+
+pub mean-spec : {M : Type 1} → statement M
+mean-spec = tie.close (tie.spec (λ c κs. omega arith) (λ c. search rules) returns)

@@ -1,0 +1,112 @@
+// A row into a book that is known to be sound, and a register's lines as they come.
+pub mod feeding;
+
+ghost use Rattle.std.specs.Prelude.{◌≡◌, ◌≤◌, true, replicate};
+ghost use Rattle.book_rules.specs.Columns.{book_now, book_before, book_after, sound};
+ghost use Rattle.book_rules.specs.Calls.{Call, Called};
+ghost use Rattle.movement.specs.Limits.{max_points};
+ghost use Rattle.report_steps.specs.InnerTaken.{RowTaken, LevelsTaken};
+
+use crate::Taken;
+use movement::limits::MAX_POINTS;
+use register::row::{Fields, read_layout};
+
+// A row of a register into the book: 16, then *enter*, then *supply* where its levels are not blank.
+pub fn take_row(
+    ids: &mut [u32],
+    groups: &mut [u32],
+    marks: &mut [u32],
+    counts: &mut [u32],
+    levels: &mut [u32],
+    points: usize,
+    line: &[u8],
+) -> Taken
+    requires { sound points (book_now ids groups marks counts levels) ≡ true }
+    ensures { RowTaken points (book_before ids groups marks counts levels) line.now result
+        (book_after ids groups marks counts levels) }
+{
+    let layout = read_layout(line, points as u32);
+    if layout.refusal != 0 {
+        return Taken::Refused(16);
+    }
+    let f = layout.fields;
+    let given = layout.levels;
+    let entered = enter_row(ids, groups, marks, counts, levels, points, f);
+    if entered == 2 {
+        return Taken::PassedOver;
+    }
+    if entered != 0 {
+        return Taken::Refused(entered);
+    }
+    if f.computed == 0 {
+        return Taken::Entered;
+    }
+    take_levels(
+        ids, groups, marks, counts, levels, points, f.identity, given,
+    )
+}
+
+// Enters the movement of a row, which counts at every point.
+fn enter_row(
+    ids: &mut [u32],
+    groups: &mut [u32],
+    marks: &mut [u32],
+    counts: &mut [u32],
+    levels: &mut [u32],
+    points: usize,
+    f: Fields,
+) -> u32
+    requires levels_value { sound points (book_now ids groups marks counts levels) ≡ true }
+    requires points_le_max_points { points ≤ max_points }
+    ensures { Called points (book_before ids groups marks counts levels)
+        (Call.enter f.identity f.ty f.kind f.time f.mass (replicate points 1)) result
+        (book_after ids groups marks counts levels) }
+{
+    let everywhere = [1u32; MAX_POINTS];
+    book::inner::enter(
+        ids,
+        groups,
+        marks,
+        counts,
+        levels,
+        points,
+        f.identity,
+        f.ty,
+        f.kind,
+        f.time,
+        f.mass,
+        &everywhere[..points],
+    )
+}
+
+// The levels of a row that is entered.
+fn take_levels(
+    ids: &[u32],
+    groups: &[u32],
+    marks: &mut [u32],
+    counts: &[u32],
+    levels: &mut [u32],
+    points: usize,
+    identity: u32,
+    given: [u32; MAX_POINTS],
+) -> Taken
+    requires levels_value { sound points (book_now ids groups marks counts levels) ≡ true }
+    requires points_le_max_points { points ≤ max_points }
+    ensures { LevelsTaken points (book_before ids groups marks counts levels) identity given result
+        (book_after ids groups marks counts levels) }
+{
+    let refused = book::inner::supply(
+        ids,
+        groups,
+        marks,
+        counts,
+        levels,
+        points,
+        identity,
+        &given[..points],
+    );
+    if refused != 0 {
+        return Taken::Refused(refused);
+    }
+    Taken::Entered
+}

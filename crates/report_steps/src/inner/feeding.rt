@@ -1,0 +1,211 @@
+// A register's bytes as they come: its lines, one after another, into the book. What is read of all pieces is what is
+// read of the whole.
+ghost use Rattle.std.specs.Prelude.{◌≡◌, ◌+◌, ◌^◌, ◌<◌, ◌≤◌, true, length, take};
+ghost use Rattle.book_rules.specs.Columns.{book_now, book_before, book_after, sound};
+ghost use Rattle.stream.specs.Reading.{reading_at, Unended};
+ghost use Rattle.stream.specs.InnerTaken.{LineTaken, LinesTaken, LastTaken, PieceTaken};
+ghost use Rattle.report_steps.specs.Stream.{longest_row};
+ghost use Rattle.report_steps.specs.Reading.{points_refusal, header_points, register_step};
+
+use crate::inner::take_row;
+use register::header::register_points;
+use stream::inner::to_front;
+use stream::{Feed, Piece};
+use text::inner::line_end;
+use text::number::Number;
+
+// The longest row of a register on its layout, and with its CRLF the longest line.
+pub const LONGEST_ROW: usize = 84;
+
+const LONGEST_LINE: usize = LONGEST_ROW + 2;
+
+// The refusal of a first line: it is the header of a register with as many levels as there are points.
+fn header_refusal(line: &[u8], points: usize) -> u32
+    ensures { result ≡ points_refusal points (header_points line.now) }
+{
+    match register_points(line) {
+        Number::Got(n) => {
+            if n as usize == points {
+                return 0;
+            }
+            16
+        }
+        Number::Off => 16,
+    }
+}
+
+// Takes line `number`, the header first and then rows, and answers its refusal.
+pub fn take_line(
+    ids: &mut [u32],
+    groups: &mut [u32],
+    marks: &mut [u32],
+    counts: &mut [u32],
+    levels: &mut [u32],
+    points: usize,
+    line: &[u8],
+    number: u64,
+) -> u32
+    requires { sound points (book_now ids groups marks counts levels) ≡ true }
+    ensures { LineTaken (register_step points) number (book_before ids groups marks counts levels)
+        line.now result (book_after ids groups marks counts levels) }
+{
+    if number == 1 {
+        return header_refusal(line, points);
+    }
+    take_row(ids, groups, marks, counts, levels, points, line).number()
+}
+
+// Takes every line that the bytes end, up to the first that is refused.
+pub fn take_lines(
+    ids: &mut [u32],
+    groups: &mut [u32],
+    marks: &mut [u32],
+    counts: &mut [u32],
+    levels: &mut [u32],
+    points: usize,
+    bytes: &[u8],
+    line: u64,
+) -> Feed
+    requires levels_value { sound points (book_now ids groups marks counts levels) ≡ true }
+    requires bytes_bound { line + length bytes.now < 2 ^ 64 }
+    ensures { LinesTaken (register_step points) (reading_at 0 line (book_before ids groups marks counts levels))
+        bytes.now result.at (reading_at result.refusal result.line (book_after ids groups marks counts levels))
+        × (sound points (book_after ids groups marks counts levels) ≡ true) }
+{
+    let mut at = 0;
+    let mut number = line;
+    let mut end = line_end(bytes, 0);
+    while 2 <= bytes.len() - end {
+        let refusal = take_line(
+            ids,
+            groups,
+            marks,
+            counts,
+            levels,
+            points,
+            &bytes[at..end],
+            number,
+        );
+        if refusal != 0 {
+            return Feed {
+                at,
+                line: number,
+                refusal,
+            };
+        }
+        at = end + 2;
+        number += 1;
+        end = line_end(bytes, at);
+    }
+    Feed {
+        at,
+        line: number,
+        refusal: 0,
+    }
+}
+
+// The end of a register: the last bytes are a line that no CRLF ends, or there are none.
+pub fn take_last(
+    ids: &mut [u32],
+    groups: &mut [u32],
+    marks: &mut [u32],
+    counts: &mut [u32],
+    levels: &mut [u32],
+    points: usize,
+    bytes: &[u8],
+    line: u64,
+) -> Feed
+    requires levels_value { sound points (book_now ids groups marks counts levels) ≡ true }
+    requires unended { Unended bytes.now }
+    requires le_line { 1 ≤ line }
+    requires bytes_bound { line + length bytes.now < 2 ^ 64 }
+    ensures { LastTaken (register_step points) (reading_at 0 line (book_before ids groups marks counts levels))
+        bytes.now (reading_at result.refusal result.line (book_after ids groups marks counts levels))
+        × (sound points (book_after ids groups marks counts levels) ≡ true) }
+{
+    if bytes.len() == 0 {
+        if line == 1 {
+            return Feed {
+                at: 0,
+                line,
+                refusal: 16,
+            };
+        }
+        return Feed {
+            at: 0,
+            line,
+            refusal: 0,
+        };
+    }
+    let refusal = take_line(ids, groups, marks, counts, levels, points, bytes, line);
+    if refusal != 0 {
+        return Feed {
+            at: 0,
+            line,
+            refusal,
+        };
+    }
+    Feed {
+        at: bytes.len(),
+        line: line + 1,
+        refusal: 0,
+    }
+}
+
+// Takes a piece of a register: the first `len` bytes of the buffer, those that waited and those that came.
+pub fn take_piece(
+    ids: &mut [u32],
+    groups: &mut [u32],
+    marks: &mut [u32],
+    counts: &mut [u32],
+    levels: &mut [u32],
+    points: usize,
+    bytes: &mut [u8],
+    len: usize,
+    line: u64,
+) -> Piece
+    requires levels_value { sound points (book_now ids groups marks counts levels) ≡ true }
+    requires len_in_bounds { len ≤ length bytes.old }
+    requires len_bound { line + len < 2 ^ 64 }
+    ensures { PieceTaken (register_step points) longest_row
+        (reading_at 0 line (book_before ids groups marks counts levels)) (take len bytes.old)
+        (reading_at result.refusal result.line (book_after ids groups marks counts levels))
+        (take result.left bytes.new) × (sound points (book_after ids groups marks counts levels) ≡ true) }
+{
+    let feed = take_lines(
+        ids,
+        groups,
+        marks,
+        counts,
+        levels,
+        points,
+        &bytes[..len],
+        line,
+    );
+    let at = feed.at;
+    let left = len - at;
+    let refusal = feed.refusal;
+    if refusal != 0 {
+        return Piece {
+            at,
+            left,
+            line: feed.line,
+            refusal,
+        };
+    }
+    if LONGEST_LINE < left {
+        return Piece {
+            at,
+            left,
+            line: feed.line,
+            refusal: 16,
+        };
+    }
+    to_front(bytes, at, left);
+    Piece {
+        at: 0,
+        left,
+        line: feed.line,
+        refusal,
+    }
+}

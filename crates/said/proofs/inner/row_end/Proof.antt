@@ -1,0 +1,18 @@
+-- `said::inner::row_end` meets its contract: a line is no longer than the text that it stands in. Assumes nothing.
+use Rattle.text.proofs.Lines.{line_length}
+use Rattle.std.specs.Prelude.{drop}
+use lib.ListN.{length-drop}
+use native.Mathlib.Omega.{arith}
+use borrow.Author.Rules.{rules}
+use Rattle.said.proofs.inner.row_end.Statement.{statement}
+use Rattle.said.proofs.inner.row_end.Tie as tie
+
+returns : tie.Need-returns
+returns c =
+    let s : tie.Start = search in
+    let a = s.args in
+    let rest = drop a.from a.s.now in
+    omega (arith, c.line-end.ensures, line_length rest, length-drop a.from a.s.now)
+
+pub row-end-spec : {M : Type 1} → statement M
+row-end-spec = tie.close (tie.spec (λ c κs. search rules) returns)

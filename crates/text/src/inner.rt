@@ -1,0 +1,291 @@
+// Parts that ask something of their caller: a run of digits, a number with decimals, a letter among a few, where a
+// field or a line ends, and writers into a buffer that has room. A writer writes from a place on and answers the place
+// past its text.
+ghost use Rattle.std.specs.Prelude.{◌≡◌, ◌+◌, ◌*◌, ◌^◌, ◌<◌, ◌≤◌, [], ◌∷◌, length, drop};
+ghost use Rattle.text.specs.Number.{digits_of, max_decimals, decimal_of, show_number, show_whole};
+ghost use Rattle.text.specs.Number.{show_digits, show_decimal, show_level, show_thousandths};
+ghost use Rattle.text.specs.Letter.{letter_of};
+ghost use Rattle.text.specs.Field.{up_to};
+ghost use Rattle.text.specs.Line.{end_at, first_line};
+ghost use Rattle.text.specs.Spelled.{byte, crlf};
+ghost use Rattle.text.specs.Sheet.{refused_text};
+ghost use Rattle.text.specs.InnerWithin.{longest_number, longest_field, longest_level, longest_thousandths};
+ghost use Rattle.text.specs.InnerWithin.{longest_refused, WroteWithin};
+ghost use Rattle.room.specs.Room.{Wrote};
+
+use crate::number::{Number, whole};
+
+// The value of a run of at most seven digits.
+pub fn digits(s: &[u8]) -> Number
+    requires { length s.now ≤ 7 }
+    ensures { result ≡ digits_of 0 s.now }
+{
+    let mut value: u32 = 0;
+    let mut i = 0;
+    while i < s.len() {
+        let c = s[i];
+        if c < b'0' {
+            return Number::Off;
+        }
+        if b'9' < c {
+            return Number::Off;
+        }
+        value = value * 10 + (c - b'0') as u32;
+        i += 1;
+    }
+    Number::Got(value)
+}
+
+// 10 to the d.
+fn power(d: usize) -> u32
+    requires { d ≤ max_decimals }
+    ensures { result ≡ 10 ^ d }
+{
+    let mut parts: u32 = 1;
+    let mut i = 0;
+    while i < d {
+        parts = parts * 10;
+        i += 1;
+    }
+    parts
+}
+
+// A number with d decimals: one to three digits, a point and d digits, no needless leading zero; in parts of its unit.
+pub fn decimal(s: &[u8], d: usize) -> Number
+    requires { d ≤ max_decimals }
+    ensures { result ≡ decimal_of d s.now }
+{
+    let n = s.len();
+    if n < d + 2 {
+        return Number::Off;
+    }
+    if d + 4 < n {
+        return Number::Off;
+    }
+    let point = n - (d + 1);
+    if s[point] != b'.' {
+        return Number::Off;
+    }
+    let Number::Got(units) = whole(&s[..point]) else {
+        return Number::Off;
+    };
+    let Number::Got(parts) = digits(&s[point + 1..]) else {
+        return Number::Off;
+    };
+    Number::Got(units * power(d) + parts)
+}
+
+// The place of a letter among a few.
+pub fn letter(t: &[u8], letters: &[u8]) -> Number
+    requires { length letters.now ≤ 3 }
+    ensures { result ≡ letter_of letters.now t.now }
+{
+    if t.len() != 1 {
+        return Number::Off;
+    }
+    let c = t[0];
+    let mut i = 0;
+    while i < letters.len() {
+        if c == letters[i] {
+            return Number::Got(i as u32);
+        }
+        i += 1;
+    }
+    Number::Off
+}
+
+// The place of the next parting byte `d` at or after `at`, or the text's length.
+pub fn field_end(s: &[u8], at: usize, d: u8) -> usize
+    requires { at ≤ length s.now }
+    ensures { result ≡ at + length (up_to d (drop at s.now)) }
+{
+    let mut i = at;
+    while i < s.len() {
+        if s[i] == d {
+            return i;
+        }
+        i += 1;
+    }
+    i
+}
+
+// The place of the next CRLF at or after `at`, or the text's length.
+pub fn line_end(s: &[u8], at: usize) -> usize
+    requires { at ≤ length s.now }
+    ensures { result ≡ at + length (first_line (drop at s.now)) }
+{
+    let mut i = at;
+    while i < s.len() {
+        if ends_line(s, i) {
+            return i;
+        }
+        i += 1;
+    }
+    i
+}
+
+// Whether a CRLF stands at `at`.
+fn ends_line(s: &[u8], at: usize) -> bool
+    requires { at < length s.now }
+    ensures { result ≡ end_at s.now at }
+{
+    if s[at] != b'\r' {
+        return false;
+    }
+    if s.len() - at < 2 {
+        return false;
+    }
+    s[at + 1] == b'\n'
+}
+
+// One byte.
+pub fn put_byte(out: &mut [u8], at: usize, b: u8) -> usize
+    requires { at < length out.old }
+    ensures { Wrote out.old at (b ∷ []) out.new result }
+{
+    out[at] = b;
+    at + 1
+}
+
+// A text as it stands.
+pub fn put_text(out: &mut [u8], at: usize, text: &[u8]) -> usize
+    requires { at + length text.now ≤ length out.old }
+    ensures { Wrote out.old at text.now out.new result }
+{
+    let mut i = 0;
+    while i < text.len() {
+        out[at + i] = text[i];
+        i += 1;
+    }
+    at + i
+}
+
+// A number: the digits of its tenth, if there are any, then its last digit.
+pub fn put_number(out: &mut [u8], at: usize, n: u64) -> usize
+    requires { at + length (show_number n) ≤ length out.old }
+    ensures { Wrote out.old at (show_number n) out.new result }
+{
+    let digit = b'0' + (n % 10) as u8;
+    if n < 10 {
+        return put_byte(out, at, digit);
+    }
+    let next = put_number(out, at, n / 10);
+    put_byte(out, next, digit)
+}
+
+// A whole number of a file, which has at most seven digits.
+pub fn put_whole(out: &mut [u8], at: usize, n: u32) -> usize
+    requires { (n < 10000000) × (at + length (show_whole n) ≤ length out.old) }
+    ensures { Wrote out.old at (show_whole n) out.new result }
+{
+    put_number(out, at, n as u64)
+}
+
+// d digits.
+pub fn put_digits(out: &mut [u8], at: usize, n: u32, d: usize) -> usize
+    requires { (d ≤ max_decimals) × (n < 10 ^ d) × (at + d ≤ length out.old) }
+    ensures { Wrote out.old at (show_digits d n) out.new result }
+{
+    let mut parts = power(d);
+    let mut left = n;
+    let mut next = at;
+    let mut k = d;
+    while 0 < k {
+        parts = parts / 10;
+        next = put_byte(out, next, b'0' + (left / parts) as u8);
+        left = left % parts;
+        k -= 1;
+    }
+    next
+}
+
+// A number with d decimals: its units, a point and d digits.
+pub fn put_decimal(out: &mut [u8], at: usize, n: u32, d: usize) -> usize
+    requires { (d ≤ max_decimals) × (n < 10000000 * 10 ^ d)
+        × (at + length (show_decimal d n) ≤ length out.old) }
+    ensures { Wrote out.old at (show_decimal d n) out.new result }
+{
+    let parts = power(d);
+    let point = put_whole(out, at, n / parts);
+    let next = put_byte(out, point, b'.');
+    put_digits(out, next, n % parts, d)
+}
+
+// A level, which has two decimals.
+pub fn put_level(out: &mut [u8], at: usize, n: u32) -> usize
+    requires { (n < 100000) × (at + length (show_level n) ≤ length out.old) }
+    ensures { Wrote out.old at (show_level n) out.new result }
+{
+    put_decimal(out, at, n, 2)
+}
+
+// A level of a network, which has three.
+pub fn put_thousandths(out: &mut [u8], at: usize, n: u32) -> usize
+    requires { (n < 1000000) × (at + length (show_thousandths n) ≤ length out.old) }
+    ensures { Wrote out.old at (show_thousandths n) out.new result }
+{
+    put_decimal(out, at, n, 3)
+}
+
+// A number, in room for the longest; and with a comma before it.
+pub fn put_any_number(out: &mut [u8], at: usize, n: u64) -> usize
+    requires { at + longest_number ≤ length out.old }
+    ensures { WroteWithin longest_number out.old at (show_number n) out.new result }
+{
+    put_number(out, at, n)
+}
+
+pub fn put_field(out: &mut [u8], at: usize, n: u64) -> usize
+    requires { at + longest_field ≤ length out.old }
+    ensures { WroteWithin longest_field out.old at (byte "," ∷ show_number n)
+        out.new result }
+{
+    let next = put_byte(out, at, b',');
+    put_any_number(out, next, n)
+}
+
+// A comma, and a text as it stands.
+pub fn put_word(out: &mut [u8], at: usize, text: &[u8]) -> usize
+    requires { at + 1 + length text.now ≤ length out.old }
+    ensures { Wrote out.old at (byte "," ∷ text.now) out.new result }
+{
+    let next = put_byte(out, at, b',');
+    put_text(out, next, text)
+}
+
+// A level, in room for the longest; and one of a network.
+pub fn put_any_level(out: &mut [u8], at: usize, n: u32) -> usize
+    requires { (n < 100000) × (at + longest_level ≤ length out.old) }
+    ensures { WroteWithin longest_level out.old at (show_level n) out.new result }
+{
+    put_level(out, at, n)
+}
+
+pub fn put_any_thousandths(out: &mut [u8], at: usize, n: u32) -> usize
+    requires { (n < 1000000) × (at + longest_thousandths ≤ length out.old) }
+    ensures { WroteWithin longest_thousandths out.old at (show_thousandths n)
+        out.new result }
+{
+    put_thousandths(out, at, n)
+}
+
+// The end of a line.
+pub fn put_end(out: &mut [u8], at: usize) -> usize
+    requires { at + 2 ≤ length out.old }
+    ensures { WroteWithin 2 out.old at crlf out.new result }
+{
+    let next = put_byte(out, at, b'\r');
+    put_byte(out, next, b'\n')
+}
+
+// A refusal's one line, at the front.
+pub fn put_refused(out: &mut [u8], number: u32, line: u64) -> usize
+    requires { longest_refused ≤ length out.old }
+    ensures { WroteWithin longest_refused out.old 0 (refused_text number line)
+        out.new result }
+{
+    let word = put_text(out, 0, b"refused");
+    let first = put_field(out, word, number as u64);
+    let second = put_field(out, first, line);
+    put_end(out, second)
+}
