@@ -1,12 +1,11 @@
 -- Laws on tests and refusals that every crate uses: what a test that passed says of its parts, and what a branch on
 -- a test says of the test. Assumes nothing.
 use mathlib.Core.Path.{◌≡◌, refl, sym, ◌∙◌}
-use mathlib.Core.Bool.{Bool, true, false, not, ◌&&◌, false≢true}
+use mathlib.Core.Bool.{Bool, true, false, ◌&&◌, false≢true}
 use mathlib.Core.List.{List, [], ◌∷◌}
 use Prim.Native.Nat.{ℕ, ◌<◌}
 use native.Mathlib.Omega.{arith}
 use lib.ListN.{length}
-use borrow.Author.Tests.{not-true, not-false}
 use Rattle.refusal.specs.Refuse.{refuse}
 
 pub and_left : (a b : Bool) → (a && b) ≡ true → a ≡ true
@@ -23,12 +22,9 @@ pub refuse_none : (n : ℕ) (ok : Bool) (rest : ℕ) → 0 < n → refuse n ok r
 refuse_none n true rest h e = (refl, e)
 refuse_none n false rest h e = absurd (omega arith)
 
--- a function answered r, which is the test t: past `if !r` the test holds, and inside it fails
-pub passed : {r t : Bool} → r ≡ t → not r ≡ false → t ≡ true
-passed e h = sym e ∙ not-false _ h
-
-pub failed : {r t : Bool} → r ≡ t → not r ≡ true → t ≡ false
-failed e h = sym e ∙ not-true _ h
+-- a function answered r, which is the test t: what a branch says of r holds of the test
+pub settled : {r t b : Bool} → r ≡ t → r ≡ b → t ≡ b
+settled e h = sym e ∙ h
 
 -- a list of no length
 pub nil_of_lem : {A : Type 0} (xs : List A) → length xs ≡ 0 → xs ≡ []

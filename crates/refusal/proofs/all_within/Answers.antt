@@ -1,9 +1,6 @@
-use mathlib.Core.Path.{◌≡◌, sym, ◌∙◌}
-use Prim.Native.Nat.{◌-◌, ◌≤◌}
+use mathlib.Core.Path.{sym, ◌∙◌}
 use native.Mathlib.Omega.{arith}
-use lib.ListN.{length, drop}
-use borrow.Author.{Tests.le-leb, Tests.lt-leb, Rules.rules}
-use Rattle.refusal.specs.Range.{all_within}
+use borrow.Author.{Tests.le-leb, Tests.lt-leb}
 use Rattle.refusal.proofs.Ranges.{within_more, within_end}
 use Rattle.refusal.proofs.all_within.Goals as goal
 

@@ -1,12 +1,9 @@
 -- `refusal::all_within` meets its contract. The loop's invariant: the whole list passes exactly if what is still to
 -- be read does. Assumes nothing.
-use mathlib.Core.Path.{◌≡◌, sym, ◌∙◌}
+use mathlib.Core.Path.{◌≡◌}
 use Prim.Native.Nat.{◌-◌, ◌≤◌}
-use native.Mathlib.Omega.{arith}
 use lib.ListN.{length, drop}
-use borrow.Author.{Tests.le-leb, Tests.lt-leb, Rules.rules}
 use Rattle.refusal.specs.Range.{all_within}
-use Rattle.refusal.proofs.Ranges.{within_more, within_end}
 use Rattle.refusal.proofs.all_within.Given as goal
 
 abbrev pub invariant-loop-i : goal.invariant-loop-i

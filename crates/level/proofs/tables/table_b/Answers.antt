@@ -6,17 +6,13 @@ use native.Mathlib.Omega.{arith}
 use lib.Dec.{lit<}
 use Rattle.level.specs.Tables.{largest_root, table_b}
 use Rattle.level.proofs.RootLaws.{roots_at, shift}
-use Rattle.level.proofs.tables.table_b.Statement.{statement}
-use Rattle.level.proofs.tables.table_b.Tie as tie
 use Rattle.level.proofs.tables.table_b.Reads as reads
 use Rattle.level.proofs.tables.table_b.Lts as lts
+use Rattle.level.proofs.tables.table_b.Goals as goal
 
-returns : tie.Need-returns
+pub returns : goal.returns
 unfolding table_b
 returns c =
     λ k h. roots_at 50 40 (10 ^ 280) (lit< tt) (λ i. 10 ^ (801 + 2 * i))
     (lts.m2 reads.Pre reads.Post c.args).0 (lit< tt) tt k h
     ∙ ap (largest_root 2000) (shift 801 11200 (2 * k) ∙ ap (λ (n : ℕ). 10 ^ n) (omega arith))
-
-pub table-b-spec : {M : Type 1} → statement M
-table-b-spec = tie.close (tie.spec returns)

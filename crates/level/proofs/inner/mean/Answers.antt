@@ -5,13 +5,12 @@ use Rattle.std.specs.Prelude.{ℕ, ◌/◌}
 use native.Mathlib.Omega.{arith}
 use borrow.Author.Rules.{rules}
 use Rattle.level.proofs.ScaleLaws.{mean_by_parts}
-use Rattle.level.proofs.inner.mean.Statement.{statement}
-use Rattle.level.proofs.inner.mean.Tie as tie
+use Rattle.level.proofs.inner.mean.Goals as goal
 
-returns : tie.Need-returns
+pub returns : goal.returns
 returns c =
-    let a = c.before.args in
+    let a = c.args in
     ap (λ (t : ℕ). t / a.days) c.scaled.ensures ∙ mean_by_parts a.total a.days
 
-pub mean-spec : {M : Type 1} → statement M
-mean-spec = tie.close (tie.spec (λ c κs. omega arith) (λ c. search rules) returns)
+pub scaled-requires : goal.scaled-requires
+scaled-requires c = omega arith

@@ -5,18 +5,22 @@ use mathlib.Core.Path.{sym}
 use native.Mathlib.Omega.{arith}
 use borrow.Author.Rules.{rules}
 use Rattle.level.proofs.ScaleLaws.{by_parts, rest_fits_lem}
-use Rattle.level.proofs.inner.scaled.Statement.{statement}
-use Rattle.level.proofs.inner.scaled.Tie as tie
+use Rattle.level.proofs.inner.scaled.Goals as goal
+use Rattle.level.proofs.inner.scaled.Goals.{Start}
 
-mul-rest : tie.Need-overflow-mul-rest
-mul-rest c = record { fits = rest_fits_lem c.args.s c.args.n c.args.d c.requires.0 (omega arith) (omega arith) }
+pub overflow_mul-rest : goal.overflow_mul-rest
+overflow_mul-rest c = record { fits = rest_fits_lem c.args.s c.args.n c.args.d c.requires.0 (omega arith) (omega arith) }
 
 -- the sum of both parts
-sum : (c : tie.Start)
+sum : (c : Start)
     → c.args.s * c.args.n / c.args.d ≡ c.args.s / c.args.d * c.args.n + c.args.s % c.args.d * c.args.n / c.args.d
 sum c = by_parts c.args.s c.args.n c.args.d c.requires.0
 
-pub scaled-spec : {M : Type 1} → statement M
-scaled-spec =
-    tie.close (tie.spec (λ c. search rules) mul-rest (λ c. search rules) (λ c. search rules)
-    (λ c. omega (arith, sum c, c.requires.1)) (λ c. omega (arith, sum c, c.requires.1)) (λ c. sym (sum c)))
+pub overflow_mul-result : goal.overflow_mul-result
+overflow_mul-result c = omega (arith, sum c, c.requires.1)
+
+pub overflow_add-result : goal.overflow_add-result
+overflow_add-result c = omega (arith, sum c, c.requires.1)
+
+pub returns : goal.returns
+returns c = sym (sum c)

@@ -1,5 +1,3 @@
--- `level::inner::first_reaching` meets its contract. Every level before the decade of m misses m, and the first level of
--- the next decade reaches it. The loop's invariant: every level before n misses m. Assumes nothing.
 use Rattle.std.specs.Prelude.{◌≡◌, ℕ, zero, suc, ◌+◌, ◌-◌, ◌*◌, ◌^◌, ◌<◌, ◌≤◌}
 use mathlib.Core.Path.{ap, sym, ◌∙◌}
 use native.Mathlib.Nat.{lt_of_not-le, lt_of_le_of_lt, suc-mul, mul-le-mul_right, pow-le-pow_right}
@@ -9,12 +7,9 @@ use borrow.Author.Count.{below_more}
 use Rattle.level.specs.declared.Level.TheVariants.{At}
 use Rattle.level.specs.{Limits.max_mean, Tables.table_b, Level.bound, Level.level_of}
 use Rattle.level.proofs.LevelLaws.{b_first, b_below, bound_at, bound_mono, bound_top, level_is}
-use Rattle.level.proofs.inner.first_reaching.Statement.{statement}
-use Rattle.level.proofs.inner.first_reaching.Tie as tie
-
--- every level before n misses m
-abbrev Missed : (m n : ℕ) → Type 0
-Missed m n = (j : ℕ) → j < n → bound j < m
+use Rattle.level.proofs.inner.first_reaching.Invariants.{Missed}
+use Rattle.level.proofs.inner.first_reaching.Goals as goal
+use Rattle.level.proofs.inner.first_reaching.Goals.{After-decade_of-n}
 
 -- B(999) is below 10^7, so the last bound before decade q is below 10^(q+3), and bounds rise
 missed-before : (q m : ℕ) → 10 ^ (q + 3) ≤ m → Missed m (1000 * q)
@@ -42,36 +37,44 @@ found : (m n : ℕ) → 1000 ≤ m → m ≤ max_mean → Missed m n → m ≤ b
 found m n least most missed reached =
     sym (level_is m n least (omega (arith, in_tables m n most missed)) reached missed)
 
-abbrev invariant-loop : tie.invariant-loop
-invariant-loop b powers m n₀ next n = (n ≤ next) × Missed m n
+before : (c : After-decade_of-n) → Missed c.args.m (1000 * c.decade_of-n.result)
+before c = missed-before _ _ c.decade_of-n.ensures.0
 
-abbrev decreases-loop : tie.decreases-loop
-decreases-loop b powers m n₀ next n = next - n
+fits : (c : After-decade_of-n) → 1000 * c.decade_of-n.result < 14000
+fits c = in_tables _ _ c.requires.1 (before c)
 
-before : (c : tie.After-decade-of invariant-loop decreases-loop) → Missed c.before.args.m (1000 * c.decade-of.result)
-before c = missed-before _ _ c.decade-of.ensures.0
+pub bound_at-requires : goal.bound_at-requires
+bound_at-requires c =
+    let p = c.requires in
+    (in_tables _ _ p.1 c.loop-n.invariant.1, p.2, p.3)
 
-fits : (c : tie.After-decade-of invariant-loop decreases-loop) → 1000 * c.decade-of.result < 14000
-fits c = in_tables _ _ c.before.requires.1 (before c)
+pub returns-then-m-bound_at : goal.returns-then-m-bound_at
+returns-then-m-bound_at c = found _ _ (omega arith) (omega arith) c.loop-n.invariant.1 (omega arith)
 
-bound-at-requires : tie.Need-bound-at-requires invariant-loop decreases-loop
-bound-at-requires c κs =
-    let p = c.before.before.before.requires in
-    (in_tables _ _ p.1 c.before.loop.invariant.1, p.2, p.3)
-
-returns : tie.Need-returns invariant-loop decreases-loop
-returns c = found _ _ (omega arith) (omega arith) c.before.before.before.loop.invariant.1 (omega arith)
-
-returns-2 : tie.Need-returns-2 invariant-loop decreases-loop
-returns-2 c =
-    let l = c.before.loop in
-    let d = c.before.before.decade-of in
+pub returns : goal.returns
+returns c =
+    let l = c.loop-n in
+    let d = c.decade_of-n in
     let e : l.n ≡ 1000 * d.result + 1000 = omega arith in
     found _ _ (omega arith) (omega arith) l.invariant.1 (rw e (next-reaches d.result _ d.ensures.1))
 
-pub first-reaching-spec : {M : Type 1} → statement M
-first-reaching-spec =
-    tie.close (tie.spec invariant-loop decreases-loop (λ c κs. (c.requires.0, c.requires.1, c.requires.3)) (λ c. omega (arith, fits c))
-    (λ c. omega (arith, fits c)) (λ c. (omega arith, before c)) bound-at-requires returns
-    (λ c. omega (arith, fits c.before.before.before.before)) (λ c. omega arith)
-    (λ c. (omega arith, below_more _ _ c.before.before.before.loop.invariant.1 (omega arith))) returns-2)
+pub decade_of-n-requires : goal.decade_of-n-requires
+decade_of-n-requires c = (c.requires.0, c.requires.1, c.requires.3)
+
+pub overflow_mul-n : goal.overflow_mul-n
+overflow_mul-n c = omega (arith, fits c)
+
+pub overflow_add-next : goal.overflow_add-next
+overflow_add-next c = omega (arith, fits c)
+
+pub loop-n-init : goal.loop-n-init
+loop-n-init c = (omega arith, before c)
+
+pub overflow_add-n : goal.overflow_add-n
+overflow_add-n c = omega (arith, fits (goal.at.overflow_add-n c).After-decade_of-n)
+
+pub loop-n-smaller : goal.loop-n-smaller
+loop-n-smaller c = omega arith
+
+pub loop-n-preserved : goal.loop-n-preserved
+loop-n-preserved c = (omega arith, below_more _ _ c.loop-n.invariant.1 (omega arith))
