@@ -8,7 +8,7 @@ use crate::inner::read_from;
 pub const STANDARD_INPUT: i32 = 0;
 
 // What a read answered: so many bytes, none is left to come, or it failed.
-#[derive(Drop)]
+#[derive(Clone, Copy)]
 pub enum Arrived {
     Bytes(usize),
     End,

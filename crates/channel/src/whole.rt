@@ -8,7 +8,7 @@ use crate::file::{close_file, open_file};
 use crate::input::{Arrived, STANDARD_INPUT};
 
 // How a buffer was filled: `size` bytes stand at its front, and `state` says why no more.
-#[derive(Drop)]
+#[derive(Clone, Copy)]
 pub struct Filled {
     pub size: usize,
     pub state: u32,

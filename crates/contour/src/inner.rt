@@ -10,7 +10,7 @@ use crate::{border, fill, sweep};
 use network::limits::MAX_EDGES;
 
 // How many edges are listed, and how many contours.
-#[derive(Drop)]
+#[derive(Clone, Copy)]
 pub struct Progress {
     pub edges: usize,
     pub contours: usize,

@@ -167,7 +167,7 @@ pub(crate) fn across(nx: usize, ny: usize, left: bool, e: Edge) -> Ahead
 }
 
 // An edge by its number, and what lies ahead of it.
-#[derive(Drop)]
+#[derive(Clone, Copy)]
 pub struct Stand {
     pub edge: usize,
     pub ahead: Ahead,

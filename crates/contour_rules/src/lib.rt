@@ -3,7 +3,7 @@
 #![tactic(auto)]
 
 // A side of a square, counterclockwise.
-#[derive(Drop)]
+#[derive(Clone, Copy)]
 pub enum Side {
     South,
     East,
@@ -12,7 +12,7 @@ pub enum Side {
 }
 
 // What a crossing heads into: the square of that row and column, by that side, or out of the network.
-#[derive(Drop)]
+#[derive(Clone, Copy)]
 pub enum Ahead {
     Square(usize, usize, Side),
     Outside,

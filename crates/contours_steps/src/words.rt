@@ -27,7 +27,7 @@ pub fn contour_of(word: &[u8]) -> u32
 }
 
 // The words of a program: how many there are, and whether every one is a contour level.
-#[derive(Drop)]
+#[derive(Clone, Copy)]
 pub struct Given {
     pub count: usize,
     pub fit: bool,

@@ -16,7 +16,7 @@ const MOVEMENTS: usize = 1;
 const TRACKS: usize = 2;
 
 // Movements with a track, aeroplanes' circuits, which take none, and others without one.
-#[derive(Drop)]
+#[derive(Clone, Copy)]
 struct Counts {
     with_track: u64,
     circuits: u64,

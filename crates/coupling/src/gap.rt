@@ -9,7 +9,7 @@ use sorting::inner::key_at;
 
 // What a movement asks of a track: its class as two numbers, its moment, and its reach: one more than the seconds that
 // a track may be away, 0 where it takes none.
-#[derive(Drop)]
+#[derive(Clone, Copy)]
 pub struct Wanted {
     pub high: u64,
     pub low: u64,

@@ -88,7 +88,7 @@ fn side(a: u64, b: u64) -> u32
 }
 
 // Where a turn leaves off, and its answer: the track's place from 1, or 0.
-#[derive(Drop)]
+#[derive(Clone, Copy)]
 pub struct Left {
     pub at: usize,
     pub top: usize,

@@ -6,7 +6,7 @@ ghost use Rattle.explain_text.specs.InnerNumbers.{number_at, whole_at, sum_at, A
 use movement::limits::GROUPS;
 
 // Movements computed and not, the factor's upper and lower, the energy, and what of it is counted.
-#[derive(Drop)]
+#[derive(Clone, Copy)]
 pub struct Amounts {
     pub computed: u64,
     pub missing: u64,

@@ -25,7 +25,7 @@ pub const TRACK_COLUMNS: usize = 8;
 pub const MOVEMENT_COLUMNS: usize = 9;
 
 // What a row reads as: refusal 0 and the values of its columns, a track's circuit 0; or 16 or 18, and zeros.
-#[derive(Drop)]
+#[derive(Clone, Copy)]
 pub struct Flight {
     pub refusal: u32,
     pub values: [u32; MOVEMENT_COLUMNS],

@@ -9,7 +9,7 @@ use text::number::{Number, thousandths, whole};
 use text::same::same_text;
 
 // Where a line ends, and where the next one starts.
-#[derive(Drop)]
+#[derive(Clone, Copy)]
 pub struct Line {
     pub end: usize,
     pub next: usize,
@@ -50,7 +50,7 @@ fn key_number(line: &[u8], key: &[u8]) -> Number
 }
 
 // What a header line reads as: its number, and the place past the line.
-#[derive(Drop)]
+#[derive(Clone, Copy)]
 pub enum Keyed {
     Got(u32, usize),
     Off,
@@ -70,7 +70,7 @@ fn key_line(s: &[u8], at: usize, key: &[u8]) -> Keyed
 }
 
 // What the five header lines read as: the frame and the place past them, or the first line off the layout.
-#[derive(Drop)]
+#[derive(Clone, Copy)]
 pub enum Head {
     Got(Frame, usize),
     Off(usize),
@@ -152,7 +152,7 @@ fn names_well(line: &[u8]) -> bool
 
 // What the line after the header says of no data: where it is spelled and the place past the line, nothing, or that it
 // is off the layout.
-#[derive(Drop)]
+#[derive(Clone, Copy)]
 pub enum NoData {
     Named(usize, usize, usize),
     Unnamed,

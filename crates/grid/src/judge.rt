@@ -30,7 +30,7 @@ fn value_refusal(s: &[u8], nodata: &[u8]) -> u32
 }
 
 // How many values a row has and whether all of them are sound, or that it is off the layout.
-#[derive(Drop)]
+#[derive(Clone, Copy)]
 pub enum Row {
     Values(usize, bool),
     Off,
@@ -60,7 +60,7 @@ fn judge_row(s: &[u8], nodata: &[u8]) -> Row
 
 // What a text is judged to be: its frame, the place of its rows, whether they fit the frame and whether all values are
 // sound; or the first line off the layout.
-#[derive(Drop)]
+#[derive(Clone, Copy)]
 pub enum File {
     On(Frame, usize, bool, bool),
     Off(usize),

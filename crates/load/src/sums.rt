@@ -12,7 +12,7 @@ use load_rules::{Counts, Group, Groups};
 use movement::limits::GROUPS;
 
 // P, V + U over the groups with computed movements, and W.
-#[derive(Drop)]
+#[derive(Clone, Copy)]
 pub(crate) struct Sums {
     pub(crate) scaled: u64,
     pub(crate) known: u32,
@@ -20,7 +20,7 @@ pub(crate) struct Sums {
 }
 
 // The total of a load, and its level.
-#[derive(Drop)]
+#[derive(Clone, Copy)]
 pub(crate) struct Totals {
     pub(crate) total: u64,
     pub(crate) level: Level,

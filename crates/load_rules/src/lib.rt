@@ -6,7 +6,7 @@
 use movement::limits::GROUPS;
 
 // V, U and S of a group: its movements computed and not, and the energy of the computed ones.
-#[derive(Drop)]
+#[derive(Clone, Copy)]
 pub struct Group {
     pub computed: u32,
     pub missing: u32,
@@ -17,7 +17,7 @@ pub struct Group {
 pub type Groups = [[[Group; 3]; 2]; 3];
 
 // V and U of a group.
-#[derive(Drop)]
+#[derive(Clone, Copy)]
 pub struct Counts {
     pub computed: u32,
     pub missing: u32,
@@ -25,7 +25,7 @@ pub struct Counts {
 
 // A load: a refusal's number, and zeros with it, or 0 with the total energy, the level, and V and U of each group by
 // its number.
-#[derive(Drop)]
+#[derive(Clone, Copy)]
 pub struct Load {
     pub refused: u32,
     pub total: u64,
@@ -34,7 +34,7 @@ pub struct Load {
 }
 
 // A verdict, or a refusal's number.
-#[derive(Drop)]
+#[derive(Clone, Copy)]
 pub enum Judged {
     Refused(u32),
     Given(level::Verdict),

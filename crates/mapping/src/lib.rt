@@ -17,7 +17,7 @@ mod place;
 
 // Where a contour crosses an edge: not at all, or at a fraction of a horizontal or a vertical edge from its west or
 // south end.
-#[derive(Drop)]
+#[derive(Clone, Copy)]
 pub enum Crossing {
     Nowhere,
     AlongHorizontal(f64),
@@ -25,21 +25,21 @@ pub enum Crossing {
 }
 
 // A crossing, or why it is refused.
-#[derive(Drop)]
+#[derive(Clone, Copy)]
 pub enum Asked {
     Crossed(Crossing),
     Refused(u32),
 }
 
 // A place on the map, in metres east and north.
-#[derive(Drop)]
+#[derive(Clone, Copy)]
 pub struct MapPoint {
     pub x: f64,
     pub y: f64,
 }
 
 // The map point of a crossing, if there is one, by the kind of its edge.
-#[derive(Drop)]
+#[derive(Clone, Copy)]
 pub enum Located {
     Off,
     OnHorizontal(MapPoint),
@@ -47,14 +47,14 @@ pub enum Located {
 }
 
 // A map point, or why it is refused.
-#[derive(Drop)]
+#[derive(Clone, Copy)]
 pub enum Mapped {
     Place(Located),
     Denied(u32),
 }
 
 // A map point by number and coordinates: 0 none, 1 on a horizontal edge, 2 on a vertical edge.
-#[derive(Drop)]
+#[derive(Clone, Copy)]
 pub struct Shown {
     pub which: u32,
     pub x: f64,

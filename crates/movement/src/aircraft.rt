@@ -4,7 +4,7 @@ ghost use Rattle.movement.specs.Aircraft.{aircraft_number, aircraft_numbered, ma
 
 use crate::limits::SMALL_BELOW;
 
-#[derive(Drop)]
+#[derive(Clone, Copy)]
 pub enum Aircraft {
     Large,
     Small,

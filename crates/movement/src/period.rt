@@ -2,7 +2,7 @@
 ghost use Rattle.std.specs.Prelude.{◌≡◌};
 ghost use Rattle.movement.specs.Period.{period_of, period_number};
 
-#[derive(Drop)]
+#[derive(Clone, Copy)]
 pub enum Period {
     Day,
     Evening,

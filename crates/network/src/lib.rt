@@ -13,7 +13,7 @@ pub mod inner;
 pub mod limits;
 
 // A network's size in points, the spacing of its points and its south-west point, in whole metres.
-#[derive(Drop)]
+#[derive(Clone, Copy)]
 pub struct Frame {
     pub columns: u32,
     pub rows: u32,
@@ -23,7 +23,7 @@ pub struct Frame {
 }
 
 // An edge by the row and column of its west or south end.
-#[derive(Drop)]
+#[derive(Clone, Copy)]
 pub enum Edge {
     Horizontal(usize, usize),
     Vertical(usize, usize),

@@ -10,14 +10,14 @@ use text::inner::{field_end, letter};
 use text::number::{Number, level, whole};
 
 // Whose columns: those of a register or of limits.csv.
-#[derive(Drop)]
+#[derive(Clone, Copy)]
 pub enum Table {
     Register,
     LimitsFile,
 }
 
 // The fields of a line: whether all could be read, how many levels are blank, and the values, zero past the last.
-#[derive(Drop)]
+#[derive(Clone, Copy)]
 pub struct Cells {
     pub read: bool,
     pub blanks: u32,

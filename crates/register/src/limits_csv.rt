@@ -14,7 +14,7 @@ use text::inner::line_end;
 use text::number::Number;
 
 // What limits.csv reads as: points, days and a limit for each point, zero past the points; or a refusal and its line.
-#[derive(Drop)]
+#[derive(Clone, Copy)]
 pub struct LimitsFile {
     pub refusal: u32,
     pub line: u32,

@@ -15,7 +15,7 @@ use text::line::bare_length;
 
 // The fields of a row: type 0 large, 1 small, 2 helicopter; kind 0 start, 1 landing; time a second of the day;
 // computed 1 or 0.
-#[derive(Drop)]
+#[derive(Clone, Copy)]
 pub struct Fields {
     pub identity: u32,
     pub ty: u32,
@@ -27,7 +27,7 @@ pub struct Fields {
 
 // What a row's text reads as by its layout alone: refusal 0, its fields and its levels, zero past the points; or 16
 // and zeros.
-#[derive(Drop)]
+#[derive(Clone, Copy)]
 pub struct Layout {
     pub refusal: u32,
     pub fields: Fields,
@@ -35,7 +35,7 @@ pub struct Layout {
 }
 
 // What a row reads as: its fields, or a refusal.
-#[derive(Drop)]
+#[derive(Clone, Copy)]
 pub enum Answer {
     Row(Fields),
     Refused(u32),

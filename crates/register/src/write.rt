@@ -16,7 +16,7 @@ use refusal::all_within;
 use text::inner::{put_byte, put_level, put_text, put_whole};
 
 // What writing answers: how many bytes were written, or a refusal.
-#[derive(Drop)]
+#[derive(Clone, Copy)]
 pub enum Written {
     Size(u32),
     Refused(u32),

@@ -8,7 +8,7 @@ ghost use Rattle.report_steps.specs.Intake.{taken_number};
 pub mod inner;
 
 // What a register's row did to the book.
-#[derive(Drop)]
+#[derive(Clone, Copy)]
 pub enum Taken {
     Entered,
     PassedOver,

@@ -25,7 +25,7 @@ use text::inner::{
 };
 
 // A report: how many bytes it has, and the refusal of the whole book, 0 for none.
-#[derive(Drop)]
+#[derive(Clone, Copy)]
 pub struct Report {
     pub size: usize,
     pub refused: u32,

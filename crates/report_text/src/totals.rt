@@ -5,7 +5,7 @@ ghost use Rattle.report_text.specs.Totals.{all_computed, all_missing};
 
 use load_rules::Counts;
 
-#[derive(Drop)]
+#[derive(Clone, Copy)]
 pub struct Totals {
     pub computed: u64,
     pub missing: u64,

@@ -4,7 +4,7 @@ ghost use Rattle.std.specs.Prelude.{◌≤◌, length};
 use crate::inner::{column_end, row_end};
 
 // A part of a text.
-#[derive(Drop)]
+#[derive(Clone, Copy)]
 pub struct Part {
     pub start: usize,
     pub end: usize,
@@ -48,7 +48,7 @@ pub fn line(s: &[u8], k: u64) -> Part
 
 // Of the `left` bytes from `at` on the first line, and whether all of it is there; `ended` says whether the bytes are
 // the last. An empty one where they don't stand in the text.
-#[derive(Drop)]
+#[derive(Clone, Copy)]
 pub struct Cut {
     pub start: usize,
     pub end: usize,

@@ -9,7 +9,7 @@ use text::same::same_text;
 
 // A row or a value: its number, counted from 1, and its part of the text. Where none was found, `number` is that of the
 // last.
-#[derive(Drop)]
+#[derive(Clone, Copy)]
 pub struct Place {
     pub found: bool,
     pub number: u64,
@@ -18,7 +18,7 @@ pub struct Place {
 }
 
 // What is looked for: a value that is none, a level over 150.000 or no data, a row without so many values, or nothing.
-#[derive(Drop)]
+#[derive(Clone, Copy)]
 pub enum Sought {
     Off,
     Over,

@@ -71,7 +71,7 @@ fn header_off(file: &[u8], k: u64, text: &[u8], body: &[u8], row: &[u8]) {
 }
 
 // A value that is missing or one too many.
-#[derive(Drop)]
+#[derive(Clone, Copy)]
 pub struct Fault {
     pub row: u64,
     pub column: u64,

@@ -10,7 +10,7 @@ use said::row;
 use text::number::Number;
 
 // Whose columns.
-#[derive(Drop)]
+#[derive(Clone, Copy)]
 pub enum Table {
     Register,
     LimitsFile,
@@ -23,7 +23,7 @@ pub(crate) const LIMITS: [u8; 28] = *b"days,p1,p2,p3,p4,p5,p6,p7,p8";
 
 // What a column is looked for: a header's with another name, one off its layout, a level that is blank or over 120.00,
 // and a level that a decimal comma cuts in two.
-#[derive(Drop)]
+#[derive(Clone, Copy)]
 pub enum Sought {
     Misnamed,
     Off,

@@ -6,7 +6,7 @@ pub mod inner;
 
 // Where the reading of a piece stands: the bytes before `at` are read; `line` is the number of the next line, or of the
 // one that is refused.
-#[derive(Drop)]
+#[derive(Clone, Copy)]
 pub struct Feed {
     pub at: usize,
     pub line: u64,
@@ -15,7 +15,7 @@ pub struct Feed {
 
 // The same once a piece is taken: `left` bytes of the next line wait at the front of the buffer. Where a line is
 // refused none was moved, and it begins at `at`.
-#[derive(Drop)]
+#[derive(Clone, Copy)]
 pub struct Piece {
     pub at: usize,
     pub left: usize,
@@ -25,7 +25,7 @@ pub struct Piece {
 
 // Where the reading of all stands: `left` bytes wait in front of the buffer for the end of line `line`, and `state`
 // says whether to read on. A line that is refused stands at `at`.
-#[derive(Drop)]
+#[derive(Clone, Copy)]
 pub struct Turn {
     pub at: usize,
     pub left: usize,

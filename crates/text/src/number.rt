@@ -5,7 +5,7 @@ ghost use Rattle.text.specs.Number.{whole_of, level_of, thousandths_of};
 use crate::inner::{decimal, digits};
 
 // What a field reads as: its value, or that it is off its layout.
-#[derive(Drop)]
+#[derive(Clone, Copy)]
 pub enum Number {
     Got(u32),
     Off,

@@ -17,7 +17,7 @@ mod place;
 mod put;
 
 // A printed place in whole millimetres east and north.
-#[derive(Drop)]
+#[derive(Clone, Copy)]
 pub struct Spot {
     pub x: u32,
     pub y: u32,
@@ -25,7 +25,7 @@ pub struct Spot {
 
 // What is printed next: the line, the place of its first edge among the listed edges, and its point.
 // The line past the last ends the text, and the one past that is the end.
-#[derive(Drop)]
+#[derive(Clone, Copy)]
 pub struct Cursor {
     pub line: usize,
     pub start: usize,
@@ -33,7 +33,7 @@ pub struct Cursor {
 }
 
 // What has been printed: how many bytes, and what comes next.
-#[derive(Drop)]
+#[derive(Clone, Copy)]
 pub struct Part {
     pub next: Cursor,
     pub size: usize,

@@ -12,7 +12,7 @@ use text::inner::{put_any_number, put_byte, put_end, put_field};
 const LONGEST_FLIGHT: usize = 43;
 
 // A part of the sheet: `size` bytes at the front of the buffer, up to the line of movement `next`.
-#[derive(Drop)]
+#[derive(Clone, Copy)]
 pub struct Part {
     pub size: usize,
     pub next: usize,
