@@ -8,7 +8,9 @@
 use cases::inner::line_past;
 use cases::fields::{numbers, place};
 use cases::show::{field, list, say};
-use libc::STDIN_FILENO;
+
+// The descriptor of standard input.
+const STDIN_FILENO: i32 = 0;
 
 // What is got, in a line of its own; the field behind it in the script is what it should be.
 fn shown(name: &[u8], got: &[u32], line: &[u8], k: usize) {

@@ -10,7 +10,7 @@ pub fn stepped(column: &mut [u32], from: usize, first: u32, step: u32, gap: usiz
     while i < column.len() {
         let left = column.len() - i;
         column[i] = value;
-        value = std::num::wrapping_add_u32(value, step);
+        value = value.wrapping_add(step);
         if left <= gap {
             return;
         }

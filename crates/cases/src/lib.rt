@@ -3,6 +3,6 @@
 #![tactic(auto)]
 
 pub mod column;
-pub mod inner;
 pub mod fields;
+pub mod inner;
 pub mod show;

@@ -1,6 +1,8 @@
 // Output.
 use crate::fields::{field_end, field_start};
-use libc::STDOUT_FILENO;
+
+// The descriptor of standard output.
+const STDOUT_FILENO: i32 = 1;
 
 // A text as it stands.
 pub fn say(text: &[u8]) {

@@ -1,10 +1,8 @@
 -- Bytes that are read behind those that stand at the front of a buffer. Assumes nothing.
-use mathlib.Core.{Path.◌≡◌, Path.refl, Path.sym, Path.ap, Path.subst, Path.◌∙◌, List.List, List.◌++◌, Bool.false}
+use mathlib.Core.{Path.◌≡◌, Path.refl, Path.sym, Path.ap, Path.subst, Path.◌∙◌, List.List, List.◌++◌}
 use Rattle.std.specs.Prelude.{ℕ, ◌+◌, ◌≤◌}
 use native.Mathlib.Omega.{arith}
-use lib.{IntN.ℤ, IntN.pos, IntN.negsuc, Signed.lt_z, ListN.length, ListN.take, ListN.length-append}
-use Rattle.libc.specs.Io.{Moved}
-use Rattle.io.specs.Counts.{clamp_len}
+use lib.ListN.{length, take, length-append}
 use lib.Seq.{take-append-add, take-append-le, length-take-le}
 use borrow.Rule.Slice.PartMut.{put_mid, post_of, take_put}
 use Rattle.channel.specs.declared.input.Arrived.{Arrived}
@@ -27,12 +25,6 @@ pub behind_fits : (n m k : ℕ) (xs ys : List ℕ) → n ≤ length xs → k ≤
 behind_fits n m k xs ys h f =
     let rest = ys ++ post_of n m xs in
     omega (arith, length-append (take n xs) rest, length-append ys (post_of n m xs), length-take-le n xs h)
-
--- a read that answered no less than 0 answered the bytes that are counted
-pub answered_count : (z : ℤ) (room n : ℕ) → lt_z z (pos 0) ≡ false → n ≡ clamp_len z room → Moved room z
-    → z ≡ pos n
-answered_count (pos k) room n e q h = let is : k ≡ n = omega (arith, q, h) in ap pos is
-answered_count (negsuc k) room n e q h = let never : ◌≡◌ {A = ℕ} 0 1 = cc in absurd (omega arith)
 
 -- what a read gave, once its answer is known
 pub gave_as : {origin : Origin} {taken taken' : ℕ} {r : Arrived} {room : List ℕ} → Reads origin taken r taken' room

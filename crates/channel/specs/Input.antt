@@ -6,7 +6,7 @@ use Rattle.channel.specs.declared.whole.Filled.{Filled}
 use Rattle.channel.specs.System.{Origin, First, Whole, Broken}
 use Rattle.channel.specs.System.Origin.{input, file}
 
--- what a descriptor gives: the file that was opened under a name, or else standard input
+-- what a source gives: the file that was opened under a name, or else standard input
 abbrev pub origin_of : (opened : Bool) (name : List ℕ) → Origin
 origin_of true name = file name
 origin_of false name = input

@@ -2,16 +2,18 @@
 -- it. So nothing proves one of these statements but its own `system-..`, which takes what a call answered and says what
 -- that means. No file outside this crate may name a `system-..`: tools/check-channel, run by the gate, refuses it.
 -- Assumes nothing.
-use Rattle.std.specs.Prelude.{◌≡◌, ℕ, ◌+◌, ◌^◌, ◌≤◌, Bool, true, false, List, [], ◌++◌, length, take, ℤ, pos, int_lt}
+use Rattle.std.specs.Prelude.{◌≡◌, ℕ, ◌+◌, ◌^◌, ◌≤◌, Bool, true, false, List, [], ◌++◌, length, take, Result, Ok, Err}
+use Rattle.channel.specs.declared.file.Source.{Source}
+use Rattle.channel.specs.declared.file.Source.TheVariants.{Input}
 
 -- where bytes come from: standard input, or the file of a name
 pub data Origin : Type 0 where
   input : Origin
   file : (name : List ℕ) → Origin
 
--- a descriptor gives what comes from an origin
-pub Descriptor : (fd : ℤ) (origin : Origin) → Type 0
-Descriptor fd origin = Unit
+-- a source gives what comes from an origin
+pub Descriptor : (source : Source) (origin : Origin) → Type 0
+Descriptor source origin = Unit
 
 -- the first bytes that came from an origin are these
 pub First : (origin : Origin) (bytes : List ℕ) → Type 0
@@ -40,8 +42,8 @@ Arguments count = Unit
 pub Argument : (number size : ℕ) (bytes : List ℕ) → Type 0
 Argument number size bytes = Unit
 
--- descriptor 0 is standard input's, before any call
-pub standard_input : Descriptor (pos 0) input
+-- the source that is standard input's, before any call
+pub standard_input : Descriptor Input input
 unfolding Descriptor
 standard_input = tt
 
@@ -54,31 +56,31 @@ pub none_went : Sent []
 unfolding Sent
 none_went = tt
 
--- Opening a name for reading answered a descriptor, or one that no read takes
-pub system_opened : (answer : ℤ) (name : List ℕ) → Descriptor answer (file name)
+-- Opening a name for reading answered a source, or one that no read takes
+pub system_opened : (answer : Source) (name : List ℕ) → Descriptor answer (file name)
 unfolding Descriptor
 system_opened answer name = tt
 
--- A read of a descriptor into some room answered n: the first n bytes of the room came behind those before
-pub system_gave : (fd : ℤ) (origin : Origin) (n : ℕ) (answer : ℤ) (room old : List ℕ) → Descriptor fd origin
-    → answer ≡ pos n → n ≤ length room
+-- A read of a source into some room answered n: the first n bytes of the room came behind those before
+pub system_gave : {E : Type 0} (source : Source) (origin : Origin) (n : ℕ) (answer : Result ℕ E) (room old : List ℕ)
+    → Descriptor source origin → answer ≡ Ok n → n ≤ length room
     → First origin old → First origin (old ++ take n room)
 unfolding First
-system_gave fd origin n answer room old d e h f = tt
+system_gave source origin n answer room old d e h f = tt
 
 -- It answered 0, though there was room: there are no more
-pub system_ended : (fd : ℤ) (origin : Origin) (answer : ℤ) (room old : List ℕ) → Descriptor fd origin
-    → answer ≡ pos 0 → 1 ≤ length room
+pub system_ended : {E : Type 0} (source : Source) (origin : Origin) (answer : Result ℕ E) (room old : List ℕ)
+    → Descriptor source origin → answer ≡ Ok 0 → 1 ≤ length room
     → First origin old → Whole origin old
 unfolding Whole
-system_ended fd origin answer room old d e h f = tt
+system_ended source origin answer room old d e h f = tt
 
--- It answered less
-pub system_failed : (fd : ℤ) (origin : Origin) (answer : ℤ) (old : List ℕ) → Descriptor fd origin
-    → int_lt answer (pos 0) ≡ true
+-- It failed
+pub system_failed : {E : Type 0} (source : Source) (origin : Origin) (why : E) (answer : Result ℕ E) (old : List ℕ)
+    → Descriptor source origin → answer ≡ Err why
     → First origin old → Broken origin old
 unfolding Broken
-system_failed fd origin answer old d e f = tt
+system_failed source origin why answer old d e f = tt
 
 -- It was not made: what it gave could no longer be counted
 pub system_uncounted : (origin : Origin) (room old : List ℕ) → 2 ^ 64 ≤ length old + length room + 1

@@ -1,18 +1,29 @@
 // One read, and one write.
 ghost use Rattle.std.specs.Prelude.{◌+◌, ◌^◌, ◌<◌, length};
+ghost use Rattle.std.specs.Io.{ReadsAtMost};
 ghost use Rattle.channel.specs.System.{Descriptor};
 ghost use Rattle.channel.specs.Input.{Reads, origin_of};
 ghost use Rattle.channel.specs.Output.{Writes};
 
+use crate::file::Source;
 use crate::input::Arrived;
-use libc::STDOUT_FILENO;
+use std::io::{Error, ErrorKind, Read, Result};
+
+// The descriptor of standard output.
+const STDOUT_FILENO: i32 = 1;
 
 // Reads behind the `taken` bytes that came before, into the front of the room. Without room it fails: then nothing can
 // come, and that is no end, nor a read that failed. Behind an end or a failure the count is used up, and a further read
-// fails without being made. The descriptor is that of the file that was opened under the name, or else standard
-// input's.
-pub fn read_from(opened: bool, name: &[u8], fd: i32, taken: &mut u64, room: &mut [u8]) -> Arrived
-    requires { Descriptor fd (origin_of opened name.now) }
+// fails without being made. The source is the file that was opened under the name, or else standard input.
+pub fn read_from(
+    rt: &HostRuntime,
+    opened: bool,
+    name: &str,
+    source: &Source,
+    taken: &mut u64,
+    room: &mut [u8],
+) -> Arrived
+    requires { Descriptor source.now (origin_of opened name.now) }
     ensures { Reads (origin_of opened name.now) taken.old result taken.new
         room.new }
 {
@@ -24,18 +35,34 @@ pub fn read_from(opened: bool, name: &[u8], fd: i32, taken: &mut u64, room: &mut
         *taken = u64::MAX;
         return Arrived::Failed;
     }
-    let got = libc::read(fd, room);
-    if got < 0 {
-        *taken = u64::MAX;
-        return Arrived::Failed;
+    match read_once(rt, source, room) {
+        Ok(n) => {
+            if n == 0 {
+                *taken = u64::MAX;
+                return Arrived::End;
+            }
+            *taken = *taken + n as u64;
+            Arrived::Bytes(n)
+        }
+        Err(_) => {
+            *taken = u64::MAX;
+            Arrived::Failed
+        }
     }
-    let n = io::count(got, room);
-    if n == 0 {
-        *taken = u64::MAX;
-        return Arrived::End;
+}
+
+// One call of the system that reads.
+fn read_once(rt: &HostRuntime, source: &Source, room: &mut [u8]) -> Result<usize>
+    ensures { ReadsAtMost result room.new }
+{
+    match source {
+        Source::Input => rt.stdin().read(room),
+        Source::Opened(opened) => {
+            let mut file = opened;
+            file.read(room)
+        }
+        Source::Absent => Err(Error::from(ErrorKind::NotFound)),
     }
-    *taken = *taken + n as u64;
-    Arrived::Bytes(n)
 }
 
 // Hands a part to standard output, behind the `sent` bytes that went before, and answers whether all of it was taken.

@@ -2,10 +2,8 @@
 ghost use Rattle.channel.specs.System.Origin.{input};
 ghost use Rattle.channel.specs.Input.{Reads};
 
+use crate::file::Source;
 use crate::inner::read_from;
-
-// The descriptor of standard input.
-pub const STANDARD_INPUT: i32 = 0;
 
 // What a read answered: so many bytes, none is left to come, or it failed.
 #[derive(Clone, Copy)]
@@ -16,8 +14,8 @@ pub enum Arrived {
 }
 
 // Reads behind the `taken` bytes that came before, into the front of the room.
-pub fn read_input(taken: &mut u64, room: &mut [u8]) -> Arrived
+pub fn read_input(rt: &HostRuntime, taken: &mut u64, room: &mut [u8]) -> Arrived
     ensures { Reads input taken.old result taken.new room.new }
 {
-    read_from(false, b"", STANDARD_INPUT, taken, room)
+    read_from(rt, false, "", &Source::Input, taken, room)
 }

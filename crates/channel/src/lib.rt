@@ -2,8 +2,8 @@
 // a contract above says of bytes that came or went is known from here alone.
 #![tactic(auto)]
 
-pub mod inner;
 pub mod file;
+pub mod inner;
 pub mod input;
 pub mod whole;
 pub mod words;

@@ -3,9 +3,9 @@ ghost use Rattle.channel.specs.System.{Descriptor};
 ghost use Rattle.channel.specs.System.Origin.{input, file};
 ghost use Rattle.channel.specs.Input.{Fills, origin_of};
 
+use crate::file::{Source, close_file, open_file};
 use crate::inner::read_from;
-use crate::file::{close_file, open_file};
-use crate::input::{Arrived, STANDARD_INPUT};
+use crate::input::Arrived;
 
 // How a buffer was filled: `size` bytes stand at its front, and `state` says why no more.
 #[derive(Clone, Copy)]
@@ -22,31 +22,31 @@ pub const COMPLETE: u32 = 1;
 pub const FAILED: u32 = 2;
 
 // Standard input, in whatever pieces it comes.
-pub fn read_all(text: &mut [u8]) -> Filled
+pub fn read_all(rt: &HostRuntime, text: &mut [u8]) -> Filled
     ensures { Fills input result text.new }
 {
-    fill(false, b"", STANDARD_INPUT, text)
+    fill(rt, false, "", &Source::Input, text)
 }
 
 // A file. One that can't be opened can't be read.
-pub fn read_file(path: &[u8], text: &mut [u8]) -> Filled
+pub fn read_file(rt: &HostRuntime, path: &str, text: &mut [u8]) -> Filled
     ensures { Fills (file path.now) result text.new }
 {
-    let fd = open_file(path);
-    let read = fill(true, path, fd, text);
-    close_file(fd);
+    let source = open_file(rt, path);
+    let read = fill(rt, true, path, &source, text);
+    close_file(source);
     read
 }
 
 // A read that fails is never an end.
-fn fill(opened: bool, name: &[u8], fd: i32, text: &mut [u8]) -> Filled
-    requires { Descriptor fd (origin_of opened name.now) }
+fn fill(rt: &HostRuntime, opened: bool, name: &str, source: &Source, text: &mut [u8]) -> Filled
+    requires { Descriptor source.now (origin_of opened name.now) }
     ensures { Fills (origin_of opened name.now) result text.new }
 {
     let mut taken = 0;
     let mut n = 0;
     while n < text.len() {
-        match read_from(opened, name, fd, &mut taken, &mut text[n..]) {
+        match read_from(rt, opened, name, source, &mut taken, &mut text[n..]) {
             Arrived::Bytes(k) => {
                 n += k;
             }

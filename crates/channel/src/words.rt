@@ -2,21 +2,31 @@
 ghost use Rattle.channel.specs.System.{Arguments};
 ghost use Rattle.channel.specs.Words.{Named};
 
+use std::env::{Env, FillError};
+
 // How many there are.
-pub fn argument_count() -> usize
+pub fn argument_count(rt: &HostRuntime) -> usize
     ensures { Arguments result }
 {
-    let all = os::arg_count();
-    if all == 0 {
-        return 0;
+    let mut none = [0u8; 1];
+    for i in 1..usize::MAX {
+        match rt.arg(i, &mut none) {
+            Err(FillError::NotPresent) => {
+                return i - 1;
+            }
+            _ => {}
+        }
     }
-    all - 1
+    usize::MAX
 }
 
 // Puts argument number i, counted from 1, at the start of the room, and answers its length. One that is missing or
 // longer than the room counts as empty.
-pub fn argument(i: usize, room: &mut [u8]) -> usize
+pub fn argument(rt: &HostRuntime, i: usize, room: &mut [u8]) -> usize
     ensures { Named i result room.new }
 {
-    os::arg(i, room)
+    match rt.arg(i, room) {
+        Ok(n) => n,
+        Err(_) => 0,
+    }
 }

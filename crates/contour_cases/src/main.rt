@@ -9,8 +9,10 @@ mod full;
 use cases::inner::line_past;
 use cases::fields::{letter, number, numbers};
 use cases::show::{list, say, told};
-use libc::STDIN_FILENO;
 use network::Frame;
+
+// The descriptor of standard input.
+const STDIN_FILENO: i32 = 0;
 
 fn frame(line: &[u8]) -> Frame {
     Frame {

@@ -20,10 +20,12 @@ ghost use Rattle.contours_steps.specs.InnerDrawing.{Stored};
 use channel::whole::{COMPLETE, FAILED, Filled};
 use contours_steps::inner::intake::{line_begun, overlong_line};
 use contours_steps::words::{Given, MAX_CONTOUR_LEVELS, words_refusal};
-use libc::STDERR_FILENO;
 use network::Frame;
 use network::limits::MAX_SIDE;
 use said_contours::of_network;
+
+// The descriptor of standard error.
+const STDERR_FILENO: i32 = 2;
 
 // Room for one byte more than the longest network text that is neither 17 nor 12: 65,536 values of up to 8 bytes, each
 // with the space or line end behind it, and the header.

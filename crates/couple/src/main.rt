@@ -18,8 +18,10 @@ ghost use Rattle.couple_steps.specs.InnerTable.{TableRead};
 use coupling::inner::couple_tables;
 use coupling::limits::MAX_FLIGHTS;
 use flights::{MOVEMENT_COLUMNS, TRACK_COLUMNS};
-use libc::STDERR_FILENO;
 use stream::Turn;
+
+// The descriptor of standard error.
+const STDERR_FILENO: i32 = 2;
 
 // Room for every row: one number for each column.
 const TRACK_CELLS: usize = MAX_FLIGHTS * TRACK_COLUMNS;

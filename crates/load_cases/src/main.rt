@@ -9,7 +9,9 @@ mod asked;
 use cases::column::stepped;
 use cases::inner::line_past;
 use cases::fields::{letter, number, numbers, place};
-use libc::STDIN_FILENO;
+
+// The descriptor of standard input.
+const STDIN_FILENO: i32 = 0;
 
 // A column's values; or, with a gap, where they start, the first, and how much more each next one is.
 fn fill(column: &mut [u32], line: &[u8]) {

@@ -2,9 +2,11 @@
 // Each line of output has an answer and then what it should be.
 #![tactic(auto)]
 
-use libc::STDOUT_FILENO;
 use mapping::{Asked, Mapped};
 use network::Frame;
+
+// The descriptor of standard output.
+const STDOUT_FILENO: i32 = 1;
 
 fn main() {
     edges();

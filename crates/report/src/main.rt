@@ -3,7 +3,9 @@
 #![tactic(auto)]
 
 use files::inner::{REPORT, run};
-use libc::STDERR_FILENO;
+
+// The descriptor of standard error.
+const STDERR_FILENO: i32 = 2;
 
 fn main() {
     let mut sent = 0;

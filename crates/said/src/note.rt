@@ -2,9 +2,11 @@
 // place past it; what finds no room is left out.
 ghost use Rattle.std.specs.Prelude.{◌<◌};
 
-use libc::STDERR_FILENO;
 use sentence::MAX_SENTENCE;
 use text::inner::put_number;
+
+// The descriptor of standard error.
+const STDERR_FILENO: i32 = 2;
 
 // Room for any sentence.
 pub const ROOM: usize = 2048;

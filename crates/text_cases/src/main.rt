@@ -8,7 +8,9 @@ mod written;
 
 use cases::inner::line_past;
 use cases::fields::{letter, text};
-use libc::STDIN_FILENO;
+
+// The descriptor of standard input.
+const STDIN_FILENO: i32 = 0;
 
 fn judge(line: &[u8], text: &[u8]) {
     let kind = letter(line);

@@ -1,0 +1,43 @@
+-- `channel::inner::read_from` meets its contract: the one place that says what a read gave. Assumes nothing.
+use Rattle.std.proofs.Common.{◌≤◌, refl, ap, ◌∙◌, arith, length, take, length-append, Ok}
+use Rattle.std.proofs.Math.Seq.{length-take-le}
+use Rattle.channel.specs.System.{system_gave, system_ended, system_failed, system_uncounted}
+use Rattle.channel.proofs.inner.read_from.Goals as goal
+
+pub returns-then-room-eq0 : goal.returns-then-room-eq0
+returns-then-room-eq0 c = record { gave = (refl, λ some. absurd (omega (arith, some))) }
+
+pub returns-then-taken-room : goal.returns-then-taken-room
+returns-then-taken-room c =
+    let room = c.args.room.now in
+    record { gave = (refl, λ some old came. system_uncounted _ room old (omega (arith, came.long)) came.first) }
+
+pub returns-in-Err : goal.returns-in-Err
+returns-in-Err c =
+    record { gave = (refl, λ some old came. system_failed _ _ _ _ old c.requires c.in-Err.is came.first) }
+
+pub returns-then-n-eq0 : goal.returns-then-n-eq0
+returns-then-n-eq0 c =
+    let room = c.read_once.new.room in
+    let some : 1 ≤ length room = omega arith in
+    let zero = c.in-Ok.is ∙ ap Ok c.if-n-eq0.true in
+    record { gave = (refl, λ old came. system_ended _ _ _ room old c.requires zero some came.first) }
+
+pub returns-else-n-eq0 : goal.returns-else-n-eq0
+returns-else-n-eq0 c =
+    let n = c.in-Ok.n in
+    let room = c.read_once.new.room in
+    let fits = c.in-Ok.ensures.0 in
+    let some : 1 ≤ n = omega arith in
+    record {
+      gave = (
+        some,
+        fits,
+        refl,
+        omega arith,
+        λ old came. record {
+          first = system_gave _ _ n _ room old c.requires c.in-Ok.is fits came.first;
+          long = length-append old (take n room) ∙ omega (arith, came.long, length-take-le n room fits);
+        },
+      );
+    }
