@@ -186,7 +186,7 @@ module _ (f : Movement → List ℕ) (w : ℕ) where
   place-bound {x} {k} {ms} u s h =
       omega (arith, length_column f w u ms s, mul-le-mul_right w (place_length h), add-mul u (length ms) w)
 
-  put_in : {k : ℕ} {ms : List Movement} (u : ℕ) (m : Movement) → Sized f w ms → Place m.identity ms k
+  put_in : (u : ℕ) (m : Movement) {k : ℕ} {ms : List Movement} → Sized f w ms → Place m.identity ms k
       → change_at (k * w) (λ t. f m ++ t) (column f w u ms) ≡ column f w u (added m ms)
   unfolding column
   put_in u m s last = change_first (λ t. f m ++ t) w (column f w u []) ∙ ap (column f w u) (sym (added_last m))

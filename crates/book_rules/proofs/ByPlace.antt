@@ -1,27 +1,22 @@
 -- Rows and list are looked up by their places. Assumes nothing.
 use mathlib.Core.{Path.◌≡◌, Path.refl, Path.ap, Path.◌∙◌, Bool.Bool, Bool.true, Bool.false}
+use mathlib.Core.List.{List}
 use mathlib.Core.Logic.{⊎_elim}
 use Prim.Native.Nat.{ℕ, suc, ◌≤◌, ◌<◌}
 use native.Mathlib.{Nat.lt_of_not-le, Omega.arith}
 use lib.{ListN.length, ListN.get_or}
-use Rattle.book_rules.specs.Columns.{Book, LentColumn, book_before, book_after, index_of, stands, cells_at}
+use Rattle.book_rules.specs.Columns.{Book, book_lent, index_of, stands, cells_at}
 use Rattle.book_rules.specs.{SoundBook.SoundBook, Lookup.found, Lookup.row_held}
-use Rattle.book_rules.specs.Lookup.Row.{nowhere, row}
+use Rattle.book_rules.specs.Lookup.Row.{row}
 use Rattle.book_rules.specs.ByPlace.{LentInOrder, RowAt, FoundByPlace, Reads}
 use Rattle.book_rules.proofs.Search.{index_is, index_before_lem, stands_index}
 use Rattle.book_rules.proofs.{Cells.cell_at, Cells.cells_length, Finding.row_found_lem, Order.not_standing}
 use Rattle.book_rules.proofs.Listed.{listed_none, listed_this, listed_later}
 
-pub lent_in_order : (ids gs ms cs ls : LentColumn)
-    → LentInOrder ids gs ms cs ls (book_before ids gs ms cs ls) (book_after ids gs ms cs ls)
+-- before a call and after it, whatever the columns then hold
+pub lent_in_order : (ids gs ms cs ls : List ℕ) → LentInOrder ids gs ms cs ls (book_lent ids gs ms cs ls)
 lent_in_order ids gs ms cs ls =
-    record {
-      identities = (refl, refl);
-      groups= = (refl, refl);
-      marks= = (refl, refl);
-      counts= = (refl, refl);
-      levels= = (refl, refl);
-    }
+    record { identities = refl; groups= = refl; marks= = refl; counts= = refl; levels= = refl }
 
 module _ (p : ℕ) (b : Book) (s : SoundBook p b) where
   -- no two rows have one identity

@@ -21,7 +21,6 @@ use Rattle.book_rules.specs.Lookup.{found, counts_found, bare, row_held, listed,
 use Rattle.book_rules.specs.Lookup.{TakesBack, Withdraws, Does}
 use Rattle.book_rules.specs.Lookup.Row.{nowhere}
 use Rattle.book_rules.proofs.{Blocks.Found, Standing.AllGood, Standing.Rising, Standing.length_without}
-use Rattle.book_rules.proofs.Blocks.Place.{there}
 use Rattle.book_rules.proofs.Accepted.{entered, supplied, taken_back, withdrawn, identity_in, fields_in}
 use Rattle.book_rules.proofs.{Accepted.accepted_sound, Accepted.after_accepted, Reading.book_read}
 use Rattle.book_rules.proofs.Steps.{ids, Stepped, stepped, place_at, stood_at, length_ids, first_unused}

@@ -59,7 +59,7 @@ New x (a ∷ ms) = (a.identity ≡ x → ⊥) × New x ms
 
 -- A movement goes in
 
-pub good_added : {p k : ℕ} {ms : List Movement} (m : Movement) → Good p m → AllGood p ms
+pub good_added : {p : ℕ} (m : Movement) {k : ℕ} {ms : List Movement} → Good p m → AllGood p ms
     → Place m.identity ms k
     → AllGood p (added m ms)
 good_added {p} m g s last = subst (AllGood p) (sym (added_last m)) (g, tt)
@@ -67,7 +67,7 @@ good_added {p} m g s (here {a} {ms} h) = subst (AllGood p) (sym (added_here m a 
 good_added {p} m g s (there {a} {ms} h r) =
     subst (AllGood p) (sym (added_there m a ms h)) (s.0, good_added m g s.1 r)
 
-pub length-added : {k : ℕ} {ms : List Movement} (m : Movement) → Place m.identity ms k
+pub length-added : (m : Movement) {k : ℕ} {ms : List Movement} → Place m.identity ms k
     → length (added m ms) ≡ suc (length ms)
 length-added m last = ap length (added_last m)
 length-added m (here {a} {ms} h) = ap length (added_here m a ms h)
@@ -80,7 +80,7 @@ below_added {x} m l s last = subst (Below x) (sym (added_last m)) l
 below_added {x} m l s (here {a} {ms} h) = subst (Below x) (sym (added_here m a ms h)) l
 below_added {x} m l s (there {a} {ms} h r) = subst (Below x) (sym (added_there m a ms h)) s
 
-pub rising_added : {k : ℕ} {ms : List Movement} (m : Movement) → New m.identity ms → Rising ms
+pub rising_added : (m : Movement) {k : ℕ} {ms : List Movement} → New m.identity ms → Rising ms
     → Place m.identity ms k → Rising (added m ms)
 rising_added m n s last = subst Rising (sym (added_last m)) (tt, tt)
 rising_added m n s (here {a} {ms} h) =

@@ -1,20 +1,19 @@
 -- Look-up value by value: the columns that a call is lent, what is found in a row and what in the list, each by its
 -- place and with nothing left to a definition. Assumes nothing.
 use Rattle.std.specs.Prelude.{ℕ, ◌+◌, ◌*◌, ◌≤◌, ◌<◌, ◌≡◌, List, [], ◌∷◌, length, get_or, replicate}
-use Rattle.book_rules.specs.Columns.{Book, LentColumn}
+use Rattle.book_rules.specs.Columns.{Book}
 use Rattle.book_rules.specs.History.{Movement}
 use Rattle.book_rules.specs.History.Held.{none, holds}
 use Rattle.book_rules.specs.Lookup.{Row, found, mark_found, group_found, counts_found, bare, listed}
 use Rattle.book_rules.specs.Lookup.Row.{nowhere, row}
 
--- the five columns that a call is lent, where movements count between marks and levels, are the book b before it and
--- b' after it
-pub record LentInOrder (ids groups marks counts levels : LentColumn) (b b' : Book) : Type 0 where
-  pub identities : (b.identities ≡ ids.entry.now) × (b'.identities ≡ ids.exit.now)
-  pub groups= : (b.groups ≡ groups.entry.now) × (b'.groups ≡ groups.exit.now)
-  pub marks= : (b.marks ≡ marks.entry.now) × (b'.marks ≡ marks.exit.now)
-  pub counts= : (b.counts ≡ counts.entry.now) × (b'.counts ≡ counts.exit.now)
-  pub levels= : (b.levels ≡ levels.entry.now) × (b'.levels ≡ levels.exit.now)
+-- the five columns that a call is lent, where movements count between marks and levels, are the book b
+pub record LentInOrder (ids groups marks counts levels : List ℕ) (b : Book) : Type 0 where
+  pub identities : b.identities ≡ ids
+  pub groups= : b.groups ≡ groups
+  pub marks= : b.marks ≡ marks
+  pub counts= : b.counts ≡ counts
+  pub levels= : b.levels ≡ levels
 
 -- what is found is row i: for point j its yes or no and its level stand at place i · points + j of their columns
 pub record RowAt (p : ℕ) (b : Book) (i : ℕ) (r : Row) : Type 0 where

@@ -1,8 +1,6 @@
 -- The columns of a book, when they are sound, and how each column changes: RULES, "Movements and the book".
 -- Assumes nothing.
 use Rattle.std.specs.Prelude.{ℕ, zero, suc, ◌+◌, ◌*◌, Bool, true, cond, ◌&&◌, ◌||◌, List, [], ◌∷◌, ◌++◌, length, take, drop, replicate, eqb, leb, ltb}
-use Rattle.std.specs.Borrow.{Bor}
-use denote.Triple.Both.{Both}
 use Rattle.refusal.specs.Range.{all_within}
 use Rattle.movement.specs.Limits.{max_rows, max_points, max_identity, max_count, max_level, group_count}
 use Rattle.movement.specs.Rules.{zero_elsewhere}
@@ -18,18 +16,9 @@ pub record Book : Type 0 where
 abbrev pub book_of : (identities groups marks counts levels : List ℕ) → Book
 book_of ids gs ms cs ls = record { identities = ids; groups = gs; marks = ms; counts = cs; levels = ls }
 
--- a column that is lent, at entry and at exit; and the book of five lent columns: now, before the call and after it
-abbrev pub LentColumn : Type 0
-LentColumn = Both (Bor (List ℕ)) (Bor (List ℕ))
-
-abbrev pub book_now : (ids groups marks counts levels : Bor (List ℕ)) → Book
-book_now ids gs ms cs ls = book_of ids.now gs.now ms.now cs.now ls.now
-
-abbrev pub book_before : (ids groups marks counts levels : LentColumn) → Book
-book_before ids gs ms cs ls = book_now ids.entry gs.entry ms.entry cs.entry ls.entry
-
-abbrev pub book_after : (ids groups marks counts levels : LentColumn) → Book
-book_after ids gs ms cs ls = book_now ids.exit gs.exit ms.exit cs.exit ls.exit
+-- the book of five columns that a call is lent, in their order: as the call begins (old), or at its return (new)
+abbrev pub book_lent : (ids groups marks counts levels : List ℕ) → Book
+book_lent ids gs ms cs ls = book_of ids gs ms cs ls
 
 -- Soundness
 

@@ -6,7 +6,7 @@ use native.Mathlib.Nat.{add-zero, zero-mul, one-mul, add-mul, mul-le-mul, mul-le
 use native.Mathlib.{Nat.div-lt_iff_lt-mul, Omega.arith}
 use borrow.Author.Tests.{ne_eqb, lt-ltb}
 use Rattle.network.specs.declared.Edge.TheVariants.{Vertical}
-use Rattle.network.specs.Edges.{Sides, horizontals, edges, number_of}
+use Rattle.network.specs.Edges.{Sides, horizontals, number_of}
 use Rattle.network.proofs.Numbers.{at_number, number_lt}
 use Rattle.contour_rules.specs.Picture.{Picture}
 use Rattle.contour_rules.specs.Crossings.{on_border, edges_in, edge_of, enters_at}

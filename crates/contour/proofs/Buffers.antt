@@ -1,6 +1,6 @@
 -- Buffers filled from the front, one number at a time. Assumes nothing.
 use mathlib.Core.{Path.◌≡◌, Path.refl, Bool.true, Bool.◌&&◌, List.List, List.◌++◌, List.append_assoc}
-use Rattle.std.specs.Prelude.{ℕ, suc, ◌+◌, ◌-◌, ◌<◌, ◌≤◌}
+use Rattle.std.specs.Prelude.{ℕ, suc, ◌+◌, ◌<◌, ◌≤◌}
 use native.Mathlib.{Numerals.add-one, Omega.arith}
 use borrow.Author.Tests.{leb-true}
 use lib.{Dec.leb, ListN.length, ListN.get_or, ListN.take, ListN.drop, ListN.set}

@@ -1,7 +1,7 @@
 -- What the call for contours answers, and what it leaves in the four buffers lent to it: RULES, "Network and contours"
 -- and "Refusal numbers". Assumes nothing.
 use Rattle.std.specs.Prelude.{ℕ, Bool, ◌&&◌, List, [], ◌∷◌, length}
-use Rattle.room.specs.Lent.{Lent}
+use Rattle.room.specs.Lent.{Lent, LentRoom}
 use Rattle.room.specs.Room.{fits_in, then_room, leaves}
 use Rattle.network.specs.declared.Frame.{Frame}
 use Rattle.network.specs.Refusals.{contour_refusal}
@@ -61,15 +61,15 @@ outcome levels f v edges counts closed sizes =
 
 -- ---- over lent buffers: what they held, what a call with this number left, and what it had to leave
 
-abbrev pub lists_before : (edges counts closed sizes : Lent) → Lists
+abbrev pub lists_before : (edges counts closed sizes : LentRoom) → Lists
 lists_before edges counts closed sizes =
     lists_of edges.entry.now counts.entry.now closed.entry.now sizes.entry.now
 
-abbrev pub outcome_left : (number : ℕ) (edges counts closed sizes : Lent) → Outcome
+abbrev pub outcome_left : (number : ℕ) (edges counts closed sizes : LentRoom) → Outcome
 outcome_left n edges counts closed sizes =
     outcome_of n edges.exit.now counts.exit.now closed.exit.now sizes.exit.now
 
-abbrev pub outcome_due : (levels : Lent) (f : Frame) (v : ℕ) (edges counts closed sizes : Lent) → Outcome
+abbrev pub outcome_due : (levels : Lent) (f : Frame) (v : ℕ) (edges counts closed sizes : LentRoom) → Outcome
 outcome_due levels f v edges counts closed sizes =
     outcome levels.entry.now f v edges.entry.now counts.entry.now closed.entry.now
     sizes.entry.now

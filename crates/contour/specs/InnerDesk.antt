@@ -1,7 +1,7 @@
 -- Inner steps: no promise uses them. The buffers while contours are listed, and what they hold. Assumes nothing.
 use Rattle.std.specs.Prelude.{◌≡◌, ℕ, ◌+◌, ◌<◌, ◌≤◌, Bool, false, List, length}
-use Rattle.std.specs.Borrow.{Bor}
-use Rattle.room.specs.Lent.{Lent}
+use Rattle.std.specs.Borrow.{Bor, MutBor}
+use Rattle.room.specs.Lent.{Lent, LentRoom}
 use Rattle.room.specs.Room.{front}
 use Rattle.network.specs.Edges.{edges as edge_count}
 use Rattle.contour_rules.specs.Picture.{Picture, picture}
@@ -32,14 +32,14 @@ desk list edges counts closed at made =
     record { list = list; edges = edges; counts = counts; closed = closed; at = at; made = made }
 
 -- the desk of lent buffers with so much listed: now, before the call and after it
-abbrev pub desk_now : (list edges counts closed : Bor (List ℕ)) (listed : Progress) → Desk
+abbrev pub desk_now : (list edges counts closed : MutBor (List ℕ)) (listed : Progress) → Desk
 desk_now list edges counts closed p = desk list.now edges.now counts.now closed.now p.edges p.contours
 
-abbrev pub desk_before : (list edges counts closed : Lent) (listed : Progress) → Desk
+abbrev pub desk_before : (list edges counts closed : LentRoom) (listed : Progress) → Desk
 desk_before list edges counts closed p =
     desk list.entry.now edges.entry.now counts.entry.now closed.entry.now p.edges p.contours
 
-abbrev pub desk_after : (list edges counts closed : Lent) (listed : Progress) → Desk
+abbrev pub desk_after : (list edges counts closed : LentRoom) (listed : Progress) → Desk
 desk_after list edges counts closed p =
     desk list.exit.now edges.exit.now counts.exit.now closed.exit.now p.edges p.contours
 
@@ -102,12 +102,12 @@ pub record Listed (cs : List Contour) (edges counts closed edges' counts' closed
   pub closed_fit : made ≤ length closed
 
 -- the same of lent buffers, and room in them for every edge
-abbrev pub ListedIn : (cs : List Contour) (edges counts closed : Lent) (listed : Progress) → Type 0
+abbrev pub ListedIn : (cs : List Contour) (edges counts closed : LentRoom) (listed : Progress) → Type 0
 ListedIn cs edges counts closed p =
     Listed cs edges.entry.now counts.entry.now closed.entry.now edges.exit.now counts.exit.now
     closed.exit.now p.edges p.contours
 
-abbrev pub RoomForAll : (nx ny : ℕ) (edges counts closed : Bor (List ℕ)) → Type 0
+abbrev pub RoomForAll : (nx ny : ℕ) (edges counts closed : MutBor (List ℕ)) → Type 0
 RoomForAll nx ny edges counts closed =
     (edge_count nx ny ≤ length edges.now)
     × ((edge_count nx ny ≤ length counts.now) × (edge_count nx ny ≤ length closed.now))

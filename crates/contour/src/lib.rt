@@ -15,8 +15,8 @@ use network::limits::{MAX_EDGES, MAX_NETWORK_LEVEL};
 
 mod add;
 mod border;
-pub mod inner;
 mod fill;
+pub mod inner;
 mod start;
 mod sweep;
 mod walk;

@@ -25,7 +25,7 @@ use Rattle.contour_rules.proofs.Waiting.{crossed_waits_all}
 use Rattle.contour_rules.proofs.Cycles.{Run, Settled, sets_out, to_the_end, returned, settled_left}
 use Rattle.contour_rules.proofs.Cycles.{settled_returned, comes_back}
 use Rattle.contour_rules.proofs.Sums.{edges_append, all_append, occurs_append, all_steps, fewer, crossings_le}
-use Rattle.contour_rules.proofs.Sums.{all_listed}
+use Rattle.contour_rules.proofs.Sums.{each_listed}
 
 -- over a sweep what is listed and what waits stay the same together
 swept-occurs : (g : Picture) (closes : Bool) (l : Listing) (k n : ℕ)
@@ -277,14 +277,14 @@ module _ (g : Picture) (wide : 2 ≤ g.nx) where
     sound = listed.sound;
     ordered = in_order g;
     steps_made_rule = all_steps g (contours_of g) listed.sound
-        ∙ all_listed g (edges_in g) (edges_of (contours_of g)) listed_once_rule;
+        ∙ each_listed g (edges_in g) (edges_of (contours_of g)) listed_once_rule;
   }
 
   -- so a network has no more edges on contours, and no more contours, than edges
   pub few : (length (edges_of (contours_of g)) ≤ edges_in g) × (length (contours_of g) ≤ edges_in g)
   few =
       let e : length (edges_of (contours_of g)) ≡ crossings g (edges_in g) =
-      all_listed g (edges_in g) (edges_of (contours_of g)) listed_once_rule in (
+      each_listed g (edges_in g) (edges_of (contours_of g)) listed_once_rule in (
         omega (arith, e, crossings_le g (edges_in g)),
         omega (arith, e, crossings_le g (edges_in g), fewer g (contours_of g) listed.sound),
       )

@@ -136,9 +136,9 @@ crossings_le g (suc n) = go (crossed_at g n) (crossings_le g n)
     go false h = omega arith
 
 -- a list that has each crossed edge below n once, and nothing else, is as long as these are many
-pub all_listed : (g : Picture) (n : ℕ) (es : List ℕ)
+pub each_listed : (g : Picture) (n : ℕ) (es : List ℕ)
     → ((k : ℕ) → occurs k es ≡ bit (ltb k n && crossed_at g k)) → length es ≡ crossings g n
-all_listed g n es once =
+each_listed g n es once =
     let none : (k : ℕ) → n ≤ k → occurs k es ≡ 0 = λ k l. once k
     ∙ ap (λ (b : Bool). bit (b && crossed_at g k)) (le-ltb k n l) in
     let each : (k : ℕ) → k < n → occurs k es ≡ bit (crossed_at g k) = λ k l. once k

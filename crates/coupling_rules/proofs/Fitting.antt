@@ -145,9 +145,9 @@ may_have class circuit (inl e) =
 may_have class circuit (inr e) =
     ap (λ (b : Bool). left_out (eqb class 0) (not b)) (eq-eqb circuit 0 e) ∙ and-false (eqb class 0)
 
-pub takes_none : (class circuit : ℕ) → class ≡ 0 → (circuit ≡ 0 → ⊥) → takes_none class circuit ≡ true
+pub takes_none_rule : (class circuit : ℕ) → class ≡ 0 → (circuit ≡ 0 → ⊥) → takes_none class circuit ≡ true
 unfolding takes_none
-takes_none class circuit e n =
+takes_none_rule class circuit e n =
     ap (λ (b : Bool). left_out b (not (eqb circuit 0))) (eq-eqb class 0 e)
     ∙ ap (λ (b : Bool). left_out true (not b)) (ne_eqb circuit 0 n)
 

@@ -15,7 +15,7 @@ use Rattle.coupling_rules.proofs.{Best.none_fits, Best.best_closest, Orders.plac
 use Rattle.coupling_rules.proofs.{Refusing.Values, Refusing.not_refused_lem, Refusing.movements_flights}
 use Rattle.coupling_rules.proofs.{Refusing.flights_values, Packing.length_tracks, Taking.turn_told}
 use Rattle.coupling_rules.proofs.{Sooner.sooner_over, Sooner.over_sooner, Fitting.may_take, Fitting.takes_may}
-use Rattle.coupling_rules.proofs.{Fitting.may_have, Fitting.takes_none, Fitting.no_gap, Fitting.closer_rather}
+use Rattle.coupling_rules.proofs.{Fitting.may_have, Fitting.takes_none_rule, Fitting.no_gap, Fitting.closer_rather}
 
 -- One movement's turn, in the promise's words
 
@@ -95,7 +95,7 @@ module _ (m : Movements) (t : Flights) (v : Values m.flights) where
     circuit = λ i h c n.
         let o = own_turn i h in
         o.is_best ∙ best_none (gap m t i) (moment_of t) o.left
-        (λ k q. no_gap m t i k (takes_none (get_or m.flights.classes i 0) (get_or m.circuits i 0) c n));
+        (λ k q. no_gap m t i k (takes_none_rule (get_or m.flights.classes i 0) (get_or m.circuits i 0) c n));
     none = λ i k h e w u f.
         let o = own_turn i h in
         let p = takes_may m t i k (class_at i)

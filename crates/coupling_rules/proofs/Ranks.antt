@@ -53,14 +53,14 @@ module _ (p : Packed) (w : Wide p) where
       (sorted_in (key_of p.lows) j (sorted (moment_in p) (places n))
       (sorted_in (key_of p.highs) j (sorted (key_of p.lows) (sorted (moment_in p) (places n))) m))
 
-  in_order : (n j : ℕ) → In j (places n) → In j (in_order p n)
-  in_order n j m =
+  in_order_rule : (n j : ℕ) → In j (places n) → In j (in_order p n)
+  in_order_rule n j m =
       in_sorted (key_of p.highs) j (sorted (key_of p.lows) (sorted (moment_in p) (places n)))
       (in_sorted (key_of p.lows) j (sorted (moment_in p) (places n)) (in_sorted (moment_in p) j (places n) m))
 
   order_split : (n : ℕ) → Split (rank_in p) (places n) [] (in_order p n)
   order_split n = record {
-    whole = λ j m. inr (in_order n j m);
+    whole = λ j m. inr (in_order_rule n j m);
     left_in = λ j m. absurd m;
     right_in = λ j m. order_in_rule n j m;
     down = tt;

@@ -13,7 +13,7 @@ use Rattle.network.specs.{Ranges.RoomRefused, Refusals.contour_refusal}
 use Rattle.network.proofs.{Refusals.both, Ranges.room_refused}
 use Rattle.mapping.specs.Fractions.{whole, crossing_of, which_of, fraction_shown}
 use Rattle.mapping.specs.{Places.located_of, Places.shown_of, Many.numbers_of, Many.places_of, Many.Many}
-use Rattle.mapping.specs.{OneCrossing.OneCrossing, Room.shownAt, Room.ManyInRoom, Room.CrossingInRoom}
+use Rattle.mapping.specs.{OneCrossing.OneCrossing, Room.shown_at, Room.ManyInRoom, Room.CrossingInRoom}
 use Rattle.mapping.proofs.Fill.{length-numbers, length_places}
 
 -- ---- refusals
@@ -80,7 +80,7 @@ module _ (levels : List ℕ) (f : Frame) (v : ℕ) where
       coordinates : places' ≡ front (places_of levels f v edges) places
       coordinates = m.left_second ∙ rw none refl
 
-      shown : (n : ℕ) → shown_of (located_of levels f v n) ≡ shownAt levels f v n
+      shown : (n : ℕ) → shown_of (located_of levels f v n) ≡ shown_at levels f v n
       shown n = rw (first_none_lem (contour_refusal levels f v) (refuse 14 fits 0) none).0
 
     pub many_in_room : ManyInRoom levels f v edges which places answer which' places'

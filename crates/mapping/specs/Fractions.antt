@@ -1,6 +1,5 @@
 -- Where a contour crosses an edge, for map layers: RULES, "Network and contours". Assumes nothing.
-use Rattle.std.specs.Prelude.{◌≡◌, ℕ, ◌+◌, Bool, false, cond, ◌&&◌, T, List, pos, ◌==◌, nat_lt}
-use Rattle.std.specs.Prelude.{Float}
+use Rattle.std.specs.Prelude.{◌≡◌, ℕ, ◌+◌, Bool, false, cond, ◌&&◌, T, List, pos, ◌==◌, nat_lt, Float}
 use Rattle.std.specs.Float.{binary64}
 use Rattle.std.specs.Float.Ieee.{round, of_int, le}
 use Rattle.network.specs.declared.Edge.{Edge}

@@ -1,7 +1,6 @@
 -- What calls for map points leave in lent room, place by place: each edge's number and coordinates are those of the
 -- call for one edge, the rest stays, and a refused call changes nothing. Assumes nothing.
-use Rattle.std.specs.Prelude.{◌≡◌, ℕ, ◌+◌, ◌*◌, ◌<◌, ◌≤◌, List, length, ◌≢◌, slice_index, slice_index_or}
-use Rattle.std.specs.Prelude.{Float}
+use Rattle.std.specs.Prelude.{◌≡◌, ℕ, ◌+◌, ◌*◌, ◌<◌, ◌≤◌, List, length, ◌≢◌, slice_index, slice_index_or, Float}
 use Rattle.network.specs.declared.Frame.{Frame}
 use Rattle.network.specs.Ranges.{RoomRefused}
 use Rattle.mapping.specs.declared.Shown.{Shown}
@@ -9,8 +8,8 @@ use Rattle.mapping.specs.Fractions.{whole, asked_which, asked_fraction, crossing
 use Rattle.mapping.specs.Places.{mapped_shown, mapped_of}
 
 module _ (levels : List ℕ) (f : Frame) (v : ℕ) where
-  abbrev pub shownAt : ℕ → Shown
-  shownAt n = mapped_shown (mapped_of levels f v n)
+  abbrev pub shown_at : ℕ → Shown
+  shown_at n = mapped_shown (mapped_of levels f v n)
 
   -- many edges, into room for numbers and room for coordinates
   pub record ManyInRoom (edges which : List ℕ) (places : List Float) (answer : ℕ) (which' : List ℕ)
@@ -18,11 +17,11 @@ module _ (levels : List ℕ) (f : Frame) (v : ℕ) where
     pub refusal
         : RoomRefused levels f v ((length edges ≤ length which) × (2 * length edges ≤ length places)) answer
     pub refused : (answer ≢ 0) → (which' ≡ which) × (places' ≡ places)
-    pub number : answer ≡ 0 → (i : ℕ) → i < length edges → slice_index which' i ≡ (shownAt (slice_index edges i)).which
+    pub number : answer ≡ 0 → (i : ℕ) → i < length edges → slice_index which' i ≡ (shown_at (slice_index edges i)).which
     pub east : answer ≡ 0 → (i : ℕ) → i < length edges
-        → slice_index_or places' (2 * i) (whole 0) ≡ (shownAt (slice_index edges i)).x
+        → slice_index_or places' (2 * i) (whole 0) ≡ (shown_at (slice_index edges i)).x
     pub north : answer ≡ 0 → (i : ℕ) → i < length edges
-        → slice_index_or places' (2 * i + 1) (whole 0) ≡ (shownAt (slice_index edges i)).y
+        → slice_index_or places' (2 * i + 1) (whole 0) ≡ (shown_at (slice_index edges i)).y
     pub which_kept : answer ≡ 0 → (i : ℕ) → length edges ≤ i → slice_index which' i ≡ slice_index which i
     pub places_kept : answer ≡ 0 → (i : ℕ) → 2 * length edges ≤ i
         → slice_index_or places' i (whole 0) ≡ slice_index_or places i (whole 0)

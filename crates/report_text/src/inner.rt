@@ -2,7 +2,7 @@
 ghost use Rattle.std.specs.Prelude.{◌≡◌, ◌+◌, ◌<◌, ◌≤◌, ◌∷◌, ◌++◌, length};
 ghost use Rattle.level.specs.Level.{level_value, verdict_of};
 ghost use Rattle.movement.specs.Limits.{max_points};
-ghost use Rattle.book_rules.specs.Columns.{book_before};
+ghost use Rattle.book_rules.specs.Columns.{book_lent};
 ghost use Rattle.room.specs.Room.{Wrote};
 ghost use Rattle.text.specs.Sheet.{comma, line};
 ghost use Rattle.text.specs.Spelled.{crlf};
@@ -124,7 +124,7 @@ fn put_points(
     limits: LimitsFile,
 ) -> usize
     requires { LimitsFit limits × (longest_report ≤ length out.old) }
-    ensures { Wrote out.old 0 (points_text limits (book_before ids groups marks counts levels))
+    ensures { Wrote out.old 0 (points_text limits (book_lent ids.now groups.now marks.now counts.now levels.now))
         out.new result }
 {
     let points = limits.points as usize;
@@ -150,7 +150,7 @@ pub fn book_refusal(
     points: usize,
     days: u32,
 ) -> u32
-    ensures { result ≡ refused_to points days (book_before ids groups marks counts levels) points }
+    ensures { result ≡ refused_to points days (book_lent ids.now groups.now marks.now counts.now levels.now) points }
 {
     let mut point = 0;
     while point < points {
@@ -175,7 +175,7 @@ pub fn put_report(
     limits: LimitsFile,
 ) -> Report
     requires { LimitsFit limits × (longest_report ≤ length out.old) }
-    ensures { Reported limits (book_before ids groups marks counts levels) out.old result
+    ensures { Reported limits (book_lent ids.now groups.now marks.now counts.now levels.now) out.old result
         out.new }
 {
     let points = limits.points as usize;

@@ -4,7 +4,7 @@
 ghost use Rattle.std.specs.Prelude.{◌≡◌, true, cond, ◌*◌, length, eqb};
 ghost use Rattle.refusal.specs.Range.{all_within};
 ghost use Rattle.book_rules.specs.Columns.{shape_fits, rising, follows, head_sound, top_level, cells_sound, row_sound};
-ghost use Rattle.book_rules.specs.Columns.{rows_sound, book_before, sound};
+ghost use Rattle.book_rules.specs.Columns.{rows_sound, book_lent, sound};
 
 use movement::limits::{GROUPS, MAX_COUNT, MAX_IDENTITY, MAX_LEVEL, MAX_POINTS, MAX_ROWS};
 
@@ -172,9 +172,7 @@ fn rows_sound(
     requires counts_len { length counts.now ≡ length ids.now * points }
     requires levels_len { length levels.now ≡ length ids.now * points }
     requires levels_value { cells_sound 1 1 counts.now levels.now ≡ true }
-    ensures { result
-        ≡ rows_sound points ids.now groups.now marks.now counts.now
-        levels.now }
+    ensures { result ≡ rows_sound points ids.now groups.now marks.now counts.now levels.now }
 {
     let mut i = 0;
     let mut at = 0;
@@ -204,7 +202,7 @@ pub fn is_sound(
     levels: &[u32],
     points: usize,
 ) -> bool
-    ensures { result ≡ sound points (book_before ids groups marks counts levels) }
+    ensures { result ≡ sound points (book_lent ids.now groups.now marks.now counts.now levels.now) }
 {
     if !shape_fits(
         points,

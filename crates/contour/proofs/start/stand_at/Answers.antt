@@ -1,0 +1,20 @@
+-- `contour::start::stand_at` meets its contract. Assumes nothing.
+use mathlib.Core.Path.{refl}
+use Rattle.network.specs.Edges.{WithinEdge}
+use Rattle.network.proofs.Numbers.{found_within}
+use Rattle.contour.proofs.start.stand_at.Goals as goal
+use Rattle.contour.proofs.start.stand_at.Goals.{After-edge_at-e}
+
+-- the edge of the number is in the network
+within : (c : After-edge_at-e)
+    → WithinEdge c.args.nx c.args.ny c.edge_at-e.result
+within c = found_within _ _ c.requires.0.sides.wide _ c.requires.1 c.edge_at-e.ensures
+
+pub first_in-left-requires : goal.first_in-left-requires
+first_in-left-requires c = (c.requires.0, within c)
+
+pub across-requires : goal.across-requires
+across-requires c = (c.requires.0.sides, within (goal.at.across-requires c).After-edge_at-e)
+
+pub returns : goal.returns
+returns c = (refl, simp (c.across.ensures, c.first_in-left.ensures, c.edge_at-e.ensures))

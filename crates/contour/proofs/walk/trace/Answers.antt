@@ -1,0 +1,84 @@
+use mathlib.Core.{Path.◌≡◌, Path.sym, Path.◌∙◌, Bool.true}
+use Rattle.std.specs.Prelude.{◌<◌, length}
+use native.Mathlib.Omega.{arith}
+use Rattle.network.specs.Edges.{edges}
+use Rattle.network.proofs.Numbers.{edges_le}
+use Rattle.contour_rules.specs.{Picture.picture, Contours.waits}
+use Rattle.contour_rules.proofs.Waiting.{waits_lt, waiting-set}
+use Rattle.contour.proofs.Tracing.{ahead_within, begins, fits, goes_on, ended}
+use Rattle.contour.proofs.walk.trace.Goals as goal
+use Rattle.contour.proofs.walk.trace.Goals.{In-loop-here}
+
+-- in a turn the edge waits, so it is an edge of the network and there is room for it
+waits-here : (c : In-loop-here)
+    → waits c.loop-here.list c.loop-here.here.edge ≡ true
+waits-here c = sym c.still_waits.ensures ∙ c.loop-here-test.true
+
+below : (c : In-loop-here)
+    → c.loop-here.here.edge < edges
+    c.args.nx
+    c.args.ny
+below c =
+    let l = c.loop-here in
+    omega (
+      arith,
+      waits_lt l.list l.here.edge (waits-here c),
+      l.invariant.as_many,
+      c.requires.1.long,
+    )
+
+room-here : (c : In-loop-here)
+    → c.loop-here.at < length c.loop-here.edges
+room-here c = fits _ _ _ _ _ _ _ _ _ _ c.loop-here.invariant (waits-here c)
+
+pub bounds-list-n : goal.bounds-list-n
+bounds-list-n c = waits_lt c.loop-here.list c.loop-here.here.edge
+    (waits-here c)
+
+pub overflow_cast-edges : goal.overflow_cast-edges
+overflow_cast-edges c =
+    omega (arith, below c, edges_le c.args.nx c.args.ny c.requires.0.sides.narrow c.requires.0.sides.low)
+
+pub offset_bounds-edges-at : goal.offset_bounds-edges-at
+offset_bounds-edges-at c =
+    omega (arith, room-here c, c.loop-here.invariant.as_long, c.well_formed.1.1.1.1.1.1.0)
+
+pub step-here-requires : goal.step-here-requires
+step-here-requires c =
+    let l = c.loop-here in (
+      c.requires.0,
+      ahead_within (picture c.args.levels.now c.args.nx c.args.ny c.args.v)
+          c.requires.0.sides.wide l.here.edge l.here.ahead (below c) (l.invariant.heads (below c)),
+    )
+
+pub loop-here-smaller : goal.loop-here-smaller
+loop-here-smaller c = omega (
+  arith,
+  waiting-set c.loop-here.list
+      c.loop-here.here.edge (waits-here (goal.at.loop-here-smaller c).In-loop-here),
+)
+
+pub loop-here-preserved : goal.loop-here-preserved
+loop-here-preserved c =
+    goes_on _ _ _ _ _ _ _ _ _ _ c.loop-here.invariant c.requires.0.sides.wide
+    (below (goal.at.loop-here-preserved c).In-loop-here) (waits-here (goal.at.loop-here-preserved c).In-loop-here) _ _ c.step-here.ensures.0 c.step-here.ensures.1
+
+pub returns : goal.returns
+returns c =
+    ended _ _ _ _ _ _ _ _ _ _ c.loop-here.invariant (omega (arith, c.requires.1.room))
+    (sym c.still_waits.ensures ∙ c.loop-here-test.false)
+
+pub loop-here-init : goal.loop-here-init
+loop-here-init c = begins _ _ _ _ _ _ c.requires.1
+
+pub bounds-edges-at : goal.bounds-edges-at
+bounds-edges-at c = room-here c
+
+pub overflow_add-at : goal.overflow_add-at
+overflow_add-at c = omega (arith, room-here c, c.loop-here.invariant.as_long)
+
+pub shape_of-list : goal.shape_of-list
+shape_of-list c = c.loop-here.invariant.as_many
+
+pub shape_of-edges : goal.shape_of-edges
+shape_of-edges c = c.loop-here.invariant.as_long

@@ -1,0 +1,40 @@
+-- `text::clock::two_at` meets its contract: what `digits` answered, and the bound. Assumes nothing.
+use Rattle.std.specs.Prelude.{◌≡◌, ◌+◌, ◌-◌, take, drop}
+use mathlib.Core.Path.{sym, ◌∙◌}
+use native.Mathlib.Omega.{arith}
+use borrow.Author.{Tests.lt-ltb, Tests.le-ltb}
+use Rattle.text.specs.Number.{digits_of}
+use Rattle.text.specs.Clock.{two_at}
+use Rattle.text.proofs.clock.two_at.Goals as goal
+use Rattle.text.proofs.clock.two_at.Goals.{After-digits}
+
+-- the part that is read is two bytes
+two-of : (c : After-digits)
+    → c.digits.result ≡ digits_of 0
+    (take 2 (drop c.args.at c.args.s.now))
+two-of c = let a = c.args in
+    let e : a.at + 2 - a.at ≡ 2 = omega arith in
+    c.digits.ensures ∙ rw e
+
+pub returns-then-n-bound : goal.returns-then-n-bound
+unfolding two_at
+returns-then-n-bound c =
+    let e = sym (two-of (goal.at.returns-then-n-bound c).After-digits) ∙ c.in-Got.is in
+    rw (
+      e,
+      lt-ltb c.in-Got.n
+          c.args.bound c.if-n-bound.true,
+    )
+
+pub returns-else-n-bound : goal.returns-else-n-bound
+unfolding two_at
+returns-else-n-bound c =
+    let e = sym (two-of (goal.at.returns-else-n-bound c).After-digits) ∙ c.in-Got.is in
+    rw (
+      e,
+      le-ltb c.in-Got.n
+          c.args.bound c.if-n-bound.false,
+    )
+
+pub returns-in_default : goal.returns-in_default
+returns-in_default c = unfold two_at in let e = sym (two-of (goal.at.returns-in_default c).After-digits) ∙ c.in_default.is in rw e
