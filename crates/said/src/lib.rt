@@ -4,8 +4,8 @@
 #![tactic(auto)]
 
 pub mod clock;
-pub mod inner;
 pub mod field;
+pub mod inner;
 pub mod note;
 pub mod odd;
 pub mod part;
