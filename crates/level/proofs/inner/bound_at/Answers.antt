@@ -1,12 +1,11 @@
 -- `level::inner::bound_at` meets its contract: B(k) is below 10^7 and its factor at most 10^10, so that each product
 -- fits. Assumes nothing.
-use Rattle.std.specs.Prelude.{◌≡◌, ℕ, ◌-◌, ◌*◌, ◌/◌, ◌%◌, ◌^◌, ◌<◌, ◌≤◌}
+use Rattle.std.specs.Prelude.{◌≡◌, ℕ, ◌*◌, ◌/◌, ◌%◌, ◌^◌, ◌<◌, ◌≤◌}
 use mathlib.Core.Path.{sym}
 use native.Mathlib.{Nat.mul-le-mul, Nat.pow-le-pow_right, Nat.lt_of_le_of_lt, Omega.arith}
 use lib.{Dec.lit<, ListN.get_or}
 use Rattle.level.specs.{Tables.table_b, Level.bound}
 use Rattle.level.proofs.LevelLaws.{b_below, thousand_out, thousandth_le}
-use borrow.Author.Rules.{rules}
 use Rattle.level.proofs.inner.bound_at.Goals as goal
 use Rattle.level.proofs.inner.bound_at.Goals.{Start}
 

@@ -1,7 +1,6 @@
 use Rattle.std.specs.Prelude.{◌≡◌, ℕ, zero, suc, ◌+◌, ◌-◌, ◌^◌, ◌<◌, ◌≤◌}
 use native.Mathlib.Omega.{arith}
 use lib.Pow.{pow-add}
-use borrow.Author.Rules.{rules}
 use Rattle.level.proofs.inner.decade_of.Goals as goal
 use Rattle.level.proofs.inner.decade_of.Goals.{In-loop-q}
 

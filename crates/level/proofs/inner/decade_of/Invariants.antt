@@ -1,9 +1,6 @@
 -- `level::inner::decade_of` meets its contract. The loop's invariant: the thousands of m are below the next power. It
 -- ends by the first power, 1, since m is at least 1000. Assumes nothing.
-use Rattle.std.specs.Prelude.{◌≡◌, ℕ, zero, suc, ◌+◌, ◌-◌, ◌^◌, ◌<◌, ◌≤◌}
-use native.Mathlib.Omega.{arith}
-use lib.Pow.{pow-add}
-use borrow.Author.Rules.{rules}
+use Rattle.std.specs.Prelude.{◌+◌, ◌^◌, ◌<◌}
 use Rattle.level.proofs.inner.decade_of.Given as goal
 
 abbrev pub invariant-loop-q : goal.invariant-loop-q

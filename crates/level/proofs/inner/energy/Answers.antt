@@ -5,7 +5,6 @@ use native.Mathlib.{Nat.lt_of_le_of_lt, Omega.arith}
 use lib.{Dec.lit<, ListN.get_or}
 use Rattle.level.specs.{Tables.table_a, Energy.energy_of}
 use Rattle.level.proofs.EnergyLaws.{product_le}
-use borrow.Author.Rules.{rules}
 use Rattle.level.proofs.inner.energy.Goals as goal
 use Rattle.level.proofs.inner.energy.Goals.{Start}
 

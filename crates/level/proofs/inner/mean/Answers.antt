@@ -3,7 +3,6 @@
 use mathlib.Core.Path.{ap, ◌∙◌}
 use Rattle.std.specs.Prelude.{ℕ, ◌/◌}
 use native.Mathlib.Omega.{arith}
-use borrow.Author.Rules.{rules}
 use Rattle.level.proofs.ScaleLaws.{mean_by_parts}
 use Rattle.level.proofs.inner.mean.Goals as goal
 

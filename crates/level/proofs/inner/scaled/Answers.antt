@@ -3,7 +3,6 @@
 use Rattle.std.specs.Prelude.{◌≡◌, ◌+◌, ◌*◌, ◌/◌, ◌%◌}
 use mathlib.Core.Path.{sym}
 use native.Mathlib.Omega.{arith}
-use borrow.Author.Rules.{rules}
 use Rattle.level.proofs.ScaleLaws.{by_parts, rest_fits_lem}
 use Rattle.level.proofs.inner.scaled.Goals as goal
 use Rattle.level.proofs.inner.scaled.Goals.{Start}

@@ -1,7 +1,6 @@
 -- `movement::inner::group_of` meets its contract: the group of the cases that the numbers and the second name.
 -- Assumes nothing.
 use mathlib.Core.Path.{◌∙◌}
-use borrow.Author.Rules.{rules}
 use Rattle.movement.specs.Group.{group_of}
 use Rattle.movement.proofs.inner.group_of.Goals as goal
 

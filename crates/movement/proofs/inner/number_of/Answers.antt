@@ -1,6 +1,5 @@
 -- `movement::inner::number_of` meets its contract: each number is below its count, so the sum fits. Assumes nothing.
 use native.Mathlib.Omega.{arith}
-use borrow.Author.Rules.{rules}
 use Rattle.movement.specs.Group.{group_number}
 use Rattle.movement.proofs.Numbers.{aircraft_below, kind_below, period_below}
 use Rattle.movement.proofs.inner.number_of.Goals as goal

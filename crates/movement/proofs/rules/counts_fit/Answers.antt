@@ -1,5 +1,4 @@
 -- `movement::rules::counts_fit` meets its contract. Assumes nothing.
-use borrow.Author.Rules.{rules}
 use Rattle.movement.specs.Rules.{counts_fit}
 use Rattle.movement.proofs.rules.counts_fit.Goals as goal
 

@@ -1,5 +1,4 @@
 -- `movement::rules::levels_fit` meets its contract. Assumes nothing.
-use borrow.Author.Rules.{rules}
 use Rattle.movement.specs.Rules.{levels_fit}
 use Rattle.movement.proofs.rules.levels_fit.Goals as goal
 

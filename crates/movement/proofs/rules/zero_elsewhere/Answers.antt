@@ -1,7 +1,6 @@
 use mathlib.Core.{Path.◌≡◌, Path.sym, Path.◌∙◌, Bool.Bool, Bool.◌&&◌}
-use Rattle.std.specs.Prelude.{◌+◌, ◌-◌, ◌≤◌, length, drop}
+use Rattle.std.specs.Prelude.{◌+◌, drop}
 use native.Mathlib.Omega.{arith}
-use borrow.Author.{Tests.not-true, Tests.not-false}
 use Rattle.movement.specs.Rules.{zero_elsewhere}
 use Rattle.movement.proofs.Elsewhere.{elsewhere_more, elsewhere_end, elsewhere_short}
 use Rattle.movement.proofs.rules.zero_elsewhere.Goals as goal

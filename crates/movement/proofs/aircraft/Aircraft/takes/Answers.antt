@@ -1,5 +1,4 @@
 -- `movement::aircraft::Aircraft::takes` meets its contract, by cases on the type. Assumes nothing.
-use borrow.Author.Rules.{rules}
 use Rattle.movement.proofs.aircraft.Aircraft.takes.Goals as goal
 
 pub returns-in-Small : goal.returns-in-Small
