@@ -1,7 +1,7 @@
 // The calls on a book that is known to be sound. Each keeps it sound (book_rules, proofs/Kept.antt), so a caller that
 // makes many calls checks once.
 ghost use Rattle.std.specs.Prelude.{◌≡◌, true};
-ghost use Rattle.book_rules.specs.Columns.{book_now, book_before, book_after, sound};
+ghost use Rattle.book_rules.specs.Columns.{book_lent, sound};
 ghost use Rattle.book_rules.specs.Calls.{Call, Called};
 
 use crate::place::{place_of, standing_rows};
@@ -25,9 +25,10 @@ pub fn enter(
     mass: u32,
     given: &[u32],
 ) -> u32
-    requires { sound points (book_now ids groups marks counts levels) ≡ true }
-    ensures { Called points (book_before ids groups marks counts levels)
-        (Call.enter identity ty kind time mass given.now) result (book_after ids groups marks counts levels) }
+    requires { sound points (book_lent ids.old groups.old marks.old counts.old levels.old) ≡ true }
+    ensures { Called points (book_lent ids.old groups.old marks.old counts.old levels.old)
+        (Call.enter identity ty kind time mass given.now) result
+        (book_lent ids.new groups.new marks.new counts.new levels.new) }
 {
     let at = place_of(ids, identity);
     let rows = standing_rows(ids);
@@ -62,9 +63,10 @@ pub fn supply(
     identity: u32,
     given: &[u32],
 ) -> u32
-    requires { sound points (book_now ids groups marks counts levels) ≡ true }
-    ensures { Called points (book_before ids groups marks counts levels)
-        (Call.supply identity given.now) result (book_after ids groups marks counts levels) }
+    requires { sound points (book_lent ids.now groups.now marks.old counts.now levels.old) ≡ true }
+    ensures { Called points (book_lent ids.now groups.now marks.old counts.now levels.old)
+        (Call.supply identity given.now) result
+        (book_lent ids.now groups.now marks.new counts.now levels.new) }
 {
     let at = place_of(ids, identity);
     let not_supplied = supply_refusal(ids, counts, at, points, identity, given);
@@ -86,9 +88,10 @@ pub fn take_back(
     points: usize,
     identity: u32,
 ) -> u32
-    requires { sound points (book_now ids groups marks counts levels) ≡ true }
-    ensures { Called points (book_before ids groups marks counts levels) (Call.take_back identity) result
-        (book_after ids groups marks counts levels) }
+    requires { sound points (book_lent ids.now groups.now marks.old counts.now levels.old) ≡ true }
+    ensures { Called points (book_lent ids.now groups.now marks.old counts.now levels.old)
+        (Call.take_back identity) result
+        (book_lent ids.now groups.now marks.new counts.now levels.new) }
 {
     let at = place_of(ids, identity);
     let not_taken_back = take_back_refusal(ids, marks, at, identity);
@@ -110,9 +113,10 @@ pub fn withdraw(
     points: usize,
     identity: u32,
 ) -> u32
-    requires { sound points (book_now ids groups marks counts levels) ≡ true }
-    ensures { Called points (book_before ids groups marks counts levels) (Call.withdraw identity) result
-        (book_after ids groups marks counts levels) }
+    requires { sound points (book_lent ids.old groups.old marks.old counts.old levels.old) ≡ true }
+    ensures { Called points (book_lent ids.old groups.old marks.old counts.old levels.old)
+        (Call.withdraw identity) result
+        (book_lent ids.new groups.new marks.new counts.new levels.new) }
 {
     let at = place_of(ids, identity);
     let not_withdrawn = withdraw_refusal(ids, at, identity);

@@ -1,5 +1,5 @@
-// The calls on a book: RULES, "Movements and the book". Each checks that the book is sound and leaves the rest to its
-// inner.
+// The calls on a book: RULES, "Movements and the book". Each checks that the book is sound and leaves the rest to
+// `inner`.
 #![tactic(auto)]
 
 pub mod inner;
@@ -7,7 +7,7 @@ mod place;
 mod refusals;
 mod rows;
 
-ghost use Rattle.book_rules.specs.Columns.{book_before, book_after};
+ghost use Rattle.book_rules.specs.Columns.{book_lent};
 ghost use Rattle.book_rules.specs.Calls.{Call, Called};
 
 use soundness::is_sound;
@@ -27,8 +27,9 @@ pub fn enter(
     mass: u32,
     given: &[u32],
 ) -> u32
-    ensures { Called points (book_before ids groups marks counts levels)
-        (Call.enter identity ty kind time mass given.now) result (book_after ids groups marks counts levels) }
+    ensures { Called points (book_lent ids.old groups.old marks.old counts.old levels.old)
+        (Call.enter identity ty kind time mass given.now) result
+        (book_lent ids.new groups.new marks.new counts.new levels.new) }
 {
     if !is_sound(ids, groups, marks, counts, levels, points) {
         return 9;
@@ -49,8 +50,9 @@ pub fn supply(
     identity: u32,
     given: &[u32],
 ) -> u32
-    ensures { Called points (book_before ids groups marks counts levels)
-        (Call.supply identity given.now) result (book_after ids groups marks counts levels) }
+    ensures { Called points (book_lent ids.now groups.now marks.old counts.now levels.old)
+        (Call.supply identity given.now) result
+        (book_lent ids.now groups.now marks.new counts.now levels.new) }
 {
     if !is_sound(ids, groups, marks, counts, levels, points) {
         return 9;
@@ -68,8 +70,9 @@ pub fn take_back(
     points: usize,
     identity: u32,
 ) -> u32
-    ensures { Called points (book_before ids groups marks counts levels) (Call.take_back identity) result
-        (book_after ids groups marks counts levels) }
+    ensures { Called points (book_lent ids.now groups.now marks.old counts.now levels.old)
+        (Call.take_back identity) result
+        (book_lent ids.now groups.now marks.new counts.now levels.new) }
 {
     if !is_sound(ids, groups, marks, counts, levels, points) {
         return 9;
@@ -87,8 +90,9 @@ pub fn withdraw(
     points: usize,
     identity: u32,
 ) -> u32
-    ensures { Called points (book_before ids groups marks counts levels) (Call.withdraw identity) result
-        (book_after ids groups marks counts levels) }
+    ensures { Called points (book_lent ids.old groups.old marks.old counts.old levels.old)
+        (Call.withdraw identity) result
+        (book_lent ids.new groups.new marks.new counts.new levels.new) }
 {
     if !is_sound(ids, groups, marks, counts, levels, points) {
         return 9;

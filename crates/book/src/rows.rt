@@ -1,6 +1,6 @@
 // A row goes in or out, in all columns: of each, only the rows that stand after it move.
 ghost use Rattle.std.specs.Prelude.{◌≡◌, ◌<◌, length};
-ghost use Rattle.book_rules.specs.Columns.{book_now, book_before, book_after};
+ghost use Rattle.book_rules.specs.Columns.{book_lent};
 ghost use Rattle.book_rules.specs.Calls.{row_in, row_out};
 ghost use Rattle.book_rules.specs.InnerRows.{RowsTo};
 
@@ -21,11 +21,12 @@ pub(crate) fn row_in(
     group: u32,
     given: &[u32],
 )
-    requires rows_to { RowsTo points (book_now ids groups marks counts levels) at rows }
+    requires rows_to { RowsTo points (book_lent ids.old groups.old marks.old counts.old levels.old) at rows }
     requires rows_in_bounds { rows < length ids.old }
     requires given_len { length given.now ≡ points }
-    ensures { book_after ids groups marks counts levels
-        ≡ row_in points (book_before ids groups marks counts levels) at identity group given.now }
+    ensures { book_lent ids.new groups.new marks.new counts.new levels.new
+        ≡ row_in points (book_lent ids.old groups.old marks.old counts.old levels.old) at identity group
+        given.now }
 {
     let count = rows - at;
     let start = at * points;
@@ -48,10 +49,10 @@ pub(crate) fn row_out(
     at: usize,
     rows: usize,
 )
-    requires rows_to { RowsTo points (book_now ids groups marks counts levels) at rows }
+    requires rows_to { RowsTo points (book_lent ids.old groups.old marks.old counts.old levels.old) at rows }
     requires at_lt_rows { at < rows }
-    ensures { book_after ids groups marks counts levels
-        ≡ row_out points (book_before ids groups marks counts levels) at }
+    ensures { book_lent ids.new groups.new marks.new counts.new levels.new
+        ≡ row_out points (book_lent ids.old groups.old marks.old counts.old levels.old) at }
 {
     let count = rows - at - 1;
     let start = at * points;

@@ -6,9 +6,9 @@ ghost use Rattle.coupling_rules.specs.Flights.{flights_before, movements_before}
 ghost use Rattle.coupling_rules.specs.Rule.{tracks_for};
 ghost use Rattle.coupling_rules.specs.Refusals.{couple_refusal};
 
-pub mod inner;
 mod fit;
 mod gap;
+pub mod inner;
 pub mod limits;
 mod order;
 mod pack;

@@ -5,7 +5,7 @@ use Prim.Native.Nat.{ℕ, ◌≤◌, ◌<◌}
 use native.Mathlib.Omega.{arith}
 use lib.ListN.{length, get_or, take}
 use borrow.Author.Tests.{le-leb, lt-leb}
-use Rattle.room.specs.{Lent.Lent, Room.front, Room.Writes}
+use Rattle.room.specs.{Lent.Lent, Lent.LentRoom, Room.front, Room.Writes}
 use Rattle.room.proofs.Fronts.{length_front, front_is, front_past}
 use Rattle.coupling_rules.specs.Flights.{Flights, Movements, flights_before, movements_before}
 use Rattle.coupling_rules.specs.Rule.{tracks_for}
@@ -66,7 +66,7 @@ module _ (m : Movements) (t : Flights) (room : List ℕ) (r : ℕ) (room' : List
   }
 
 -- the call, by what its contract says: the columns as the caller lends them, each under its own name
-pub call_told : (ds ts cs ks rs ps ys os ds' ts' cs' ks' rs' ps' ys' out : Lent) (r : ℕ)
+pub call_told : (ds ts cs ks rs ps ys os ds' ts' cs' ks' rs' ps' ys' : Lent) (out : LentRoom) (r : ℕ)
     → Writes (couple_refusal (movements_before ds ts cs ks rs ps ys os) (flights_before ds' ts' cs' ks' rs' ps' ys'))
     (tracks_for (movements_before ds ts cs ks rs ps ys os) (flights_before ds' ts' cs' ks' rs' ps' ys'))
     out.entry.now r out.exit.now

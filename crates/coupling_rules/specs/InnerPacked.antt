@@ -2,7 +2,7 @@
 -- agree exactly if the five do, and the moment beside them. Assumes nothing.
 use Rattle.std.specs.Prelude.{ℕ, ◌+◌, ◌*◌, ◌<◌, ◌≡◌, cond, List, eqb, ltb, get_or}
 use Rattle.sorting.specs.Sorted.{key_of, sorted}
-use Rattle.room.specs.Lent.{Lent}
+use Rattle.room.specs.Lent.{Lent, LentRoom}
 use Rattle.std.specs.Borrow.{Bor}
 use Rattle.coupling_rules.specs.Flights.{Flights, many}
 use Rattle.coupling_rules.specs.Rule.{moment, distance, window_of, takes_none, places}
@@ -29,8 +29,8 @@ packed_now hs ls ms = record { highs = hs.now; lows = ls.now; moments = ms.now }
 abbrev pub packed_before : (highs lows moments : Lent) → Packed
 packed_before hs ls ms = packed_now hs.entry ls.entry ms.entry
 
-abbrev pub packed_after : (highs lows moments : Lent) → Packed
-packed_after hs ls ms = packed_now hs.exit ls.exit ms.exit
+abbrev pub packed_after : (highs lows moments : LentRoom) → Packed
+packed_after hs ls ms = record { highs = hs.exit.now; lows = ls.exit.now; moments = ms.exit.now }
 
 abbrev pub class_in : Packed → ℕ → ℕ
 class_in p j = ranked (key_of p.highs j) (key_of p.lows j)

@@ -1,5 +1,5 @@
 -- Laws of dates as text: what is written reads back, and what is read is what is written. Assumes nothing.
-use Rattle.std.specs.Prelude.{ℕ, ◌+◌, ◌-◌, ◌*◌, ◌/◌, ◌%◌, ◌^◌, ◌<◌, ◌≤◌}
+use Rattle.std.specs.Prelude.{ℕ, ◌+◌, ◌*◌, ◌/◌, ◌%◌, ◌^◌, ◌<◌, ◌≤◌}
 use mathlib.Core.{Path.◌≡◌, Path.refl, Path.sym, Path.◌∙◌, List.List, List.[], List.◌∷◌, List.◌++◌, Bool.◌&&◌}
 use native.Mathlib.{Nat.div-div-eq-div-mul, Omega.arith}
 use borrow.Author.Tests.{eqb-true}

@@ -1,5 +1,5 @@
 -- Laws of a row's cells as they are read, one after the other. Assumes nothing.
-use Rattle.std.specs.Prelude.{ℕ, zero, suc, ◌+◌, ◌-◌, ◌<◌, ◌≤◌}
+use Rattle.std.specs.Prelude.{ℕ, zero, suc, ◌+◌, ◌<◌, ◌≤◌}
 use mathlib.Core.{Path.◌≡◌, Path.refl, List.List, Bool.true, Bool.false, Bool.cond, Bool.and-false}
 use native.Mathlib.Omega.{arith}
 use borrow.Author.Tests.{eqb-true, ne_eqb}

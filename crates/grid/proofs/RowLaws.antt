@@ -112,10 +112,10 @@ module _ {nodata : List ℕ} {columns first : ℕ} {s : List ℕ} {from at count
     rows_on = w.on ∙ ap (λ l. first_off (first + count) (map (is_row nodata) l)) (line_none s at h)
         ∙ off_none (first + count)
 
-    pub rows_fit : (f : Frame) → f.columns ≡ columns
+    pub rows_fit_rule : (f : Frame) → f.columns ≡ columns
         → rows_fit f (lines_at s from) ≡ (eqb count f.rows && fits)
     unfolding rows_fit
-    rows_fit f e =
+    rows_fit_rule f e =
         let n : length (lines_at s from) ≡ count = sym w.number
         ∙ ap (λ l. count + length l) (line_none s at h) ∙ add-zero count in
         let a : all (has_values columns) (lines_at s from) ≡ fits =

@@ -11,8 +11,8 @@ use Rattle.level.specs.Energy.{energy_of}
 use Rattle.book_rules.specs.Columns.{Book, sound}
 use Rattle.book_rules.specs.History.{Held, Movement, movement, has_levels, rows_of}
 use Rattle.book_rules.specs.History.Held.{none, holds}
-use Rattle.book_rules.specs.Lookup.{Row, found, row_held, listed}
-use Rattle.book_rules.specs.Lookup.Row.{nowhere, row}
+use Rattle.book_rules.specs.Lookup.{Row, row_held, listed}
+use Rattle.book_rules.specs.Lookup.Row.{nowhere}
 use Rattle.book_rules.proofs.{Standing.AllGood, Standing.Rising, Reading.book_read, Kept.read_rows}
 use Rattle.book_rules.proofs.SoundBook.{sound_exactly}
 use Rattle.book_rules.proofs.Listed.{rows_found, listed_none, listed_this, listed_later, below_none}

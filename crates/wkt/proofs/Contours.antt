@@ -10,7 +10,7 @@ use Rattle.network.proofs.Refusals.{both}
 use Rattle.contour_rules.specs.{Picture.Picture, Picture.picture, Crossings.edges_in}
 use Rattle.contour_rules.specs.Contours.{Contour, bit, contours_of, edges_of, counts_of, closed_of}
 use Rattle.contour_rules.specs.Once.{occurs, Sound, AllSound}
-use Rattle.contour_rules.proofs.Sums.{length_counts, length_closed, crossings_le, all_listed}
+use Rattle.contour_rules.proofs.Sums.{length_counts, length_closed, crossings_le, each_listed}
 use Rattle.contour_rules.proofs.Every.{every_crossing}
 use Rattle.room.specs.Room.{front}
 use Rattle.room.proofs.Fronts.{front_is}
@@ -88,7 +88,7 @@ module _ (levels : List ℕ) (f : Frame) (v : ℕ) (k : Checked levels f) where
   pub few_listed : length listed ≤ edges f.columns f.rows
   few_listed = omega (
     arith,
-    all_listed g (edges_in g) listed (every_crossing g k.sized.sides.wide).once,
+    each_listed g (edges_in g) listed (every_crossing g k.sized.sides.wide).once,
     crossings_le g (edges_in g),
   )
 

@@ -1,5 +1,5 @@
 -- How long the pieces of the text are: 64 bytes hold any. Assumes nothing.
-use Rattle.std.specs.Prelude.{ℕ, ◌+◌, ◌/◌, ◌≤◌, List, [], ◌∷◌, ◌++◌}
+use Rattle.std.specs.Prelude.{ℕ, ◌/◌, ◌≤◌, List, [], ◌∷◌, ◌++◌}
 use native.Mathlib.Omega.{arith}
 use lib.{Dec.eqb, ListN.length, ListN.get_or, ListN.length-append}
 use Rattle.text.proofs.Shown.{shown_short, decimal_long}

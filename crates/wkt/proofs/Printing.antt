@@ -1,6 +1,6 @@
 -- A text that has room is printed whole in one part. Assumes nothing.
 use mathlib.Core.{Path.◌≡◌, Path.refl, Path.sym, Path.ap, Path.◌∙◌, Bool.Bool, Bool.true, Bool.false}
-use mathlib.Core.{Logic.◌⊎◌, Logic.⊎_elim, List.List, List.◌++◌, List.append-nil}
+use mathlib.Core.{Logic.⊎_elim, List.List, List.◌++◌, List.append-nil}
 use Rattle.std.specs.Prelude.{ℕ, zero, suc, ◌+◌, ◌*◌, ◌<◌, ◌≤◌}
 use native.Mathlib.Omega.{arith}
 use borrow.Author.Tests.{ltb-true, ltb-false}

@@ -1,7 +1,7 @@
 -- The call that prints the contours of a network, and what it leaves in the room lent to it: RULES, "Files and the
 -- report program". Assumes nothing.
 use Rattle.std.specs.Prelude.{ℕ, ◌&&◌, List, [], ◌∷◌, length}
-use Rattle.room.specs.Lent.{Lent}
+use Rattle.room.specs.Lent.{LentRoom}
 use Rattle.room.specs.Room.{fits_in, then_room, WritesTwo}
 use Rattle.network.specs.declared.Frame.{Frame}
 use Rattle.network.specs.Refusals.{contour_refusal}
@@ -20,7 +20,7 @@ print_refusal levels f v room size =
     (fits_in (network_text levels f v) room && fits_in (length (network_text levels f v) ∷ []) size)
 
 -- a call that prints a text and its size into lent room, and has the refusal `why` without it
-abbrev pub Prints : (why : ℕ) (text : List ℕ) (room size : Lent) (answer : ℕ) → Type 0
+abbrev pub Prints : (why : ℕ) (text : List ℕ) (room size : LentRoom) (answer : ℕ) → Type 0
 Prints why text room size answer =
     WritesTwo why text (length text ∷ []) room.entry.now size.entry.now answer room.exit.now
     size.exit.now

@@ -3,7 +3,7 @@
 use Rattle.std.specs.Prelude.{◌≡◌, ℕ, zero, suc, ◌+◌, ◌<◌, ◌≤◌, true, cond, ◌⊎◌, List, [], ◌∷◌, ◌++◌, length, take, drop, ◌==◌, nat_lt, slice_index}
 use Rattle.std.specs.Borrow.{Bor}
 use Rattle.text.specs.Spelled.{bytes}
-use Rattle.room.specs.Lent.{Lent}
+use Rattle.room.specs.Lent.{Lent, LentRoom}
 use Rattle.network.specs.declared.Frame.{Frame}
 use Rattle.network.specs.Edges.{edges, Checked}
 use Rattle.network.specs.Crossed.{crossed_at}
@@ -136,7 +136,7 @@ abbrev pub piece_before : (levels : Lent) (f : Frame) (v : ℕ) (listed counts c
 piece_before levels f v listed counts closed c =
     piece_of levels.entry.now f v listed.entry.now counts.entry.now closed.entry.now c
 
-abbrev pub PrintedIn : (levels : Lent) (f : Frame) (v : ℕ) (listed counts closed : Lent) (c : Cursor) (room : Lent)
+abbrev pub PrintedIn : (levels : Lent) (f : Frame) (v : ℕ) (listed counts closed : Lent) (c : Cursor) (room : LentRoom)
     (part : Part) → Type 0
 PrintedIn levels f v listed counts closed c room part =
     Printed levels.entry.now f v listed.entry.now counts.entry.now closed.entry.now c

@@ -56,7 +56,16 @@ fn print_listed(
     let needed = inner::text_size(levels, frame, v, edges, counts, closed);
     if needed <= text.len() {
         if 1 <= size.len() {
-            inner::print_part(levels, frame, v, edges, counts, closed, inner::first(), text);
+            inner::print_part(
+                levels,
+                frame,
+                v,
+                edges,
+                counts,
+                closed,
+                inner::first(),
+                text,
+            );
             size[0] = needed as u32;
             return 0;
         }
@@ -108,7 +117,15 @@ fn print_checked(levels: &[u32], frame: Frame, v: u32, text: &mut [u8], size: &m
     let mut closed = [0u32; MAX_EDGES];
     let nx = frame.columns as usize;
     let ny = frame.rows as usize;
-    let got = contour::inner::list_contours(levels, nx, ny, v, &mut edges, &mut counts, &mut closed);
+    let got = contour::inner::list_contours(
+        levels,
+        nx,
+        ny,
+        v,
+        &mut edges,
+        &mut counts,
+        &mut closed,
+    );
     print_fronts(levels, frame, v, &edges, &counts, &closed, got, text, size)
 }
 

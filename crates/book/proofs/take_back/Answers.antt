@@ -1,0 +1,13 @@
+-- `book::take_back` meets its contract: 9 for a book that is not sound, and else as its core. Assumes nothing.
+use Rattle.refusal.proofs.Laws.{settled}
+use Rattle.book_rules.proofs.Accepted.{unsound}
+use Rattle.book.proofs.take_back.Goals as goal
+
+pub returns-then-not-is_sound : goal.returns-then-not-is_sound
+returns-then-not-is_sound c = unsound (settled c.is_sound.ensures c.if-not-is_sound.true)
+
+pub take_back-requires : goal.take_back-requires
+take_back-requires c = settled c.is_sound.ensures c.if-not-is_sound.false
+
+pub returns : goal.returns
+returns c = c.take_back.ensures

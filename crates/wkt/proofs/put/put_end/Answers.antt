@@ -1,0 +1,10 @@
+-- `wkt::put::put_end` meets its contract. Assumes nothing.
+use borrow.Author.{Tests.eq-eqb, Tests.ne_eqb}
+use Rattle.wkt.proofs.put.put_end.Goals as goal
+
+pub returns-then-line-eq0 : goal.returns-then-line-eq0
+returns-then-line-eq0 c = rw (eq-eqb _ _ c.if-line-eq0.true)
+    c.put_text.ensures
+
+pub returns : goal.returns
+returns c = rw (ne_eqb _ _ c.if-line-eq0.false) c.put_byte.ensures
