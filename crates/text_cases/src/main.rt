@@ -6,8 +6,8 @@
 mod read;
 mod written;
 
-use cases::inner::line_past;
 use cases::fields::{letter, text};
+use cases::inner::line_past;
 
 // The descriptor of standard input.
 const STDIN_FILENO: i32 = 0;
