@@ -17,7 +17,7 @@ use Rattle.text.specs.Spelled.{bytes}
 use Rattle.text.proofs.Digits.{either, whole_small, got_value}
 use Rattle.text.proofs.{Shown.whole_back, Shown.decimal_long, Shown.shown_least, Exact.whole_exact}
 use Rattle.grid.specs.Row.{is_row}
-use Rattle.grid.specs.File.{unnamed, number_after, is_number, is_spelling, names_well, head_on, named_on, no_data_of, rows_of}
+use Rattle.grid.specs.File.{number_after, is_number, is_spelling, names_well, head_on, named_on, no_data_of, rows_of}
 use Rattle.grid.specs.File.{first_off, fault_line}
 use Rattle.grid_rules.specs.Laid.{line, Named, Behind}
 use Rattle.grid_rules.specs.Refused.{keys, Digits, Naming, LineOn, Fault}

@@ -1,5 +1,5 @@
 -- Header lines, values and rows pass their tests exactly if they are on their layout. Assumes nothing.
-use Prim.Native.Nat.{ℕ, suc, ◌-◌, ◌≤◌, ◌<◌}
+use Prim.Native.Nat.{ℕ, suc, ◌≤◌, ◌<◌}
 use mathlib.Core.{Path.◌≡◌, Path.refl, Path.sym, Path.ap, Path.◌∙◌, List.List, List.[], List.◌∷◌}
 use mathlib.Core.Bool.{Bool, true, false, ◌||◌, true≢false, or-true}
 use native.Mathlib.Omega.{arith}

@@ -1,7 +1,7 @@
 -- A text is refused with 17, 12, 13 or 14, in this order, exactly where the rules say. Assumes nothing.
 use Prim.Native.Nat.{ℕ, zero, suc, ◌+◌, ◌-◌, ◌*◌, ◌≤◌, ◌<◌}
 use mathlib.Core.{Path.◌≡◌, Path.refl, Path.sym, Path.ap, Path.◌∙◌, List.List, List.[]}
-use mathlib.Core.Bool.{Bool, true, false, cond, ◌&&◌, true≢false}
+use mathlib.Core.Bool.{Bool, true, cond, ◌&&◌, true≢false}
 use native.Mathlib.Omega.{arith}
 use borrow.Author.Tests.{eqb-true, eqb-false, eq-eqb, leb-true, le-leb}
 use lib.{Dec.eqb, Dec.leb, ListN.length, ListN.get_or, ListN.drop, ListN.length-drop}
@@ -81,9 +81,9 @@ module _ (text : List ℕ) where
     rows_number : Sized text f first → length rows ≡ f.rows
     rows_number s = omega (arith, s.height, ap length start, length-drop first lines)
 
-    rows_fit : Sized text f first → rows_fit f rows ≡ true
+    rows_fit_here : Sized text f first → rows_fit f rows ≡ true
     unfolding rows_fit
-    rows_fit s =
+    rows_fit_here s =
         both_true (eqb (length rows) f.rows) (all (has_values f.columns) rows)
         (eq-eqb (length rows) f.rows (rows_number s))
         (all_from (has_values f.columns) rows []
@@ -94,7 +94,7 @@ module _ (text : List ℕ) where
 
     fits_pass : Sized text f first → InRange f → fitting ≡ true
     fits_pass s r =
-        let fit-now = rows_fit s in
+        let fit-now = rows_fit_here s in
         both_true (rows_fit f rows) (sided f && placed f && filled (levels_of rows) f) fit-now
         (both_true (sided f && placed f) (filled (levels_of rows) f) (range_passes f r)
         (eq-eqb (length (levels_of rows)) (f.rows * f.columns) (fit_length f rows fit-now)))
