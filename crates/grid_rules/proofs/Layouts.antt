@@ -60,7 +60,8 @@ digits_pass_lem t (with_point_rule l) = rw (level_passes_lem t l) (or-true (is_g
 
 spelling_passes : (minus : Bool) (t : List ℕ) → Digits t → is_spelling (cond minus (bytes "-") [] ++ t) ≡ true
 spelling_passes true t d = digits_pass_lem t d
-spelling_passes false t d = rw (ne_eqb (get_or t 0 0) 45 (λ e. omega (arith, digits_first_lem t d))) (digits_pass_lem t d)
+spelling_passes false t d = rw (ne_eqb (get_or t 0 0) 45 (λ e. omega (arith, digits_first_lem t d)))
+    (digits_pass_lem t d)
 
 naming_passes : (l : List ℕ) → Naming l → names_well l ≡ true
 unfolding names_well

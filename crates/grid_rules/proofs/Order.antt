@@ -37,10 +37,12 @@ module _ (text : List ℕ) where
 
   abbrev fitting : Bool
   fitting = rows_fit (text_frame text) (rows_of (lines_of text)) &&
-      (sided (text_frame text) && placed (text_frame text) && filled (levels_of (rows_of (lines_of text))) (text_frame text))
+      (sided (text_frame text) && placed (text_frame text) && filled (levels_of (rows_of (lines_of text)))
+      (text_frame text))
 
   abbrev ready : Bool
-  ready = all_within max_network_level (levels_of (rows_of (lines_of text))) && all (row_given (no_data_of (lines_of text)))
+  ready = all_within max_network_level (levels_of (rows_of (lines_of text))) && all
+      (row_given (no_data_of (lines_of text)))
       (rows_of (lines_of text))
 
   abbrev enough : ℕ → ℕ → Bool
@@ -108,7 +110,8 @@ module _ (text : List ℕ) where
         let inside = row_inside k h l in
         let same = row_place k h in
         let t = field_of 32 c (line text k) in
-        let in-values : c < length (values_of (get_or rows j [])) = rw same (omega (arith, value_count (line text k))) in
+        let in-values : c < length (values_of (get_or rows j [])) = rw same
+        (omega (arith, value_count (line text k))) in
         let g = all-at (given (no_data_of lines)) (values_of (get_or rows j [])) []
         (all-at (row_given (no_data_of lines)) rows [] b.1 j inside) c in-values in
         let g-here : given nodata t ≡ true = rw (spelling, value_field (get_or rows j []) c, same) at g in
