@@ -187,7 +187,8 @@ module _ (levels : List ℕ) (nx ny v : ℕ) (wide : 2 ≤ nx) where
 
     next_side_rule : next_at g (number_of nx ny (side_edge row col s))
         ≡ number_of nx ny (side_edge row col (exit_of g row col s))
-    next_side_rule = ap (λ (e : Edge). next_number nx ny (next_of g e)) (at_number nx ny wide (side_edge row col s) within)
+    next_side_rule = ap (λ (e : Edge). next_number nx ny (next_of g e))
+        (at_number nx ny wide (side_edge row col s) within)
         ∙ ap (next_number nx ny) leads_on_rule
 
     exit_crossed : IsCrossed levels nx ny v (side_edge row col (exit_of g row col s))

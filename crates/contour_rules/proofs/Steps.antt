@@ -14,7 +14,8 @@ use Rattle.contour_rules.specs.Crossings.{next_of, is_outside, edges_in, edge_of
 use Rattle.contour_rules.specs.{Crossings.next_at, Crossings.on_border, Once.Neighbours, Once.Border}
 use Rattle.contour_rules.proofs.Heading.{Entered, entered, next_within, leaves_elsewhere, over_border}
 use Rattle.contour_rules.proofs.Back.{reversed, behind_reversed, Leads, leads}
-use Rattle.network.proofs.{Refusals.both, Numbers.edge_within, Numbers.number_lt, Numbers.at_number, Numbers.number_at_rule}
+use Rattle.network.proofs.{Refusals.both, Numbers.edge_within, Numbers.number_lt, Numbers.at_number}
+use Rattle.network.proofs.{Numbers.number_at_rule}
 
 -- the edge that a crossed edge comes from; where it comes from outside, the number of edges
 abbrev pub prev_at : Picture → ℕ → ℕ

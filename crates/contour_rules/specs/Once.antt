@@ -1,6 +1,7 @@
 -- What "every crossing, one time" says of the contours of a picture, and the order in which they are listed.
 -- Assumes nothing.
-use Rattle.std.specs.Prelude.{◌≡◌, Bool, true, false, ◌&&◌, cond, ◌⊎◌, List, [], ◌∷◌, ℕ, zero, suc, ◌+◌, ◌≤◌, ◌<◌, ltb, eqb, get_or}
+use Rattle.std.specs.Prelude.{◌≡◌, Bool, true, false, ◌&&◌, cond, ◌⊎◌, List, [], ◌∷◌, ℕ, zero, suc, ◌+◌, ◌≤◌, ◌<◌, ltb}
+use Rattle.std.specs.Prelude.{eqb, get_or}
 use Rattle.network.specs.Edges.{number_of}
 use Rattle.contour_rules.specs.declared.Side.{Side}
 use Rattle.contour_rules.specs.Picture.{Picture}

@@ -1,7 +1,7 @@
 // The text of how each load comes about, put into a buffer that has room for the longest.
 ghost use Rattle.std.specs.Prelude.{◌≡◌, ◌+◌, ◌<◌, ◌≤◌, ◌++◌, length};
 ghost use Rattle.movement.specs.Limits.{max_points};
-ghost use Rattle.book_rules.specs.Columns.{book_now, book_before};
+ghost use Rattle.book_rules.specs.Columns.{book_lent};
 ghost use Rattle.load_rules.specs.Load.{book_load};
 ghost use Rattle.room.specs.Room.{Wrote};
 ghost use Rattle.report_text.specs.Text.{book_refusal};
@@ -48,9 +48,9 @@ fn put_answered(
     days: u32,
 ) -> usize
     requires point_lt_max_points { (point < max_points) × (at + longest_point ≤ length out.old) }
-    requires days_value { (book_load points point (book_now ids groups marks counts levels) days).refused ≡ 0 }
+    requires days_value { (book_load points point (book_lent ids.now groups.now marks.now counts.now levels.now) days).refused ≡ 0 }
     ensures { WroteWithin longest_point out.old at
-        (ended (lines_at points point (book_before ids groups marks counts levels))) out.new result }
+        (ended (lines_at points point (book_lent ids.now groups.now marks.now counts.now levels.now))) out.new result }
 {
     let mut numbers = [0u64; 78];
     account_at(
@@ -78,8 +78,8 @@ fn put_points(
     limits: LimitsFile,
 ) -> usize
     requires limits_fit { LimitsFit limits × (longest_text ≤ length out.old) }
-    requires levels_value { book_refusal limits (book_now ids groups marks counts levels) ≡ 0 }
-    ensures { Wrote out.old 0 (points_text limits (book_before ids groups marks counts levels))
+    requires levels_value { book_refusal limits (book_lent ids.now groups.now marks.now counts.now levels.now) ≡ 0 }
+    ensures { Wrote out.old 0 (points_text limits (book_lent ids.now groups.now marks.now counts.now levels.now))
         out.new result }
 {
     let points = limits.points as usize;
@@ -106,7 +106,7 @@ pub fn put_explained(
     limits: LimitsFile,
 ) -> Report
     requires { LimitsFit limits × (longest_text ≤ length out.old) }
-    ensures { Explained limits (book_before ids groups marks counts levels) out.old result
+    ensures { Explained limits (book_lent ids.now groups.now marks.now counts.now levels.now) out.old result
         out.new }
 {
     let points = limits.points as usize;

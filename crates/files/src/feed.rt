@@ -1,6 +1,6 @@
 // The register as it comes, through a buffer of fixed size.
 ghost use Rattle.std.specs.Prelude.{◌≡◌, ◌+◌, ◌^◌, ◌<◌, ◌≤◌, true, length, take};
-ghost use Rattle.book_rules.specs.Columns.{book_now, book_before, book_after, sound};
+ghost use Rattle.book_rules.specs.Columns.{book_lent, sound};
 ghost use Rattle.channel.specs.System.Origin.{input};
 ghost use Rattle.stream.specs.Reading.{reading_at, Unended};
 ghost use Rattle.stream.specs.Feeding.{Waiting, Turned, Done};
@@ -25,13 +25,13 @@ fn piece(
     len: usize,
     line: u64,
 ) -> Turn
-    requires levels_value { sound points (book_now ids groups marks counts levels) ≡ true }
+    requires levels_value { sound points (book_lent ids.old groups.old marks.old counts.old levels.old) ≡ true }
     requires len_in_bounds { len ≤ length bytes.old }
     requires len_bound { line + len < 2 ^ 64 }
     ensures { Pieced (register_step points) longest_row
-        (reading_at 0 line (book_before ids groups marks counts levels)) (take len bytes.old) result
-        (book_after ids groups marks counts levels) bytes.new
-        × (sound points (book_after ids groups marks counts levels) ≡ true) }
+        (reading_at 0 line (book_lent ids.old groups.old marks.old counts.old levels.old)) (take len bytes.old) result
+        (book_lent ids.new groups.new marks.new counts.new levels.new) bytes.new
+        × (sound points (book_lent ids.new groups.new marks.new counts.new levels.new) ≡ true) }
 {
     let p = take_piece(ids, groups, marks, counts, levels, points, bytes, len, line);
     let refusal = p.refusal;
@@ -64,13 +64,13 @@ fn last(
     bytes: &[u8],
     line: u64,
 ) -> Turn
-    requires levels_value { sound points (book_now ids groups marks counts levels) ≡ true }
+    requires levels_value { sound points (book_lent ids.old groups.old marks.old counts.old levels.old) ≡ true }
     requires unended { Unended bytes.now }
     requires le_line { 1 ≤ line }
     requires bytes_bound { line + length bytes.now < 2 ^ 64 }
-    ensures { Lasted (register_step points) (reading_at 0 line (book_before ids groups marks counts levels))
-        bytes.now result (book_after ids groups marks counts levels)
-        × (sound points (book_after ids groups marks counts levels) ≡ true) }
+    ensures { Lasted (register_step points) (reading_at 0 line (book_lent ids.old groups.old marks.old counts.old levels.old))
+        bytes.now result (book_lent ids.new groups.new marks.new counts.new levels.new)
+        × (sound points (book_lent ids.new groups.new marks.new counts.new levels.new) ≡ true) }
 {
     let f = take_last(ids, groups, marks, counts, levels, points, bytes, line);
     Turn {
@@ -95,12 +95,12 @@ fn read_on(
     line: u64,
     taken: &mut u64,
 ) -> Turn
-    requires levels_value { sound points (book_now ids groups marks counts levels) ≡ true }
+    requires levels_value { sound points (book_lent ids.old groups.old marks.old counts.old levels.old) ≡ true }
     requires waiting { Waiting longest_row bytes.old left line taken.old }
     ensures { Turned input (register_step points) longest_row
-        (reading_at 0 line (book_before ids groups marks counts levels)) (take left bytes.old)
-        taken.old result (book_after ids groups marks counts levels) bytes.new taken.new
-        × (sound points (book_after ids groups marks counts levels) ≡ true) }
+        (reading_at 0 line (book_lent ids.old groups.old marks.old counts.old levels.old)) (take left bytes.old)
+        taken.old result (book_lent ids.new groups.new marks.new counts.new levels.new) bytes.new taken.new
+        × (sound points (book_lent ids.new groups.new marks.new counts.new levels.new) ≡ true) }
 {
     match read_input(taken, &mut bytes[left..]) {
         Arrived::Bytes(n) => piece(
@@ -138,10 +138,10 @@ pub(crate) fn read_register(
     points: usize,
     bytes: &mut [u8],
 ) -> Turn
-    requires levels_value { sound points (book_now ids groups marks counts levels) ≡ true }
+    requires levels_value { sound points (book_lent ids.old groups.old marks.old counts.old levels.old) ≡ true }
     requires longest_line_in_bounds { longest_line < length bytes.old }
-    ensures { Done input (register_step points) longest_row (book_before ids groups marks counts levels) result
-        (book_after ids groups marks counts levels) }
+    ensures { Done input (register_step points) longest_row (book_lent ids.old groups.old marks.old counts.old levels.old) result
+        (book_lent ids.new groups.new marks.new counts.new levels.new) }
 {
     let mut taken = 0;
     let mut left = 0;

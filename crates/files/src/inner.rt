@@ -3,7 +3,7 @@
 ghost use Rattle.std.specs.Prelude.{◌≡◌, ◌≤◌, length, take};
 ghost use Rattle.io.specs.Counts.{IsPrefixLen};
 ghost use Rattle.movement.specs.Limits.{max_points};
-ghost use Rattle.book_rules.specs.Columns.{book_now, book_before};
+ghost use Rattle.book_rules.specs.Columns.{book_lent};
 ghost use Rattle.book_rules.specs.History.{empty_book};
 ghost use Rattle.report_text.specs.InnerRoom.{LimitsFit};
 ghost use Rattle.text.specs.Sheet.{refused_text};
@@ -87,7 +87,7 @@ fn report(
     limits: LimitsFile,
     out: &mut [u8],
 ) -> usize
-    requires levels_value { book_now ids groups marks counts levels ≡ empty_book max_points book_rows }
+    requires levels_value { book_lent ids.old groups.old marks.old counts.old levels.old ≡ empty_book max_points book_rows }
     requires limits_fit { LimitsFit limits × (longest_text ≤ length out.old) }
     ensures { AnsweredIn (telling_of kind) limits out.new result }
 {
@@ -115,7 +115,7 @@ fn report_in(
     limits: LimitsFile,
     out: &mut [u8],
 ) -> usize
-    requires levels_value { book_now ids groups marks counts levels ≡ empty_book limits.points book_rows }
+    requires levels_value { book_lent ids.old groups.old marks.old counts.old levels.old ≡ empty_book limits.points book_rows }
     requires limits_fit { LimitsFit limits × (longest_text ≤ length out.old) }
     ensures { AnsweredIn (telling_of kind) limits out.new result }
 {
@@ -141,7 +141,7 @@ fn answer_read(
     out: &mut [u8],
 ) -> usize
     requires { LimitsFit limits × (longest_text ≤ length out.old) }
-    ensures { Sized (telling_of kind) limits (turned_to read (book_before ids groups marks counts levels))
+    ensures { Sized (telling_of kind) limits (turned_to read (book_lent ids.now groups.now marks.now counts.now levels.now))
         out.new result }
 {
     let refusal = read.refusal;
@@ -175,7 +175,7 @@ fn put_told(
     limits: LimitsFile,
 ) -> Report
     requires { LimitsFit limits × (longest_text ≤ length out.old) }
-    ensures { Told (telling_of kind) limits (book_before ids groups marks counts levels) out.old result
+    ensures { Told (telling_of kind) limits (book_lent ids.now groups.now marks.now counts.now levels.now) out.old result
         out.new }
 {
     if kind == EXPLAIN {

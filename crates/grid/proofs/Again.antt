@@ -8,7 +8,8 @@ use borrow.Author.Tests.{eqb-true, ltb-true, ltb-false}
 use lib.{Dec.eqb, Dec.leb, Dec.ltb, ListN.length, ListN.get_or, ListN.take, ListN.drop, ListN.length-drop}
 use lib.Seq.{drop-append-le, take-append-le, take_all, drop_at}
 use Rattle.refusal.proofs.Laws.{and_left, and_right}
-use Rattle.text.specs.{Number.is_got, Number.value_of, Number.show_thousandths, Field.joined_by, Line.onto, Line.lines_of}
+use Rattle.text.specs.{Number.is_got, Number.value_of, Number.show_thousandths, Field.joined_by, Line.onto}
+use Rattle.text.specs.{Line.lines_of}
 use Rattle.text.specs.Same.{same_text}
 use Rattle.text.proofs.{Digits.either, Digits.got_value, Lines.lines_step}
 use Rattle.grid.specs.Row.{all, values_of, is_row, has_values, has_three, row_three, level_in, row_levels, levels_of}
@@ -49,7 +50,8 @@ text_again (c ∷ d ∷ t) =
 -- a header line is its key and its number
 number_exact : (key line : List ℕ) → is_got (number_after key line) ≡ true
     → line ≡ key_line key (value_of (number_after key line))
-number_exact key line e = (key_line_lem key line (value_of (number_after key line)) (got_value (number_after key line) e)).1
+number_exact key line e = (key_line_lem key line (value_of (number_after key line))
+    (got_value (number_after key line) e)).1
 
 -- the fifth of the header lines is there
 head_there : (line : List ℕ) → is_got (number_after cellsize line) ≡ true → 1 ≤ length line

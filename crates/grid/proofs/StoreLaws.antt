@@ -103,7 +103,8 @@ module _ (s : List ℕ) (at columns left : ℕ) (w : Rows s at columns left) (h 
   left_here = sym w.number ∙ ap length (line_here s at h)
 
   rest_each : all (has_values columns) (drop 1 (lines_at s at)) ≡ true
-  rest_each = and_right (has_values columns (line_from s at)) (all (has_values columns) (drop 1 (lines_at s at))) row_here
+  rest_each = and_right (has_values columns (line_from s at)) (all (has_values columns) (drop 1 (lines_at s at)))
+      row_here
 
   pub rows_left : (l : Line) → LineAt s at l → Rows s l.next columns (left - 1)
   rows_left l line = record {

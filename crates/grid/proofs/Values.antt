@@ -6,7 +6,8 @@ use native.Mathlib.Omega.{arith}
 use borrow.Author.Tests.{ne_eqb, ltb-true, not-true}
 use lib.ListN.{length-append, take-append-drop, get_or-append}
 use lib.Seq.{take-append_seam, drop-append_seam}
-use Rattle.text.specs.Number.{whole_of, decimal_of, thousandths_of, is_got, shown, show_whole, show_digits, show_thousandths}
+use Rattle.text.specs.Number.{whole_of, decimal_of, thousandths_of, is_got, shown, show_whole, show_digits}
+use Rattle.text.specs.Number.{show_thousandths}
 use Rattle.text.specs.Number.{InThousandths}
 use Rattle.text.specs.{Field.count_of, Field.joined_by, Line.onto, Line.lines_of, Same.same_text}
 use Rattle.text.specs.declared.number.Number.TheVariants.{Got, Off}
@@ -164,7 +165,8 @@ key_free key n e = count_append 13 key (show_whole n) ∙ omega (arith, e, shown
 
 first_digit_lem : (k n : ℕ) → get_or (shown (suc k) n) 0 0 ≤ 57
 unfolding shown
-first_digit_lem zero n = either (ltb n 10) (λ yes. rw yes (omega (arith, ltb-true n 10 yes))) (λ no. rw no (omega arith))
+first_digit_lem zero n = either (ltb n 10) (λ yes. rw yes (omega (arith, ltb-true n 10 yes)))
+    (λ no. rw no (omega arith))
 first_digit_lem (suc k) n =
     either (ltb n 10)
     (λ yes. rw yes (omega (arith, ltb-true n 10 yes)))

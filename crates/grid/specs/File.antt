@@ -1,6 +1,7 @@
 -- A network file by its lines: five keys with whole numbers, where it is named the no-data value, then the rows.
 -- RULES, "Files and the report program"; a missing header line counts as an empty one. Assumes nothing.
-use Rattle.std.specs.Prelude.{ℕ, ◌+◌, Bool, cond, ◌&&◌, ◌||◌, List, [], ◌∷◌, ◌++◌, map, length, take, drop, ◌==◌, slice_index, slice_index_or}
+use Rattle.std.specs.Prelude.{ℕ, ◌+◌, Bool, cond, ◌&&◌, ◌||◌, List, [], ◌∷◌, ◌++◌, map, length, take, drop, ◌==◌}
+use Rattle.std.specs.Prelude.{slice_index, slice_index_or}
 use Rattle.text.specs.Number.{whole_of, thousandths_of, is_got, value_of}
 use Rattle.text.specs.Same.{same_text}
 use Rattle.text.specs.Spelled.{bytes, byte}

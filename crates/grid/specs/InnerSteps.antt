@@ -1,6 +1,7 @@
 -- Inner steps: no promise uses them. What the parts of reading answer, each over the rest of a text or of a line, and
 -- what those of writing ask. Assumes nothing.
-use Rattle.std.specs.Prelude.{◌≡◌, ℕ, ◌+◌, ◌-◌, ◌<◌, ◌≤◌, Bool, true, false, cond, ◌&&◌, List, [], ◌∷◌, ◌++◌, map, length, take, drop, nat_le, slice_index, slice_index_or, slice_range}
+use Rattle.std.specs.Prelude.{◌≡◌, ℕ, ◌+◌, ◌-◌, ◌<◌, ◌≤◌, Bool, true, false, cond, ◌&&◌, List, [], ◌∷◌, ◌++◌, map}
+use Rattle.std.specs.Prelude.{length, take, drop, nat_le, slice_index, slice_index_or, slice_range}
 use Rattle.text.specs.Number.{show_thousandths}
 use Rattle.text.specs.Line.{lines_of}
 use Rattle.text.specs.Spelled.{crlf}

@@ -17,7 +17,7 @@ use Rattle.text.specs.Spelled.{bytes}
 use Rattle.text.proofs.Digits.{either, whole_small, got_value}
 use Rattle.text.proofs.{Shown.whole_back, Shown.decimal_long, Shown.shown_least, Exact.whole_exact}
 use Rattle.grid.specs.Row.{is_row}
-use Rattle.grid.specs.File.{unnamed, number_after, is_number, is_spelling, names_well, head_on, named_on, no_data_of, rows_of}
+use Rattle.grid.specs.File.{number_after, is_number, is_spelling, names_well, head_on, named_on, no_data_of, rows_of}
 use Rattle.grid.specs.File.{first_off, fault_line}
 use Rattle.grid_rules.specs.Laid.{line, Named, Behind}
 use Rattle.grid_rules.specs.Refused.{keys, Digits, Naming, LineOn, Fault}
@@ -60,7 +60,8 @@ digits_pass_lem t (with_point_rule l) = rw (level_passes_lem t l) (or-true (is_g
 
 spelling_passes : (minus : Bool) (t : List ℕ) → Digits t → is_spelling (cond minus (bytes "-") [] ++ t) ≡ true
 spelling_passes true t d = digits_pass_lem t d
-spelling_passes false t d = rw (ne_eqb (get_or t 0 0) 45 (λ e. omega (arith, digits_first_lem t d))) (digits_pass_lem t d)
+spelling_passes false t d = rw (ne_eqb (get_or t 0 0) 45 (λ e. omega (arith, digits_first_lem t d)))
+    (digits_pass_lem t d)
 
 naming_passes : (l : List ℕ) → Naming l → names_well l ≡ true
 unfolding names_well

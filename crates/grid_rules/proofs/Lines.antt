@@ -1,10 +1,11 @@
 -- Header lines, values and rows pass their tests exactly if they are on their layout. Assumes nothing.
-use Prim.Native.Nat.{ℕ, suc, ◌-◌, ◌≤◌, ◌<◌}
+use Prim.Native.Nat.{ℕ, suc, ◌≤◌, ◌<◌}
 use mathlib.Core.{Path.◌≡◌, Path.refl, Path.sym, Path.ap, Path.◌∙◌, List.List, List.[], List.◌∷◌}
 use mathlib.Core.Bool.{Bool, true, false, ◌||◌, true≢false, or-true}
 use native.Mathlib.Omega.{arith}
 use lib.ListN.{length, get_or}
-use Rattle.text.specs.{Field.count_of, Field.field_of, Number.thousandths_of, Number.is_got, Number.value_of, Same.same_text}
+use Rattle.text.specs.{Field.count_of, Field.field_of, Number.thousandths_of, Number.is_got, Number.value_of}
+use Rattle.text.specs.{Same.same_text}
 use Rattle.text.specs.declared.number.Number.TheVariants.{Got}
 use Rattle.text.proofs.{Digits.either, Digits.got_value, Thousandths.thousandths_read, Thousandths.thousandths_exact}
 use Rattle.grid.specs.{Row.all, Row.values_of, Row.is_value, Row.is_row, File.number_after}

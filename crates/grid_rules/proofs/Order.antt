@@ -1,7 +1,7 @@
 -- A text is refused with 17, 12, 13 or 14, in this order, exactly where the rules say. Assumes nothing.
 use Prim.Native.Nat.{ℕ, zero, suc, ◌+◌, ◌-◌, ◌*◌, ◌≤◌, ◌<◌}
 use mathlib.Core.{Path.◌≡◌, Path.refl, Path.sym, Path.ap, Path.◌∙◌, List.List, List.[]}
-use mathlib.Core.Bool.{Bool, true, false, cond, ◌&&◌, true≢false}
+use mathlib.Core.Bool.{Bool, true, cond, ◌&&◌, true≢false}
 use native.Mathlib.Omega.{arith}
 use borrow.Author.Tests.{eqb-true, eqb-false, eq-eqb, leb-true, le-leb}
 use lib.{Dec.eqb, Dec.leb, ListN.length, ListN.get_or, ListN.drop, ListN.length-drop}
@@ -37,10 +37,12 @@ module _ (text : List ℕ) where
 
   abbrev fitting : Bool
   fitting = rows_fit (text_frame text) (rows_of (lines_of text)) &&
-      (sided (text_frame text) && placed (text_frame text) && filled (levels_of (rows_of (lines_of text))) (text_frame text))
+      (sided (text_frame text) && placed (text_frame text) && filled (levels_of (rows_of (lines_of text)))
+      (text_frame text))
 
   abbrev ready : Bool
-  ready = all_within max_network_level (levels_of (rows_of (lines_of text))) && all (row_given (no_data_of (lines_of text)))
+  ready = all_within max_network_level (levels_of (rows_of (lines_of text))) && all
+      (row_given (no_data_of (lines_of text)))
       (rows_of (lines_of text))
 
   abbrev enough : ℕ → ℕ → Bool
@@ -81,9 +83,9 @@ module _ (text : List ℕ) where
     rows_number : Sized text f first → length rows ≡ f.rows
     rows_number s = omega (arith, s.height, ap length start, length-drop first lines)
 
-    rows_fit : Sized text f first → rows_fit f rows ≡ true
+    rows_fit_here : Sized text f first → rows_fit f rows ≡ true
     unfolding rows_fit
-    rows_fit s =
+    rows_fit_here s =
         both_true (eqb (length rows) f.rows) (all (has_values f.columns) rows)
         (eq-eqb (length rows) f.rows (rows_number s))
         (all_from (has_values f.columns) rows []
@@ -94,7 +96,7 @@ module _ (text : List ℕ) where
 
     fits_pass : Sized text f first → InRange f → fitting ≡ true
     fits_pass s r =
-        let fit-now = rows_fit s in
+        let fit-now = rows_fit_here s in
         both_true (rows_fit f rows) (sided f && placed f && filled (levels_of rows) f) fit-now
         (both_true (sided f && placed f) (filled (levels_of rows) f) (range_passes f r)
         (eq-eqb (length (levels_of rows)) (f.rows * f.columns) (fit_length f rows fit-now)))
@@ -108,7 +110,8 @@ module _ (text : List ℕ) where
         let inside = row_inside k h l in
         let same = row_place k h in
         let t = field_of 32 c (line text k) in
-        let in-values : c < length (values_of (get_or rows j [])) = rw same (omega (arith, value_count (line text k))) in
+        let in-values : c < length (values_of (get_or rows j [])) = rw same
+        (omega (arith, value_count (line text k))) in
         let g = all-at (given (no_data_of lines)) (values_of (get_or rows j [])) []
         (all-at (row_given (no_data_of lines)) rows [] b.1 j inside) c in-values in
         let g-here : given nodata t ≡ true = rw (spelling, value_field (get_or rows j []) c, same) at g in

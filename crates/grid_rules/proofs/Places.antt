@@ -8,7 +8,8 @@ use lib.{Dec.eqb, ListN.length, ListN.get_or, ListN.get_or-append, Seq.get_or-ap
 use Rattle.refusal.proofs.Laws.{and_left, and_right}
 use Rattle.text.specs.{Line.onto, Field.count_of, Field.up_to, Field.after, Field.field_of}
 use Rattle.text.proofs.Digits.{either}
-use Rattle.grid.specs.{Row.all, Row.values_of, Row.has_values, Row.level_in, Row.row_levels, Row.levels_of, File.first_off}
+use Rattle.grid.specs.{Row.all, Row.values_of, Row.has_values, Row.level_in, Row.row_levels, Row.levels_of}
+use Rattle.grid.specs.{File.first_off}
 use Rattle.grid.proofs.{StoreLaws.levels_length, ValueLaws.all_cons}
 
 -- ---- tests

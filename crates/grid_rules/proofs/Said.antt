@@ -10,7 +10,8 @@ use Rattle.text.specs.{Line.lines_of, Field.count_of, Field.field_of}
 use Rattle.text.specs.{Number.is_got, Number.value_of, Number.show_whole, Number.InThousandths, Same.same_text}
 use Rattle.text.specs.Spelled.{bytes}
 use Rattle.text.proofs.{Digits.either, Digits.got_value, Sames.same_equal, Sames.same_self}
-use Rattle.grid.specs.Row.{all, values_of, given, is_value, is_row, has_values, row_given, has_three, row_three, level_in}
+use Rattle.grid.specs.Row.{all, values_of, given, is_value, is_row, has_values, row_given, has_three, row_three}
+use Rattle.grid.specs.Row.{level_in}
 use Rattle.grid.specs.Row.{levels_of}
 use Rattle.grid.specs.File.{ncols, nrows, xllcenter, yllcenter, cellsize, begins, number_at, names, sixth}
 use Rattle.grid.specs.File.{head_on, named_on, frame_of, no_data_of, rows_of, fault_line, rows_fit}
@@ -109,7 +110,8 @@ module _ (text : List ℕ) (none : fault_line (lines_of text) ≡ 0) where
   test : (i : ℕ) → get_or (head_on lines ++ (named_on lines ++ map (is_row (no_data_of lines)) (rows_of lines))) i true
       ≡ true
   unfolding fault_line
-  test = test_at 1 (head_on lines ++ (named_on lines ++ map (is_row (no_data_of lines)) (rows_of lines))) (omega arith) none
+  test = test_at 1 (head_on lines ++ (named_on lines ++ map (is_row (no_data_of lines)) (rows_of lines))) (omega arith)
+      none
 
   pub five_there : 5 ≤ length lines
   five_there = line_there lines 4 (rw (number_at_rule lines cellsize 4 (test 4)) (omega arith))

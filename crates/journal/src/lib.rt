@@ -6,7 +6,7 @@ mod making;
 mod numbers;
 
 ghost use Rattle.std.specs.Prelude.{◌≡◌, ◌≤◌, true, length};
-ghost use Rattle.book_rules.specs.Columns.{book_now, book_before, book_after, sound};
+ghost use Rattle.book_rules.specs.Columns.{book_lent, sound};
 ghost use Rattle.book_rules.specs.History.{booked, answered};
 ghost use Rattle.room.specs.Room.{front};
 ghost use Rattle.journal.specs.Journal.{laid_out, calls_of, calls_for, replay_refusal, Replayed};
@@ -27,7 +27,7 @@ fn replay_refusal(
     room: usize,
 ) -> u32
     ensures { result
-        ≡ replay_refusal points (book_before ids groups marks counts levels) journal.now room }
+        ≡ replay_refusal points (book_lent ids.now groups.now marks.now counts.now levels.now) journal.now room }
 {
     if !is_laid_out(journal) {
         return 16;
@@ -52,13 +52,13 @@ fn run(
     journal: &[u32],
     answers: &mut [u32],
 )
-    requires levels_value { sound points (book_now ids groups marks counts levels) ≡ true }
+    requires levels_value { sound points (book_lent ids.old groups.old marks.old counts.old levels.old) ≡ true }
     requires journal_value { laid_out journal.now ≡ true }
     requires journal_in_bounds { length (calls_of journal.now) ≤ length answers.old }
-    ensures levels_value_2 { book_after ids groups marks counts levels
-        ≡ booked (book_before ids groups marks counts levels) (calls_for points journal.now) }
+    ensures levels_value_2 { book_lent ids.new groups.new marks.new counts.new levels.new
+        ≡ booked (book_lent ids.old groups.old marks.old counts.old levels.old) (calls_for points journal.now) }
     ensures answers_after { answers.new
-        ≡ front (answered (book_before ids groups marks counts levels) (calls_for points journal.now))
+        ≡ front (answered (book_lent ids.old groups.old marks.old counts.old levels.old) (calls_for points journal.now))
         answers.old }
 {
     let mut at = 0;
@@ -83,8 +83,8 @@ pub fn replay(
     journal: &[u32],
     answers: &mut [u32],
 ) -> u32
-    ensures { Replayed points (book_before ids groups marks counts levels) journal.now
-        answers.old result (book_after ids groups marks counts levels) answers.new }
+    ensures { Replayed points (book_lent ids.old groups.old marks.old counts.old levels.old) journal.now
+        answers.old result (book_lent ids.new groups.new marks.new counts.new levels.new) answers.new }
 {
     let refused = replay_refusal(
         ids,

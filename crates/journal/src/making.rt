@@ -1,6 +1,6 @@
 // Makes the call at the front of a journal, on a book that is known to be sound.
 ghost use Rattle.std.specs.Prelude.{◌≡◌, ◌+◌, ◌≤◌, true, length, slice_index};
-ghost use Rattle.book_rules.specs.Columns.{book_now, book_before, book_after, sound};
+ghost use Rattle.book_rules.specs.Columns.{book_lent, sound};
 ghost use Rattle.book_rules.specs.Calls.{Called};
 ghost use Rattle.journal.specs.Journal.{enter_at, supply_at, call_at, complete};
 
@@ -13,10 +13,10 @@ fn enter_from(
     points: usize,
     rest: &[u32],
 ) -> u32
-    requires levels_value { sound points (book_now ids groups marks counts levels) ≡ true }
+    requires levels_value { sound points (book_lent ids.old groups.old marks.old counts.old levels.old) ≡ true }
     requires rest_in_bounds { 7 + slice_index rest.now 6 ≤ length rest.now }
-    ensures { Called points (book_before ids groups marks counts levels)
-        (enter_at rest.now) result (book_after ids groups marks counts levels) }
+    ensures { Called points (book_lent ids.old groups.old marks.old counts.old levels.old)
+        (enter_at rest.now) result (book_lent ids.new groups.new marks.new counts.new levels.new) }
 {
     let end = 7 + rest[6] as usize;
     book::inner::enter(
@@ -44,10 +44,10 @@ fn supply_from(
     points: usize,
     rest: &[u32],
 ) -> u32
-    requires levels_value { sound points (book_now ids groups marks counts levels) ≡ true }
+    requires levels_value { sound points (book_lent ids.now groups.now marks.old counts.now levels.old) ≡ true }
     requires rest_in_bounds { 3 + slice_index rest.now 2 ≤ length rest.now }
-    ensures { Called points (book_before ids groups marks counts levels)
-        (supply_at rest.now) result (book_after ids groups marks counts levels) }
+    ensures { Called points (book_lent ids.now groups.now marks.old counts.now levels.old)
+        (supply_at rest.now) result (book_lent ids.now groups.now marks.new counts.now levels.new) }
 {
     let end = 3 + rest[2] as usize;
     book::inner::supply(
@@ -71,10 +71,10 @@ pub(crate) fn make_call(
     points: usize,
     rest: &[u32],
 ) -> u32
-    requires levels_value { sound points (book_now ids groups marks counts levels) ≡ true }
+    requires levels_value { sound points (book_lent ids.old groups.old marks.old counts.old levels.old) ≡ true }
     requires rest_value { complete rest.now ≡ true }
-    ensures { Called points (book_before ids groups marks counts levels) (call_at rest.now) result
-        (book_after ids groups marks counts levels) }
+    ensures { Called points (book_lent ids.old groups.old marks.old counts.old levels.old) (call_at rest.now) result
+        (book_lent ids.new groups.new marks.new counts.new levels.new) }
 {
     let kind = rest[0];
     let identity = rest[1];

@@ -11,7 +11,7 @@ use Rattle.refusal.proofs.Laws.{and_left, and_right}
 use Rattle.book_rules.specs.Columns.{Book, sound}
 use Rattle.load_rules.specs.declared.{Group.Group, Counts.Counts}
 use Rattle.load_rules.specs.{Shares.Share, Tally.tally, Tally.list_from}
-use Rattle.load_rules.specs.Factors.{sum_to, known, unknown, known_sum, unknown_sum, general_factor}
+use Rattle.load_rules.specs.Factors.{sum_to, known_sum, unknown_sum, general_factor}
 use Rattle.load_rules.specs.Load.{counts_of, scaled_sum, total_of, days_fit, none_computed, load_refusal}
 use Rattle.load_rules.specs.Load.{answer, refused_load, load_of}
 use Rattle.load_rules.specs.Verdict.{limit_fits, verdict_refusal, judged, judged_of}

@@ -1,7 +1,7 @@
 // How a load comes about: RULES, "Energy and load". The numbers are those that the load itself works with.
 ghost use Rattle.std.specs.Prelude.{◌≡◌, ◌+◌, ◌<◌, ◌≤◌, true, length};
 ghost use Rattle.movement.specs.Limits.{group_count};
-ghost use Rattle.book_rules.specs.Columns.{book_before};
+ghost use Rattle.book_rules.specs.Columns.{book_lent};
 ghost use Rattle.room.specs.Room.{front, put, Writes};
 ghost use Rattle.load_rules.specs.Factors.{ratio};
 ghost use Rattle.load_rules.specs.Load.{days_fit, book_load};
@@ -32,8 +32,8 @@ pub fn account_at(
     days: u32,
     answer: &mut [u64],
 ) -> u32
-    ensures { Writes (book_load points point (book_before ids groups marks counts levels) days).refused
-        (account_of points point (book_before ids groups marks counts levels) days)
+    ensures { Writes (book_load points point (book_lent ids.now groups.now marks.now counts.now levels.now) days).refused
+        (account_of points point (book_lent ids.now groups.now marks.now counts.now levels.now) days)
         answer.old result answer.new }
 {
     if !point_fits(ids, groups, marks, counts, levels, points, point) {

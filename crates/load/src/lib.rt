@@ -6,7 +6,7 @@ mod sums;
 mod tally;
 
 ghost use Rattle.std.specs.Prelude.{◌≡◌, ◌<◌, true, ◌&&◌, nat_lt};
-ghost use Rattle.book_rules.specs.Columns.{book_now, book_before, sound};
+ghost use Rattle.book_rules.specs.Columns.{book_lent, sound};
 ghost use Rattle.load_rules.specs.Shares.{book_shares};
 ghost use Rattle.load_rules.specs.Load.{refused_load, days_fit, load_of, book_load};
 ghost use Rattle.load_rules.specs.Verdict.{Judging};
@@ -29,7 +29,7 @@ pub fn load_at(
     point: usize,
     days: u32,
 ) -> Load
-    ensures { result ≡ book_load points point (book_before ids groups marks counts levels) days }
+    ensures { result ≡ book_load points point (book_lent ids.now groups.now marks.now counts.now levels.now) days }
 {
     if !point_fits(ids, groups, marks, counts, levels, points, point) {
         return refusal(9);
@@ -52,7 +52,7 @@ pub fn verdict_at(
     days: u32,
     limit: u32,
 ) -> Judged
-    ensures { Judging points point (book_before ids groups marks counts levels) days limit result }
+    ensures { Judging points point (book_lent ids.now groups.now marks.now counts.now levels.now) days limit result }
 {
     if !point_fits(ids, groups, marks, counts, levels, points, point) {
         return Judged::Refused(9);
@@ -79,7 +79,7 @@ pub(crate) fn point_fits(
     points: usize,
     point: usize,
 ) -> bool
-    ensures { result ≡ (sound points (book_before ids groups marks counts levels) && nat_lt point points) }
+    ensures { result ≡ (sound points (book_lent ids.now groups.now marks.now counts.now levels.now) && nat_lt point points) }
 {
     if !soundness::is_sound(ids, groups, marks, counts, levels, points) {
         return false;
@@ -107,10 +107,10 @@ fn load_of(
     point: usize,
     days: u32,
 ) -> Load
-    requires levels_value { sound points (book_now ids groups marks counts levels) ≡ true }
+    requires levels_value { sound points (book_lent ids.now groups.now marks.now counts.now levels.now) ≡ true }
     requires point_lt_points { point < points }
     requires days_value { days_fit days ≡ true }
-    ensures { result ≡ load_of true (book_shares points point (book_before ids groups marks counts levels)) days }
+    ensures { result ≡ load_of true (book_shares points point (book_lent ids.now groups.now marks.now counts.now levels.now)) days }
 {
     answer_from(
         groups_of(ids, groups, marks, counts, levels, points, point),

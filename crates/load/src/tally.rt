@@ -1,7 +1,7 @@
 // The tally of a book's rows: V, U and S of each group at one point.
 ghost use Rattle.std.specs.Prelude.{◌≡◌, ◌+◌, ◌<◌, ◌≤◌, true, [], ◌∷◌};
 ghost use Rattle.movement.specs.Limits.{max_level, group_count};
-ghost use Rattle.book_rules.specs.Columns.{book_now, book_before, sound};
+ghost use Rattle.book_rules.specs.Columns.{book_lent, sound};
 ghost use Rattle.load_rules.specs.Shares.{book_shares};
 ghost use Rattle.load_rules.specs.Tally.{tally};
 ghost use Rattle.load.specs.InnerSteps.{table, group_at, flat, flat_at, Tables, RoomForOne, with_row};
@@ -106,9 +106,9 @@ fn with_rows(
     point: usize,
 ) -> [Group; GROUPS]
     requires start_value { (start ≡ flat (tally [])) × (Tables a.now powers.now) }
-    requires levels_value { sound points (book_now ids groups marks counts levels) ≡ true }
+    requires levels_value { sound points (book_lent ids.now groups.now marks.now counts.now levels.now) ≡ true }
     requires point_lt_points { point < points }
-    ensures { result ≡ flat (tally (book_shares points point (book_before ids groups marks counts levels))) }
+    ensures { result ≡ flat (tally (book_shares points point (book_lent ids.now groups.now marks.now counts.now levels.now))) }
 {
     let mut cells = start;
     let mut i = 0;
@@ -139,9 +139,9 @@ fn tallied(
     point: usize,
 ) -> Groups
     requires start_value { (start ≡ table (tally [])) × (Tables a.now powers.now) }
-    requires levels_value { sound points (book_now ids groups marks counts levels) ≡ true }
+    requires levels_value { sound points (book_lent ids.now groups.now marks.now counts.now levels.now) ≡ true }
     requires point_lt_points { point < points }
-    ensures { result ≡ table (tally (book_shares points point (book_before ids groups marks counts levels))) }
+    ensures { result ≡ table (tally (book_shares points point (book_lent ids.now groups.now marks.now counts.now levels.now))) }
 {
     arranged(with_rows(
         side_by_side(start),
@@ -167,9 +167,9 @@ pub(crate) fn groups_of(
     points: usize,
     point: usize,
 ) -> Groups
-    requires levels_value { sound points (book_now ids groups marks counts levels) ≡ true }
+    requires levels_value { sound points (book_lent ids.now groups.now marks.now counts.now levels.now) ≡ true }
     requires point_lt_points { point < points }
-    ensures { result ≡ table (tally (book_shares points point (book_before ids groups marks counts levels))) }
+    ensures { result ≡ table (tally (book_shares points point (book_lent ids.now groups.now marks.now counts.now levels.now))) }
 {
     let a = level::tables::table_a();
     let powers = level::tables::powers();

@@ -18,7 +18,8 @@ module _ (levels : List ℕ) (f : Frame) (v : ℕ) where
   numbers_last (m ∷ ns) n = ap (λ (l : List ℕ). (shown_of (located_of levels f v m)).which ∷ l) (numbers_last ns n)
 
   places_last : (ns : List ℕ) (n : ℕ) → places_of levels f v (ns ++ (n ∷ []))
-      ≡ places_of levels f v ns ++ ((shown_of (located_of levels f v n)).x ∷ (shown_of (located_of levels f v n)).y ∷ [])
+      ≡ places_of levels f v ns ++ ((shown_of (located_of levels f v n)).x ∷ (shown_of (located_of levels f v n)).y
+      ∷ [])
   unfolding places_of
   places_last [] n = refl
   places_last (m ∷ ns) n = ap (λ (l : List Float). (shown_of (located_of levels f v m)).x ∷ (shown_of
@@ -51,7 +52,8 @@ module _ (levels : List ℕ) (f : Frame) (v : ℕ) where
         → set (front (numbers_of levels f v (take i ns)) old) i (shown_of (located_of levels f v (get_or ns i 0))).which
         ≡ front (numbers_of levels f v (take (i + 1) ns)) old
     numbers_turn old k =
-        front_more_rule (numbers_of levels f v (take i ns)) old i (shown_of (located_of levels f v (get_or ns i 0))).which
+        front_more_rule (numbers_of levels f v (take i ns)) old i
+        (shown_of (located_of levels f v (get_or ns i 0))).which
         (length-numbers (take i ns) ∙ taken) (omega arith)
         ∙ rw (add-one i, take-suc ns i 0 h, numbers_last (take i ns) (get_or ns i 0))
 

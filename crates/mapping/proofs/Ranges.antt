@@ -147,7 +147,8 @@ module _ (levels : List ℕ) (f : Frame) (v n : ℕ) where
         let at : edge_at f.columns f.rows n ≡ e = ap (edge_at f.columns f.rows) q ∙ i in
         let x : crossed_at levels f.columns f.rows v n ≡ true =
         ap (crossed_at levels f.columns f.rows v) q ∙ c in
-        crossed_at_rule P e at (is_crossed_rule true (omega arith) x) (p (sym (ap (crossed_edge levels f.columns v) at) ∙ x))
+        crossed_at_rule P e at (is_crossed_rule true (omega arith) x)
+        (p (sym (ap (crossed_edge levels f.columns v) at) ∙ x))
 
     none_number : (m : ℕ) → n ≡ m → m < edges f.columns f.rows
         → (crossed_at levels f.columns f.rows v m ≡ true → ⊥) → Both (None levels f v)

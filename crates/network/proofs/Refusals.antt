@@ -45,7 +45,8 @@ is_checked levels f h q =
 
 -- a call whose refusal is 0 has a checked network, and a contour level in its range
 pub not_refused_lem : (levels : List ℕ) (f : Frame) → network_refusal levels f ≡ 0 → Checked levels f
-not_refused_lem levels f h = go (sided f && placed f && filled levels f) (all_within max_network_level levels) refl refl h
+not_refused_lem levels f h = go (sided f && placed f && filled levels f) (all_within max_network_level levels) refl
+    refl h
   where
     go : (a b : Bool) → (sided f && placed f && filled levels f) ≡ a → all_within max_network_level levels ≡ b
         → ◌≡◌ {A = ℕ} (cond a (cond b 0 13) 12) 0 → Checked levels f
@@ -56,7 +57,8 @@ not_refused_lem levels f h = go (sided f && placed f && filled levels f) (all_wi
 pub contour_not_refused : (levels : List ℕ) (f : Frame) (v : ℕ) → contour_refusal levels f v ≡ 0
     → Checked levels f × ((least_contour ≤ v) × (v ≤ max_contour))
 contour_not_refused levels f v h =
-    go (sided f && placed f && filled levels f) (all_within max_network_level levels) (between least_contour v max_contour)
+    go (sided f && placed f && filled levels f) (all_within max_network_level levels)
+    (between least_contour v max_contour)
     refl refl refl h
   where
     go : (a b c : Bool) → (sided f && placed f && filled levels f) ≡ a → all_within max_network_level levels ≡ b

@@ -1,5 +1,5 @@
 // The calls on a book, and a journal of them.
-ghost use Rattle.book_rules.specs.Columns.{book_before, book_after};
+ghost use Rattle.book_rules.specs.Columns.{book_lent};
 ghost use Rattle.book_rules.specs.Calls.{Call, Called};
 ghost use Rattle.journal.specs.Journal.{Replayed};
 
@@ -19,9 +19,9 @@ pub extern "C" fn okubinrafo_enter(
     mass: u32,
     given: &[u32],
 ) -> u32
-    ensures { Called points (book_before identities groups marks counts levels)
+    ensures { Called points (book_lent identities.old groups.old marks.old counts.old levels.old)
         (Call.enter identity ty kind time mass given.now) result
-        (book_after identities groups marks counts levels) }
+        (book_lent identities.new groups.new marks.new counts.new levels.new) }
 {
     book::enter(
         identities,
@@ -51,8 +51,8 @@ pub extern "C" fn okubinrafo_supply(
     identity: u32,
     given: &[u32],
 ) -> u32
-    ensures { Called points (book_before identities groups marks counts levels)
-        (Call.supply identity given.now) result (book_after identities groups marks counts levels) }
+    ensures { Called points (book_lent identities.now groups.now marks.old counts.now levels.old)
+        (Call.supply identity given.now) result (book_lent identities.now groups.now marks.new counts.now levels.new) }
 {
     book::supply(
         identities,
@@ -77,8 +77,8 @@ pub extern "C" fn okubinrafo_take_back(
     points: u32,
     identity: u32,
 ) -> u32
-    ensures { Called points (book_before identities groups marks counts levels) (Call.take_back identity) result
-        (book_after identities groups marks counts levels) }
+    ensures { Called points (book_lent identities.now groups.now marks.old counts.now levels.old) (Call.take_back identity) result
+        (book_lent identities.now groups.now marks.new counts.now levels.new) }
 {
     book::take_back(
         identities,
@@ -102,8 +102,8 @@ pub extern "C" fn okubinrafo_withdraw(
     points: u32,
     identity: u32,
 ) -> u32
-    ensures { Called points (book_before identities groups marks counts levels) (Call.withdraw identity) result
-        (book_after identities groups marks counts levels) }
+    ensures { Called points (book_lent identities.old groups.old marks.old counts.old levels.old) (Call.withdraw identity) result
+        (book_lent identities.new groups.new marks.new counts.new levels.new) }
 {
     book::withdraw(
         identities,
@@ -128,8 +128,8 @@ pub extern "C" fn okubinrafo_replay(
     journal: &[u32],
     answers: &mut [u32],
 ) -> u32
-    ensures { Replayed points (book_before identities groups marks counts levels) journal.now
-        answers.old result (book_after identities groups marks counts levels) answers.new }
+    ensures { Replayed points (book_lent identities.old groups.old marks.old counts.old levels.old) journal.now
+        answers.old result (book_lent identities.new groups.new marks.new counts.new levels.new) answers.new }
 {
     journal::replay(
         identities,

@@ -1,6 +1,6 @@
 // The load, its account and the verdict at a point of a book.
 ghost use Rattle.std.specs.Prelude.{◌≡◌, ◌∷◌, [], ◌≤◌, ◌<◌, length, get_or};
-ghost use Rattle.book_rules.specs.Columns.{book_before};
+ghost use Rattle.book_rules.specs.Columns.{book_lent};
 ghost use Rattle.load_rules.specs.Load.{book_load};
 ghost use Rattle.load_rules.specs.Verdict.{refusal_number, book_verdict};
 ghost use Rattle.load_rules.specs.Account.{account_of};
@@ -65,8 +65,8 @@ pub extern "C" fn okubinrafo_load(
     days: u32,
     answer: &mut [u64],
 ) -> u32
-    ensures { Writes (book_load points point (book_before identities groups marks counts levels) days).refused
-        (load_numbers (book_load points point (book_before identities groups marks counts levels) days))
+    ensures { Writes (book_load points point (book_lent identities.now groups.now marks.now counts.now levels.now) days).refused
+        (load_numbers (book_load points point (book_lent identities.now groups.now marks.now counts.now levels.now) days))
         answer.old result answer.new }
 {
     let load = load::load_at(
@@ -105,8 +105,8 @@ pub extern "C" fn okubinrafo_account(
     days: u32,
     answer: &mut [u64],
 ) -> u32
-    ensures { Writes (book_load points point (book_before identities groups marks counts levels) days).refused
-        (account_of points point (book_before identities groups marks counts levels) days)
+    ensures { Writes (book_load points point (book_lent identities.now groups.now marks.now counts.now levels.now) days).refused
+        (account_of points point (book_lent identities.now groups.now marks.now counts.now levels.now) days)
         answer.old result answer.new }
 {
     load::account::account_at(
@@ -148,8 +148,8 @@ pub extern "C" fn okubinrafo_verdict(
     answer: &mut [u32],
 ) -> u32
     ensures { Writes
-        (refusal_number (book_verdict points point (book_before identities groups marks counts levels) days limit))
-        (verdict_numbers (book_verdict points point (book_before identities groups marks counts levels) days limit))
+        (refusal_number (book_verdict points point (book_lent identities.now groups.now marks.now counts.now levels.now) days limit))
+        (verdict_numbers (book_verdict points point (book_lent identities.now groups.now marks.now counts.now levels.now) days limit))
         answer.old result answer.new }
 {
     let judged = load::verdict_at(

@@ -1,6 +1,7 @@
 -- The fields of a line, column by column. A register's row is id,type,mtow,kind,time,l1..ln; the second line of
 -- limits.csv is days,p1..pn. Assumes nothing.
-use Rattle.std.specs.Prelude.{ℕ, zero, suc, ◌+◌, ◌-◌, Bool, true, false, cond, ◌&&◌, List, [], ◌++◌, length, replicate, ◌==◌, nat_le}
+use Rattle.std.specs.Prelude.{ℕ, zero, suc, ◌+◌, ◌-◌, Bool, true, false, cond, ◌&&◌, List, [], ◌++◌, length, replicate}
+use Rattle.std.specs.Prelude.{◌==◌, nat_le}
 use Rattle.text.specs.Number.{whole_of, level_of, is_got, value_of, show_whole, show_level}
 use Rattle.text.specs.Field.{count_of, field_of}
 use Rattle.text.specs.Index.{every, many, listing}

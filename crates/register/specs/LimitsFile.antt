@@ -39,4 +39,5 @@ headed_limits (Got n) second lines = second_limits n second lines
 -- the text of two lines, of which a missing one counts as empty
 unfoldable pub limits_of : List ℕ → LimitsFile
 limits_of s =
-    headed_limits (header_of limits_header limits_lead (slice_index_or (lines_of s) 0 [])) (slice_index_or (lines_of s) 1 []) (length (lines_of s))
+    headed_limits (header_of limits_header limits_lead (slice_index_or (lines_of s) 0 []))
+    (slice_index_or (lines_of s) 1 []) (length (lines_of s))

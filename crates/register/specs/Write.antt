@@ -1,5 +1,6 @@
 -- A register row written: RULES, "Files and the report program". Assumes nothing.
-use Rattle.std.specs.Prelude.{◌≡◌, ℕ, ◌+◌, Bool, true, cond, ◌&&◌, List, [], ◌∷◌, ◌++◌, length, ◌==◌, nat_le, slice_index}
+use Rattle.std.specs.Prelude.{◌≡◌, ℕ, ◌+◌, Bool, true, cond, ◌&&◌, List, [], ◌∷◌, ◌++◌, length, ◌==◌, nat_le}
+use Rattle.std.specs.Prelude.{slice_index}
 use Rattle.refusal.specs.Refuse.{refuse}
 use Rattle.refusal.specs.Range.{all_within}
 use Rattle.movement.specs.Rules.{levels_fit}
@@ -38,7 +39,8 @@ row_levels_fit n mark levels = levels_fit n levels && zero_where_blank mark leve
 
 -- a row that can't be written: 9, 1, 3, 7
 unfoldable pub write_fault : ℕ → Fields → List ℕ → ℕ
-write_fault n f levels = refuse 9 (points_fit n && nat_le f.computed 1) (fault_of f (row_levels_fit n f.computed levels))
+write_fault n f levels = refuse 9 (points_fit n && nat_le f.computed 1)
+    (fault_of f (row_levels_fit n f.computed levels))
 
 -- and 14 where its text has no room
 unfoldable pub write_refusal : (n : ℕ) (f : Fields) (levels : List ℕ) (room : ℕ) → ℕ

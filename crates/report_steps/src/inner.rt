@@ -2,7 +2,7 @@
 pub mod feeding;
 
 ghost use Rattle.std.specs.Prelude.{◌≡◌, ◌≤◌, true, replicate};
-ghost use Rattle.book_rules.specs.Columns.{book_now, book_before, book_after, sound};
+ghost use Rattle.book_rules.specs.Columns.{book_lent, sound};
 ghost use Rattle.book_rules.specs.Calls.{Call, Called};
 ghost use Rattle.movement.specs.Limits.{max_points};
 ghost use Rattle.report_steps.specs.InnerTaken.{RowTaken, LevelsTaken};
@@ -21,9 +21,9 @@ pub fn take_row(
     points: usize,
     line: &[u8],
 ) -> Taken
-    requires { sound points (book_now ids groups marks counts levels) ≡ true }
-    ensures { RowTaken points (book_before ids groups marks counts levels) line.now result
-        (book_after ids groups marks counts levels) }
+    requires { sound points (book_lent ids.old groups.old marks.old counts.old levels.old) ≡ true }
+    ensures { RowTaken points (book_lent ids.old groups.old marks.old counts.old levels.old) line.now result
+        (book_lent ids.new groups.new marks.new counts.new levels.new) }
 {
     let layout = read_layout(line, points as u32);
     if layout.refusal != 0 {
@@ -56,11 +56,11 @@ fn enter_row(
     points: usize,
     f: Fields,
 ) -> u32
-    requires levels_value { sound points (book_now ids groups marks counts levels) ≡ true }
+    requires levels_value { sound points (book_lent ids.old groups.old marks.old counts.old levels.old) ≡ true }
     requires points_le_max_points { points ≤ max_points }
-    ensures { Called points (book_before ids groups marks counts levels)
+    ensures { Called points (book_lent ids.old groups.old marks.old counts.old levels.old)
         (Call.enter f.identity f.ty f.kind f.time f.mass (replicate points 1)) result
-        (book_after ids groups marks counts levels) }
+        (book_lent ids.new groups.new marks.new counts.new levels.new) }
 {
     let everywhere = [1u32; MAX_POINTS];
     book::inner::enter(
@@ -90,10 +90,10 @@ fn take_levels(
     identity: u32,
     given: [u32; MAX_POINTS],
 ) -> Taken
-    requires levels_value { sound points (book_now ids groups marks counts levels) ≡ true }
+    requires levels_value { sound points (book_lent ids.now groups.now marks.old counts.now levels.old) ≡ true }
     requires points_le_max_points { points ≤ max_points }
-    ensures { LevelsTaken points (book_before ids groups marks counts levels) identity given result
-        (book_after ids groups marks counts levels) }
+    ensures { LevelsTaken points (book_lent ids.now groups.now marks.old counts.now levels.old) identity given result
+        (book_lent ids.now groups.now marks.new counts.now levels.new) }
 {
     let refused = book::inner::supply(
         ids,

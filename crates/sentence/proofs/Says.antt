@@ -104,7 +104,8 @@ each_plain number i h =
     (λ low.
     let b = get_or (sentence_of number) i 0 in
     let tests = every_each plain_test number all_numbers (ltb-true number all_numbers low) all_plain in
-    let plain = every_each (λ j. plain_byte (get_or (sentence_of number) j 0)) i (length (sentence_of number)) h tests in
+    let plain = every_each (λ j. plain_byte (get_or (sentence_of number) j 0)) i (length (sentence_of number)) h
+    tests in
     (leb-true 32 b (and_left (leb 32 b) (leb b 126) plain), leb-true b 126 (and_right (leb 32 b) (leb b 126) plain)))
     (λ high.
     let none = ap length (past_all number (omega (arith, ltb-false number all_numbers high))) in

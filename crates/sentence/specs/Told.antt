@@ -1,5 +1,6 @@
 -- What a person may count on in the sentences of refusals. Assumes nothing.
-use Rattle.std.specs.Prelude.{◌≡◌, ℕ, ◌<◌, ◌≤◌, Bool, true, false, cond, List, [], ◌∷◌, ◌++◌, length, take, ◌==◌, slice_index, slice_index_or}
+use Rattle.std.specs.Prelude.{◌≡◌, ℕ, ◌<◌, ◌≤◌, Bool, true, false, cond, List, [], ◌∷◌, ◌++◌, length, take, ◌==◌}
+use Rattle.std.specs.Prelude.{slice_index, slice_index_or}
 use Rattle.text.specs.Same.{same_text}
 use Rattle.text.specs.Spelled.{bytes}
 use Rattle.sentence.specs.Sentence.{sentence_of, max_sentence}

@@ -5,7 +5,8 @@ use mathlib.Core.Bool.{and-false}
 use native.Mathlib.{Nat.add-zero, Numerals.add-one, Omega.arith}
 use borrow.Author.Tests.{le-leb, lt-leb, leb-true, leb-false}
 use lib.ListN.{length-append, length-drop, drop_of_length-le}
-use lib.Seq.{take-length, length-take-le, drop-cons, get_or-drop, take-append_seam, get_or-append_seam, get_or-append-add}
+use lib.Seq.{take-length, length-take-le, drop-cons, get_or-drop, take-append_seam, get_or-append_seam}
+use lib.Seq.{get_or-append-add}
 use Rattle.text.specs.Line.{end_at, first_line, onto, lines_of, bare_line}
 use Rattle.text.proofs.Digits.{either}
 

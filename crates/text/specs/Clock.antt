@@ -1,5 +1,6 @@
 -- Times of day as text, hh:mm:ss: RULES, "Files and the report program". Assumes nothing.
-use Rattle.std.specs.Prelude.{ℕ, ◌+◌, ◌*◌, ◌/◌, ◌%◌, cond, ◌&&◌, List, ◌∷◌, ◌++◌, length, take, drop, ◌==◌, nat_lt, slice_index}
+use Rattle.std.specs.Prelude.{ℕ, ◌+◌, ◌*◌, ◌/◌, ◌%◌, cond, ◌&&◌, List, ◌∷◌, ◌++◌, length, take, drop, ◌==◌, nat_lt}
+use Rattle.std.specs.Prelude.{slice_index}
 use Rattle.text.specs.Number.{digits_of, show_digits}
 use Rattle.text.specs.Spelled.{byte}
 use Rattle.text.specs.declared.number.Number.{Number}

@@ -1,6 +1,7 @@
 -- What the lines and the fields of a text are, and how a number is spelled, said of the bytes themselves: RULES,
 -- "Files and the report program". Each says all that a definition can mean. Assumes nothing.
-use Rattle.std.specs.Prelude.{ℕ, suc, ◌+◌, ◌-◌, ◌/◌, ◌%◌, ◌^◌, ◌≤◌, ◌<◌, ◌≡◌, ◌↔◌, ◌⊎◌, List, [], ◌∷◌, ◌++◌, length, get_or}
+use Rattle.std.specs.Prelude.{ℕ, suc, ◌+◌, ◌-◌, ◌/◌, ◌%◌, ◌^◌, ◌≤◌, ◌<◌, ◌≡◌, ◌↔◌, ◌⊎◌, List, [], ◌∷◌, ◌++◌, length}
+use Rattle.std.specs.Prelude.{get_or}
 use Rattle.text.specs.Line.{lines_of, bare_line}
 use Rattle.text.specs.Field.{count_of, field_of}
 use Rattle.text.specs.Number.{whole_of, level_of, thousandths_of, show_whole, show_number, show_digits, show_level}

@@ -3,7 +3,8 @@ use mathlib.Core.{Path.◌≡◌, Path.refl, Path.sym, Path.ap, Path.◌∙◌, 
 use Rattle.std.specs.Prelude.{ℕ, zero, suc, ◌+◌, ◌<◌, ◌≤◌, List, [], ◌∷◌, map}
 use native.Mathlib.Omega.{arith}
 use borrow.Author.Tests.{ltb-true, eq-eqb}
-use lib.{Dec.ltb, ListN.length, ListN.get_or, ListN.take, ListN.length-append, Seq.take-append_seam, Seq.drop-append_seam}
+use lib.{Dec.ltb, ListN.length, ListN.get_or, ListN.take, ListN.length-append, Seq.take-append_seam}
+use lib.{Seq.drop-append_seam}
 use Rattle.network.specs.declared.Frame.{Frame}
 use Rattle.network.specs.{Edges.edges, Edges.Checked, Crossed.crossed_at}
 use Rattle.network.proofs.Refusals.{both}

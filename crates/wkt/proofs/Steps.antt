@@ -1,7 +1,8 @@
 -- A step of printing: the text left is the piece and then the text left at the next cursor, which printing comes by
 -- and which is nearer to the end. Assumes nothing.
 use mathlib.Core.{Path.◌≡◌, Path.refl, Path.sym, Path.ap, Path.◌∙◌, Bool.Bool, Bool.true, Bool.false, Bool.cond}
-use Rattle.std.specs.Prelude.{ℕ, suc, ◌+◌, ◌-◌, ◌*◌, ◌<◌, ◌≤◌, eqb, ltb, List, [], ◌∷◌, ◌++◌, length, get_or, take, drop}
+use Rattle.std.specs.Prelude.{ℕ, suc, ◌+◌, ◌-◌, ◌*◌, ◌<◌, ◌≤◌, eqb, ltb, List, [], ◌∷◌, ◌++◌, length, get_or, take}
+use Rattle.std.specs.Prelude.{drop}
 use mathlib.Core.List.{append_assoc, append-nil}
 use native.Mathlib.{Nat.add-zero, Numerals.add-one, Omega.arith}
 use borrow.Author.Tests.{lt-ltb, le-ltb, ltb-true, ltb-false, ne_eqb, eqb-true, eqb-false}
@@ -111,7 +112,8 @@ module _ (levels : List ℕ) (f : Frame) (v : ℕ) (listed counts closed : List 
           there = record {
             line = omega arith;
             start =
-                rw (drop_of_length-le counts {i = c.line + 1} (omega arith)) (omega (arith, r.start, none_counted_rule));
+                rw (drop_of_length-le counts {i = c.line + 1} (omega arith))
+                (omega (arith, r.start, none_counted_rule));
             point = omega arith;
           }
 

@@ -4,7 +4,7 @@ use lib.{Dec.leb, ListN.length}
 use borrow.Author.{Tests.lt-leb, Tests.le-leb, Needs.needs}
 use Rattle.refusal.specs.Refuse.{refuse}
 use Rattle.refusal.proofs.Laws.{passed, failed}
-use Rattle.book_rules.specs.Columns.{book_now}
+use Rattle.book_rules.specs.Columns.{book_lent}
 use Rattle.journal.specs.Journal.{replay_refusal, calls_of}
 use Rattle.journal.proofs.replay_refusal.Statement.{statement}
 use Rattle.journal.proofs.replay_refusal.Tie as tie
@@ -22,7 +22,7 @@ abbrev start : tie.Else2 → tie.Start
 start c = search
 
 past : (c : tie.Else2) → let a = (start c).args in
-    replay_refusal a.points (book_now a.ids a.groups a.marks a.counts a.levels)
+    replay_refusal a.points (book_lent a.ids.now a.groups.now a.marks.now a.counts.now a.levels.now)
     a.journal.now a.room
     ≡ refuse 14 (leb (length (calls_of a.journal.now)) a.room) 0
 unfolding replay_refusal

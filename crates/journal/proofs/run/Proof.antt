@@ -5,7 +5,7 @@ use mathlib.Core.Path.{refl}
 use native.Mathlib.Omega.{arith}
 use lib.ListN.{length-set}
 use borrow.Author.Rules.{rules}
-use Rattle.book_rules.specs.Columns.{Book, book_of, book_now}
+use Rattle.book_rules.specs.Columns.{Book, book_of, book_lent}
 use Rattle.journal.specs.Journal.{calls_of}
 use Rattle.journal.proofs.Reading.{Step, step_laid}
 use Rattle.journal.proofs.Replaying.{Replaying, replay_starts, replay_more, replay_ends, next, all, length_all}
@@ -49,7 +49,7 @@ step c =
 
 -- there is an answer's room for it
 abbrev book : tie.Start invariant-loop decreases-loop → Book
-book s = book_now s.args.ids s.args.groups s.args.marks s.args.counts s.args.levels
+book s = book_lent s.args.ids.now s.args.groups.now s.args.marks.now s.args.counts.now s.args.levels.now
 
 space : (c : tie.After-width-of invariant-loop decreases-loop)
     → length (all (start c).args.points (book (start c)) (start c).args.journal.now) ≤ length

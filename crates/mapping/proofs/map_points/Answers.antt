@@ -24,19 +24,22 @@ pub returns-then-edges-places : goal.returns-then-edges-places
 returns-then-edges-places c =
     let a = c.args in
     let e = c.fill_points.ensures in
-    accepted a.levels.now a.frame a.v a.edges.now a.which.now a.places.now (right (goal.at.returns-then-edges-places c).Then-why-eq0)
+    accepted a.levels.now a.frame a.v a.edges.now a.which.now a.places.now
+    (right (goal.at.returns-then-edges-places c).Then-why-eq0)
     c.if-edges-which.true (omega (arith, c.if-edges-places.true)) e.0 e.1
 
 pub returns-else-edges-places : goal.returns-else-edges-places
 returns-else-edges-places c =
     let a = c.args in
-    short_places a.levels.now a.frame a.v a.edges.now a.which.now a.places.now (right (goal.at.returns-else-edges-places c).Then-why-eq0)
+    short_places a.levels.now a.frame a.v a.edges.now a.which.now a.places.now
+    (right (goal.at.returns-else-edges-places c).Then-why-eq0)
     (omega (arith, c.if-edges-places.false))
 
 pub returns-else-edges-which : goal.returns-else-edges-which
 returns-else-edges-which c =
     let a = c.args in
-    short_which a.levels.now a.frame a.v a.edges.now a.which.now a.places.now (right (goal.at.returns-else-edges-which c).Then-why-eq0)
+    short_which a.levels.now a.frame a.v a.edges.now a.which.now a.places.now
+    (right (goal.at.returns-else-edges-which c).Then-why-eq0)
     c.if-edges-which.false
 
 pub returns : goal.returns

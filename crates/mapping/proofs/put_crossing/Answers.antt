@@ -30,12 +30,14 @@ returns-then-fraction-ge1 c =
 pub returns-else-fraction-ge1 : goal.returns-else-fraction-ge1
 returns-else-fraction-ge1 c =
     let a = c.args in
-    short_second c.if-fraction-ge1.false (then_short a.levels.now a.frame a.v (right (goal.at.returns-else-fraction-ge1 c).Then-why-eq0))
+    short_second c.if-fraction-ge1.false (then_short a.levels.now a.frame a.v
+    (right (goal.at.returns-else-fraction-ge1 c).Then-why-eq0))
 
 pub returns-else-which-ge1 : goal.returns-else-which-ge1
 returns-else-which-ge1 c =
     let a = c.args in
-    short_first c.if-which-ge1.false (then_short a.levels.now a.frame a.v (right (goal.at.returns-else-which-ge1 c).Then-why-eq0))
+    short_first c.if-which-ge1.false (then_short a.levels.now a.frame a.v
+    (right (goal.at.returns-else-which-ge1 c).Then-why-eq0))
 
 pub returns : goal.returns
 returns c = fault_two (sym c.contour_refusal-why.ensures) c.if-why-eq0.false

@@ -1,7 +1,7 @@
 // A register's bytes as they come: its lines, one after another, into the book. What is read of all pieces is what is
 // read of the whole.
 ghost use Rattle.std.specs.Prelude.{◌≡◌, ◌+◌, ◌^◌, ◌<◌, ◌≤◌, true, length, take};
-ghost use Rattle.book_rules.specs.Columns.{book_now, book_before, book_after, sound};
+ghost use Rattle.book_rules.specs.Columns.{book_lent, sound};
 ghost use Rattle.stream.specs.Reading.{reading_at, Unended};
 ghost use Rattle.stream.specs.InnerTaken.{LineTaken, LinesTaken, LastTaken, PieceTaken};
 ghost use Rattle.report_steps.specs.Stream.{longest_row};
@@ -45,9 +45,9 @@ pub fn take_line(
     line: &[u8],
     number: u64,
 ) -> u32
-    requires { sound points (book_now ids groups marks counts levels) ≡ true }
-    ensures { LineTaken (register_step points) number (book_before ids groups marks counts levels)
-        line.now result (book_after ids groups marks counts levels) }
+    requires { sound points (book_lent ids.old groups.old marks.old counts.old levels.old) ≡ true }
+    ensures { LineTaken (register_step points) number (book_lent ids.old groups.old marks.old counts.old levels.old)
+        line.now result (book_lent ids.new groups.new marks.new counts.new levels.new) }
 {
     if number == 1 {
         return header_refusal(line, points);
@@ -66,11 +66,11 @@ pub fn take_lines(
     bytes: &[u8],
     line: u64,
 ) -> Feed
-    requires levels_value { sound points (book_now ids groups marks counts levels) ≡ true }
+    requires levels_value { sound points (book_lent ids.old groups.old marks.old counts.old levels.old) ≡ true }
     requires bytes_bound { line + length bytes.now < 2 ^ 64 }
-    ensures { LinesTaken (register_step points) (reading_at 0 line (book_before ids groups marks counts levels))
-        bytes.now result.at (reading_at result.refusal result.line (book_after ids groups marks counts levels))
-        × (sound points (book_after ids groups marks counts levels) ≡ true) }
+    ensures { LinesTaken (register_step points) (reading_at 0 line (book_lent ids.old groups.old marks.old counts.old levels.old))
+        bytes.now result.at (reading_at result.refusal result.line (book_lent ids.new groups.new marks.new counts.new levels.new))
+        × (sound points (book_lent ids.new groups.new marks.new counts.new levels.new) ≡ true) }
 {
     let mut at = 0;
     let mut number = line;
@@ -115,13 +115,13 @@ pub fn take_last(
     bytes: &[u8],
     line: u64,
 ) -> Feed
-    requires levels_value { sound points (book_now ids groups marks counts levels) ≡ true }
+    requires levels_value { sound points (book_lent ids.old groups.old marks.old counts.old levels.old) ≡ true }
     requires unended { Unended bytes.now }
     requires le_line { 1 ≤ line }
     requires bytes_bound { line + length bytes.now < 2 ^ 64 }
-    ensures { LastTaken (register_step points) (reading_at 0 line (book_before ids groups marks counts levels))
-        bytes.now (reading_at result.refusal result.line (book_after ids groups marks counts levels))
-        × (sound points (book_after ids groups marks counts levels) ≡ true) }
+    ensures { LastTaken (register_step points) (reading_at 0 line (book_lent ids.old groups.old marks.old counts.old levels.old))
+        bytes.now (reading_at result.refusal result.line (book_lent ids.new groups.new marks.new counts.new levels.new))
+        × (sound points (book_lent ids.new groups.new marks.new counts.new levels.new) ≡ true) }
 {
     if bytes.len() == 0 {
         if line == 1 {
@@ -164,13 +164,13 @@ pub fn take_piece(
     len: usize,
     line: u64,
 ) -> Piece
-    requires levels_value { sound points (book_now ids groups marks counts levels) ≡ true }
+    requires levels_value { sound points (book_lent ids.old groups.old marks.old counts.old levels.old) ≡ true }
     requires len_in_bounds { len ≤ length bytes.old }
     requires len_bound { line + len < 2 ^ 64 }
     ensures { PieceTaken (register_step points) longest_row
-        (reading_at 0 line (book_before ids groups marks counts levels)) (take len bytes.old)
-        (reading_at result.refusal result.line (book_after ids groups marks counts levels))
-        (take result.left bytes.new) × (sound points (book_after ids groups marks counts levels) ≡ true) }
+        (reading_at 0 line (book_lent ids.old groups.old marks.old counts.old levels.old)) (take len bytes.old)
+        (reading_at result.refusal result.line (book_lent ids.new groups.new marks.new counts.new levels.new))
+        (take result.left bytes.new) × (sound points (book_lent ids.new groups.new marks.new counts.new levels.new) ≡ true) }
 {
     let feed = take_lines(
         ids,

@@ -33,7 +33,8 @@ returns c =
     ∙ ap (λ k. front (k ∷ []) a.size.now) n)
 
 pub returns-then-text-n : goal.returns-then-text-n
-returns-then-text-n c = short_first (omega (arith, size_is (goal.at.returns-then-text-n c).After-put_sentence-n, c.if-text-n.true)) refl
+returns-then-text-n c = short_first (omega
+    (arith, size_is (goal.at.returns-then-text-n c).After-put_sentence-n, c.if-text-n.true)) refl
 
 pub returns-then-size-lt1 : goal.returns-then-size-lt1
 returns-then-size-lt1 c = short_second c.if-size-lt1.true refl

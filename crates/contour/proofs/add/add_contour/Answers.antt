@@ -17,21 +17,25 @@ first s = desk s.args.list.now s.args.edges.now s.args.counts.now s.args.closed.
 
 pub overflow_cast-counts : goal.overflow_cast-counts
 overflow_cast-counts c =
-    let e = end_fits (pictured (goal.at.overflow_cast-counts c).Start) c.args.closes (first (goal.at.overflow_cast-counts c).Start) _ _ _ _ c.requires.1.1.1 c.requires.1.0
+    let e = end_fits (pictured (goal.at.overflow_cast-counts c).Start) c.args.closes
+    (first (goal.at.overflow_cast-counts c).Start) _ _ _ _ c.requires.1.1.1 c.requires.1.0
     c.trace-end.ensures in
     omega (arith, e.0, e.1, edges_le c.args.nx c.args.ny c.requires.0.sides.narrow c.requires.0.sides.low)
 
 pub bounds-counts-made : goal.bounds-counts-made
 bounds-counts-made c =
-    (count_fits (pictured (goal.at.bounds-counts-made c).Start) c.args.closes (first (goal.at.bounds-counts-made c).Start) _ _ _ _ c.requires.1.1.1 c.requires.1.0
+    (count_fits (pictured (goal.at.bounds-counts-made c).Start) c.args.closes
+    (first (goal.at.bounds-counts-made c).Start) _ _ _ _ c.requires.1.1.1 c.requires.1.0
     c.trace-end.ensures).0
 
 pub bounds-closed-made : goal.bounds-closed-made
 bounds-closed-made c =
-    (count_fits (pictured (goal.at.bounds-closed-made c).Start) c.args.closes (first (goal.at.bounds-closed-made c).Start) _ _ _ _ c.requires.1.1.1 c.requires.1.0
+    (count_fits (pictured (goal.at.bounds-closed-made c).Start) c.args.closes
+    (first (goal.at.bounds-closed-made c).Start) _ _ _ _ c.requires.1.1.1 c.requires.1.0
     c.trace-end.ensures).1
 
 pub returns : goal.returns
 returns c =
-    rw c.closed_mark.ensures (grown (pictured (goal.at.returns c).Start) c.args.closes (first (goal.at.returns c).Start) _ _ _ _ c.requires.1.1.1
+    rw c.closed_mark.ensures (grown (pictured (goal.at.returns c).Start) c.args.closes
+    (first (goal.at.returns c).Start) _ _ _ _ c.requires.1.1.1
     c.requires.1.0 c.trace-end.ensures)

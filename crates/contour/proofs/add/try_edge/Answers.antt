@@ -24,17 +24,23 @@ add_contour-requires c =
       (
         rw t.0 (both (c.args.closes || enters_at (pictured (goal.at.add_contour-requires c).Start) c.args.n)
             (waits c.args.list.now c.args.n) starts).1,
-        (t.1 ∙ ap (λ n. ahead_of (pictured (goal.at.add_contour-requires c).Start) (edge_of (pictured (goal.at.add_contour-requires c).Start) n)) (sym t.0), c.requires.1.1),
+        (
+          t.1 ∙ ap (λ n. ahead_of (pictured (goal.at.add_contour-requires c).Start)
+              (edge_of (pictured (goal.at.add_contour-requires c).Start) n)) (sym t.0),
+          c.requires.1.1,
+        ),
       ),
     )
 
 pub returns-then-starts_here : goal.returns-then-starts_here
 returns-then-starts_here c =
-    try_starts (pictured (goal.at.returns-then-starts_here c).Start) c.args.closes c.args.n (first (goal.at.returns-then-starts_here c).Start) _
+    try_starts (pictured (goal.at.returns-then-starts_here c).Start) c.args.closes c.args.n
+    (first (goal.at.returns-then-starts_here c).Start) _
     (sym c.starts_here.ensures ∙ c.if-starts_here.true)
     (rw c.stand_at-from.ensures.0 at c.add_contour.ensures)
 
 pub returns : goal.returns
 returns c =
-    try_passes (pictured (goal.at.returns c).Start) c.args.closes c.args.n (first (goal.at.returns c).Start) c.requires.1.1
+    try_passes (pictured (goal.at.returns c).Start) c.args.closes c.args.n (first (goal.at.returns c).Start)
+    c.requires.1.1
     (sym c.starts_here.ensures ∙ c.if-starts_here.false)

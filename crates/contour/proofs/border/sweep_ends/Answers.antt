@@ -19,8 +19,17 @@ is-edge s col h = number_lt s.args.nx s.args.ny s.requires.0.sides.wide (Vertica
     (s.requires.1.0, h)
 
 pub try_edge-first-requires : goal.try_edge-first-requires
-try_edge-first-requires c =
-    (c.requires.0, (omega (arith, is-edge (goal.at.try_edge-first-requires c).Start 0 (omega (arith, c.requires.0.sides.wide))), c.requires.1.1))
+try_edge-first-requires c = (
+  c.requires.0,
+  (
+    omega (
+      arith,
+      is-edge (goal.at.try_edge-first-requires c).Start 0
+          (omega (arith, c.requires.0.sides.wide)),
+    ),
+    c.requires.1.1,
+  ),
+)
 
 pub overflow_add-west-2 : goal.overflow_add-west-2
 overflow_add-west-2 c =

@@ -10,10 +10,13 @@ use Rattle.contour.proofs.border.sweep_sides.Given as goal
 
 abbrev pub invariant-loop-row : goal.invariant-loop-row
 invariant-loop-row l =
-    Sweeps (picture l.levels l.nx l.ny l.v) false (number_of l.nx l.ny (Vertical 0 0)) (number_of l.nx l.ny (Vertical l.row 0))
-    (desk l.initial.list l.initial.edges l.initial.counts l.initial.closed l.initial.so_far.edges l.initial.so_far.contours)
+    Sweeps (picture l.levels l.nx l.ny l.v) false (number_of l.nx l.ny (Vertical 0 0))
+    (number_of l.nx l.ny (Vertical l.row 0))
+    (desk l.initial.list l.initial.edges l.initial.counts l.initial.closed l.initial.so_far.edges
+    l.initial.so_far.contours)
     (desk l.list l.edges l.counts l.closed l.so_far.edges l.so_far.contours)
-    × (Same (desk l.initial.list l.initial.edges l.initial.counts l.initial.closed l.initial.so_far.edges l.initial.so_far.contours)
+    × (Same (desk l.initial.list l.initial.edges l.initial.counts l.initial.closed l.initial.so_far.edges
+    l.initial.so_far.contours)
     (desk l.list l.edges l.counts l.closed l.so_far.edges l.so_far.contours) × (l.row < l.ny))
 
 abbrev pub decreases-loop-row : goal.decreases-loop-row

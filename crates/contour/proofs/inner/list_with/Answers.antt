@@ -19,11 +19,18 @@ fits c =
     )
 
 pub list_afresh-requires : goal.list_afresh-requires
-list_afresh-requires c =
-    (c.requires.0, (length-take-le _ _ (fits (goal.at.list_afresh-requires c).After-edge_count-total) ∙ c.edge_count-total.ensures, c.requires.1.1))
+list_afresh-requires c = (
+  c.requires.0,
+  (
+    length-take-le _ _ (fits (goal.at.list_afresh-requires c).After-edge_count-total)
+        ∙ c.edge_count-total.ensures,
+    c.requires.1.1,
+  ),
+)
 
 pub slice_bounds-list_afresh-end : goal.slice_bounds-list_afresh-end
 slice_bounds-list_afresh-end c = fits c
 
 pub slice_bounds-list_afresh-end-2 : goal.slice_bounds-list_afresh-end-2
-slice_bounds-list_afresh-end-2 c = sym (length-take-le _ _ (fits (goal.at.slice_bounds-list_afresh-end-2 c).After-edge_count-total))
+slice_bounds-list_afresh-end-2 c = sym (length-take-le _ _
+    (fits (goal.at.slice_bounds-list_afresh-end-2 c).After-edge_count-total))

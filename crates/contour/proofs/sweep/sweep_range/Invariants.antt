@@ -8,9 +8,11 @@ use Rattle.contour.proofs.sweep.sweep_range.Given as goal
 
 abbrev pub invariant-loop-n : goal.invariant-loop-n
 invariant-loop-n l =
-    Sweeps (picture l.levels l.nx l.ny l.v) l.closes l.from l.n (desk l.initial.list l.initial.edges l.initial.counts l.initial.closed l.initial.so_far.edges
+    Sweeps (picture l.levels l.nx l.ny l.v) l.closes l.from l.n
+    (desk l.initial.list l.initial.edges l.initial.counts l.initial.closed l.initial.so_far.edges
     l.initial.so_far.contours) (desk l.list l.edges l.counts l.closed l.so_far.edges l.so_far.contours)
-    × (Same (desk l.initial.list l.initial.edges l.initial.counts l.initial.closed l.initial.so_far.edges l.initial.so_far.contours)
+    × (Same (desk l.initial.list l.initial.edges l.initial.counts l.initial.closed l.initial.so_far.edges
+    l.initial.so_far.contours)
     (desk l.list l.edges l.counts l.closed l.so_far.edges l.so_far.contours) × ((l.from ≤ l.n) × (l.n ≤ l.to)))
 
 abbrev pub decreases-loop-n : goal.decreases-loop-n

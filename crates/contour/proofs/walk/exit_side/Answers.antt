@@ -31,10 +31,12 @@ returns-then-right c =
     (sym c.cuts_out.ensures ∙ c.if-cuts_out.false)
 
 pub returns-then-left : goal.returns-then-left
-returns-then-left c = both_in (found (goal.at.returns-then-left c).After-corner_in-left) _ c.if-right.true c.if-left.true
+returns-then-left c = both_in (found (goal.at.returns-then-left c).After-corner_in-left) _ c.if-right.true
+    c.if-left.true
 
 pub returns-then-left-2 : goal.returns-then-left-2
-returns-then-left-2 c = left_in (found (goal.at.returns-then-left-2 c).After-corner_in-left) _ c.if-right.false c.if-left-2.true
+returns-then-left-2 c = left_in (found (goal.at.returns-then-left-2 c).After-corner_in-left) _ c.if-right.false
+    c.if-left-2.true
 
 pub returns : goal.returns
 returns c = none_in (found (goal.at.returns c).After-corner_in-left) _ c.if-right.false c.if-left-2.false

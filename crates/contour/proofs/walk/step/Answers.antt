@@ -43,13 +43,16 @@ returns-in-Square c =
       c.number_of-edge.ensures
           ∙ ap (number_of c.args.nx c.args.ny) (c.side_edge.ensures
           ∙ ap (side_edge _ _) e) ∙ ap (step_edge (pictured (goal.at.returns-in-Square c).Start)) (sym h),
-      c.beyond_side.ensures ∙ ap (beyond c.args.nx c.args.ny _ _) e ∙ ap (step_ahead (pictured (goal.at.returns-in-Square c).Start)) (sym h),
+      c.beyond_side.ensures ∙ ap (beyond c.args.nx c.args.ny _ _) e
+          ∙ ap (step_ahead (pictured (goal.at.returns-in-Square c).Start)) (sym h),
     )
 
 pub returns-in-Outside : goal.returns-in-Outside
 returns-in-Outside c =
-    let h = c.in-Outside.is in
-    (c.edge_count.ensures ∙ ap (step_edge (pictured (goal.at.returns-in-Outside c).Start)) (sym h), ap (step_ahead (pictured (goal.at.returns-in-Outside c).Start)) (sym h))
+    let h = c.in-Outside.is in (
+      c.edge_count.ensures ∙ ap (step_edge (pictured (goal.at.returns-in-Outside c).Start)) (sym h),
+      ap (step_ahead (pictured (goal.at.returns-in-Outside c).Start)) (sym h),
+    )
 
 pub exit_side-exit-requires : goal.exit_side-exit-requires
 exit_side-exit-requires c = (c.requires.0, within c)

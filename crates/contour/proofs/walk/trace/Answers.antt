@@ -61,7 +61,8 @@ loop-here-smaller c = omega (
 pub loop-here-preserved : goal.loop-here-preserved
 loop-here-preserved c =
     goes_on _ _ _ _ _ _ _ _ _ _ c.loop-here.invariant c.requires.0.sides.wide
-    (below (goal.at.loop-here-preserved c).In-loop-here) (waits-here (goal.at.loop-here-preserved c).In-loop-here) _ _ c.step-here.ensures.0 c.step-here.ensures.1
+    (below (goal.at.loop-here-preserved c).In-loop-here) (waits-here (goal.at.loop-here-preserved c).In-loop-here) _ _
+    c.step-here.ensures.0 c.step-here.ensures.1
 
 pub returns : goal.returns
 returns c =

@@ -6,7 +6,8 @@ use Rattle.contour.proofs.walk.trace.Given as goal
 
 abbrev pub invariant-loop-here : goal.invariant-loop-here
 invariant-loop-here l =
-    Going (picture l.levels l.nx l.ny l.v) l.initial.list l.initial.edges l.from l.initial.here.edge l.list l.edges l.here.edge l.here.ahead l.at
+    Going (picture l.levels l.nx l.ny l.v) l.initial.list l.initial.edges l.from l.initial.here.edge l.list l.edges
+    l.here.edge l.here.ahead l.at
 
 abbrev pub decreases-loop-here : goal.decreases-loop-here
 decreases-loop-here l = waiting l.list

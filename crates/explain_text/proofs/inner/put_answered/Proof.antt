@@ -3,7 +3,7 @@
 use mathlib.Core.Path.{ap}
 use native.Mathlib.Omega.{arith}
 use Rattle.text.specs.Sheet.{ended}
-use Rattle.book_rules.specs.Columns.{Book, book_now}
+use Rattle.book_rules.specs.Columns.{Book, book_lent}
 use Rattle.text.proofs.Within.{within_is}
 use Rattle.explain_text.proofs.Told.{answer_only, account_long, book_lines, book_adds_up}
 use borrow.Author.Rules.{rules}
@@ -11,7 +11,7 @@ use Rattle.explain_text.proofs.inner.put_answered.Statement.{statement}
 use Rattle.explain_text.proofs.inner.put_answered.Tie as tie
 
 abbrev book : tie.Start → Book
-book s = book_now s.args.ids s.args.groups s.args.marks s.args.counts s.args.levels
+book s = book_lent s.args.ids.now s.args.groups.now s.args.marks.now s.args.counts.now s.args.levels.now
 
 put-point-requires : tie.Need-put-point-requires
 put-point-requires c κs =

@@ -4,7 +4,8 @@ use native.Mathlib.Omega.{arith}
 use Rattle.grid.specs.File.{ncols, nrows, xllcenter, yllcenter, cellsize, first_off, frame_of}
 use Rattle.grid.proofs.HeadLaws.{KeyStep, seen_none, key_step, key_stop}
 use Rattle.grid.proofs.head.read_head.Goals as goal
-use Rattle.grid.proofs.head.read_head.Goals.{In-Got, In-Got-key_line, In-Got-key_line-2, In-Got-key_line-3, In-Got-key_line-4}
+use Rattle.grid.proofs.head.read_head.Goals.{In-Got, In-Got-key_line, In-Got-key_line-2, In-Got-key_line-3}
+use Rattle.grid.proofs.head.read_head.Goals.{In-Got-key_line-4}
 
 -- header line after header line, each seen from behind the last
 first : (c : In-Got) → KeyStep c.args.s.now ncols 0 c.in-Got.columns c.in-Got.second
@@ -41,23 +42,48 @@ pub returns-in_default : goal.returns-in_default
 returns-in_default c = (key_stop _ _ ncols 0 (seen_none _) c.key_line.ensures refl c.in_default.is, omega arith)
 
 pub returns-in_default-key_line : goal.returns-in_default-key_line
-returns-in_default-key_line c = (key_stop _ _ nrows 1 (first (goal.at.returns-in_default-key_line c).In-Got).seen c.key_line-2.ensures refl c.in_default-key_line.is, omega arith)
+returns-in_default-key_line c = (
+  key_stop _ _ nrows 1 (first (goal.at.returns-in_default-key_line c).In-Got).seen
+      c.key_line-2.ensures refl c.in_default-key_line.is,
+  omega arith,
+)
 
 pub returns-in_default-key_line-2 : goal.returns-in_default-key_line-2
-returns-in_default-key_line-2 c = (key_stop _ _ xllcenter 2 (second (goal.at.returns-in_default-key_line-2 c).In-Got-key_line).seen c.key_line-3.ensures refl c.in_default-key_line-2.is, omega arith)
+returns-in_default-key_line-2 c = (
+  key_stop _ _ xllcenter 2
+      (second (goal.at.returns-in_default-key_line-2 c).In-Got-key_line).seen c.key_line-3.ensures refl
+      c.in_default-key_line-2.is,
+  omega arith,
+)
 
 pub returns-in_default-key_line-3 : goal.returns-in_default-key_line-3
-returns-in_default-key_line-3 c = (key_stop _ _ yllcenter 3 (third (goal.at.returns-in_default-key_line-3 c).In-Got-key_line-2).seen c.key_line-4.ensures refl c.in_default-key_line-3.is, omega arith)
+returns-in_default-key_line-3 c = (
+  key_stop _ _ yllcenter 3
+      (third (goal.at.returns-in_default-key_line-3 c).In-Got-key_line-2).seen c.key_line-4.ensures refl
+      c.in_default-key_line-3.is,
+  omega arith,
+)
 
 pub returns-in_default-key_line-4 : goal.returns-in_default-key_line-4
-returns-in_default-key_line-4 c = (key_stop _ _ cellsize 4 (fourth (goal.at.returns-in_default-key_line-4 c).In-Got-key_line-3).seen c.key_line-5.ensures refl c.in_default-key_line-4.is, omega arith)
+returns-in_default-key_line-4 c = (
+  key_stop _ _ cellsize 4
+      (fourth (goal.at.returns-in_default-key_line-4 c).In-Got-key_line-3).seen c.key_line-5.ensures refl
+      c.in_default-key_line-4.is,
+  omega arith,
+)
 
 pub returns : goal.returns
 unfolding first_off frame_of
 returns c =
     let all = goal.at.returns c in (
       (fifth c).seen.on,
-      rw ((first all.In-Got).number, (second all.In-Got-key_line).number, (third all.In-Got-key_line-2).number, (fourth all.In-Got-key_line-3).number, (fifth c).number),
+      rw (
+        (first all.In-Got).number,
+        (second all.In-Got-key_line).number,
+        (third all.In-Got-key_line-2).number,
+        (fourth all.In-Got-key_line-3).number,
+        (fifth c).number,
+      ),
       (fifth c).seen.inside,
       (fifth c).seen.rest,
     )

@@ -20,7 +20,8 @@ overflow_add-result c =
 pub returns-in_default : goal.returns-in_default
 returns-in_default c =
     let i = c.loop-at.invariant in (
-      rows_off_rule i c.loop-at-test.true (sym (judged (goal.at.returns-in_default c).After-judge_row) ∙ c.in_default.is),
+      rows_off_rule i c.loop-at-test.true
+          (sym (judged (goal.at.returns-in_default c).After-judge_row) ∙ c.in_default.is),
       omega (arith, c.requires.1),
     )
 
@@ -45,7 +46,8 @@ loop-at-preserved c =
     let l = c.line_at-line in
     let h = c.loop-at-test.true in
     rw (c.both-fits.ensures, c.both-sound.ensures)
-    (rows_next i h l.result l.ensures c.in-Values.values c.in-Values.fine (sym (judged (goal.at.loop-at-preserved c).After-judge_row) ∙ c.in-Values.is))
+    (rows_next i h l.result l.ensures c.in-Values.values c.in-Values.fine
+    (sym (judged (goal.at.loop-at-preserved c).After-judge_row) ∙ c.in-Values.is))
 
 pub returns : goal.returns
 returns c =

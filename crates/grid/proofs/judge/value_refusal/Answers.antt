@@ -12,12 +12,14 @@ other c = sym c.same_text.ensures ∙ c.if-same_text.false
 
 pub returns-then-v-le-MAX_NETWORK_LEVEL : goal.returns-then-v-le-MAX_NETWORK_LEVEL
 returns-then-v-le-MAX_NETWORK_LEVEL c =
-    sym (level_here _ _ _ (other (goal.at.returns-then-v-le-MAX_NETWORK_LEVEL c).Else-same_text) (sym c.thousandths.ensures ∙ c.in-Got.is)
+    sym (level_here _ _ _ (other (goal.at.returns-then-v-le-MAX_NETWORK_LEVEL c).Else-same_text)
+    (sym c.thousandths.ensures ∙ c.in-Got.is)
     c.if-v-le-MAX_NETWORK_LEVEL.true)
 
 pub returns-else-v-le-MAX_NETWORK_LEVEL : goal.returns-else-v-le-MAX_NETWORK_LEVEL
 returns-else-v-le-MAX_NETWORK_LEVEL c =
-    sym (high_here _ _ _ (other (goal.at.returns-else-v-le-MAX_NETWORK_LEVEL c).Else-same_text) (sym c.thousandths.ensures ∙ c.in-Got.is)
+    sym (high_here _ _ _ (other (goal.at.returns-else-v-le-MAX_NETWORK_LEVEL c).Else-same_text)
+    (sym c.thousandths.ensures ∙ c.in-Got.is)
     c.if-v-le-MAX_NETWORK_LEVEL.false)
 
 pub returns-in-Off : goal.returns-in-Off

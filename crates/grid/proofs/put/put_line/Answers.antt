@@ -20,8 +20,13 @@ room c = omega (
 )
 
 pub put_whole-end-requires : goal.put_whole-end-requires
-put_whole-end-requires c =
-    (omega (arith, c.requires.0), omega (arith, room_after _ (room (goal.at.put_whole-end-requires c).Start) c.put_text-number.ensures))
+put_whole-end-requires c = (
+  omega (arith, c.requires.0),
+  omega (
+    arith,
+    room_after _ (room (goal.at.put_whole-end-requires c).Start) c.put_text-number.ensures,
+  ),
+)
 
 pub put_end-requires : goal.put_end-requires
 put_end-requires c =

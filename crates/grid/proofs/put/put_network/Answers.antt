@@ -15,14 +15,20 @@ room : (c : Start) → let f = c.args.frame in
 room c = omega (arith, c.requires.1, parts_length c.args.levels.now c.args.frame)
 
 pub put_place-rows-requires : goal.put_place-rows-requires
-put_place-rows-requires c =
-    (near _ _ c.requires.0, omega (arith, room_after _ (room (goal.at.put_place-rows-requires c).Start) c.put_sides-place.ensures))
+put_place-rows-requires c = (
+  near _ _ c.requires.0,
+  omega (
+    arith,
+    room_after _ (room (goal.at.put_place-rows-requires c).Start) c.put_sides-place.ensures,
+  ),
+)
 
 pub put_rows-requires : goal.put_rows-requires
 put_rows-requires c = (
   c.requires.0.sized,
   c.requires.0.quiet,
-  room_after _ (room_after _ (room (goal.at.put_rows-requires c).Start) c.put_sides-place.ensures) c.put_place-rows.ensures,
+  room_after _ (room_after _ (room (goal.at.put_rows-requires c).Start) c.put_sides-place.ensures)
+      c.put_place-rows.ensures,
 )
 
 pub returns : goal.returns

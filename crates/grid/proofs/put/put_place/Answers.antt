@@ -27,13 +27,19 @@ put_line-fourth-requires c = (
 )
 
 pub put_line-fifth-requires : goal.put_line-fifth-requires
-put_line-fifth-requires c =
-    (c.requires.0.south_most, omega (arith, room_after _ (room (goal.at.put_line-fifth-requires c).Start) c.put_line-fourth.ensures))
+put_line-fifth-requires c = (
+  c.requires.0.south_most,
+  omega (
+    arith,
+    room_after _ (room (goal.at.put_line-fifth-requires c).Start) c.put_line-fourth.ensures,
+  ),
+)
 
 pub put_line-requires : goal.put_line-requires
 put_line-requires c = (
   c.requires.0.spacing_most,
-  room_after _ (room_after _ (room (goal.at.put_line-requires c).Start) c.put_line-fourth.ensures) c.put_line-fifth.ensures,
+  room_after _ (room_after _ (room (goal.at.put_line-requires c).Start) c.put_line-fourth.ensures)
+      c.put_line-fifth.ensures,
 )
 
 pub returns : goal.returns

@@ -39,7 +39,8 @@ put_row-at-requires c =
     (omega (arith, inside (goal.at.put_row-at-requires c).In-loop-left, length-drop start levels)) in
     let line = ended (row_line (row_at columns levels (l.left - 1))) in (
       omega (arith, ap length e, n, c.requires.0.sides.wide),
-      subst Quiet (sym e) (quiet_part levels start columns c.requires.1 (inside (goal.at.put_row-at-requires c).In-loop-left)),
+      subst Quiet (sym e) (quiet_part levels start columns c.requires.1
+          (inside (goal.at.put_row-at-requires c).In-loop-left)),
       omega (
         arith,
         ap (λ t. length (ended (row_line t))) e,
@@ -58,7 +59,8 @@ loop-left-preserved c =
     let wrote = subst (λ t. Wrote l.out l.at (ended (row_line t)) p.new.out p.result)
     (part_row levels start columns) p.ensures in (
       writing_more (ended (row_line (row_at columns levels (l.left - 1))))
-          (text_of (row_lines columns levels (l.left - 1))) (next (goal.at.loop-left-preserved c).In-loop-left) c.requires.2 wrote,
+          (text_of (row_lines columns levels (l.left - 1))) (next (goal.at.loop-left-preserved c).In-loop-left)
+          c.requires.2 wrote,
       omega (arith, l.invariant.1),
       p.auto.out ∙ l.invariant.2,
     )
@@ -81,7 +83,11 @@ pub overflow_add-start : goal.overflow_add-start
 overflow_add-start c = omega (arith, inside (goal.at.overflow_add-start c).In-loop-left, c.well_formed.1.1.0.0)
 
 pub offset_bounds-levels-start : goal.offset_bounds-levels-start
-offset_bounds-levels-start c = omega (arith, inside (goal.at.offset_bounds-levels-start c).In-loop-left, c.well_formed.1.1.0.1)
+offset_bounds-levels-start c = omega (
+  arith,
+  inside (goal.at.offset_bounds-levels-start c).In-loop-left,
+  c.well_formed.1.1.0.1,
+)
 
 pub slice_bounds-put_row-count : goal.slice_bounds-put_row-count
 slice_bounds-put_row-count c = omega arith

@@ -8,7 +8,8 @@ use Rattle.grid.proofs.put.put_rows.Given as goal
 
 abbrev pub invariant-loop-left : goal.invariant-loop-left
 invariant-loop-left l =
-    Writing l.initial.out l.initial.at (text_of (row_lines l.columns l.levels l.rows)) l.out l.at (text_of (row_lines l.columns l.levels l.left))
+    Writing l.initial.out l.initial.at (text_of (row_lines l.columns l.levels l.rows)) l.out l.at
+    (text_of (row_lines l.columns l.levels l.left))
     × (l.left ≤ l.rows) × (length l.out ≡ length l.initial.out)
 
 abbrev pub decreases-loop-left : goal.decreases-loop-left

@@ -63,7 +63,8 @@ put_spaced-at-requires c =
       c.requires.1 l.i,
       omega (
         arith,
-        (writing_room (next (goal.at.put_spaced-at-requires c).In-loop-i) (started (goal.at.put_spaced-at-requires c).After-slice_known-2-1)).0,
+        (writing_room (next (goal.at.put_spaced-at-requires c).In-loop-i)
+            (started (goal.at.put_spaced-at-requires c).After-slice_known-2-1)).0,
         length-append piece (spaced_of (drop (l.i + 1) c.args.row.now)),
       ),
     )
@@ -73,7 +74,8 @@ loop-i-preserved c =
     let a = c.args in
     let l = c.loop-i in
     let piece : List ℕ = 32 ∷ show_thousandths (get_or a.row.now l.i 0) in (
-      writing_more piece (spaced_of (drop (l.i + 1) a.row.now)) (next (goal.at.loop-i-preserved c).In-loop-i) (started (goal.at.loop-i-preserved c).After-slice_known-2-1)
+      writing_more piece (spaced_of (drop (l.i + 1) a.row.now)) (next (goal.at.loop-i-preserved c).In-loop-i)
+          (started (goal.at.loop-i-preserved c).After-slice_known-2-1)
           c.put_spaced-at.ensures,
       omega arith,
       omega (arith, c.loop-i-test.true),

@@ -8,7 +8,8 @@ use Rattle.grid.proofs.put.put_values.Given as goal
 
 abbrev pub invariant-loop-i : goal.invariant-loop-i
 invariant-loop-i l =
-    Writing l.initial.out l.initial.at (spaced_of (drop 1 l.row)) l.out l.at (spaced_of (drop l.i l.row)) × (1 ≤ l.i) × (l.i ≤ length l.row)
+    Writing l.initial.out l.initial.at (spaced_of (drop 1 l.row)) l.out l.at (spaced_of (drop l.i l.row)) × (1 ≤ l.i)
+    × (l.i ≤ length l.row)
     × (length l.out ≡ length l.initial.out)
 
 abbrev pub decreases-loop-i : goal.decreases-loop-i

@@ -69,7 +69,8 @@ returns c =
     let a = c.args in
     let f = file (goal.at.returns c).In-On in
     let o = read_outcome a.text.now a.header.now a.levels.now
-    (roomy_both a.text.now _ _ _ _ f.0 f.1 (none (goal.at.returns c).Else-refusal-ne0) _ _ (omega (arith, c.if-header-lt-HEADER_SIZE.false))
+    (roomy_both a.text.now _ _ _ _ f.0 f.1 (none (goal.at.returns c).Else-refusal-ne0) _ _
+    (omega (arith, c.if-header-lt-HEADER_SIZE.false))
     c.if-levels-rows.false) in (
       o.0,
       c.store_frame.ensures ∙ ap (λ x. front (numbers_of x) a.header.now) f.1.frame ∙ o.1,

@@ -14,13 +14,16 @@ inside c = settled c.is_placed.ensures c.if-not-is_placed.false
 
 pub returns-then-not-is_placed : goal.returns-then-not-is_placed
 returns-then-not-is_placed c =
-    let p = past (goal.at.returns-then-not-is_placed c).Else-not-is_sided in rw (p.0, p.1, settled c.is_placed.ensures c.if-not-is_placed.true)
+    let p = past (goal.at.returns-then-not-is_placed c).Else-not-is_sided in rw
+    (p.0, p.1, settled c.is_placed.ensures c.if-not-is_placed.true)
 
 pub returns-then-sound : goal.returns-then-sound
-returns-then-sound c = let p = past (goal.at.returns-then-sound c).Else-not-is_sided in rw (p.0, p.1, inside (goal.at.returns-then-sound c).Else-not-is_placed, c.if-sound.true)
+returns-then-sound c = let p = past (goal.at.returns-then-sound c).Else-not-is_sided in rw
+    (p.0, p.1, inside (goal.at.returns-then-sound c).Else-not-is_placed, c.if-sound.true)
 
 pub returns-else-sound : goal.returns-else-sound
-returns-else-sound c = let p = past (goal.at.returns-else-sound c).Else-not-is_sided in rw (p.0, p.1, inside (goal.at.returns-else-sound c).Else-not-is_placed, c.if-sound.false)
+returns-else-sound c = let p = past (goal.at.returns-else-sound c).Else-not-is_sided in rw
+    (p.0, p.1, inside (goal.at.returns-else-sound c).Else-not-is_placed, c.if-sound.false)
 
 pub returns-then-not-fits : goal.returns-then-not-fits
 returns-then-not-fits c = rw c.if-not-fits.true

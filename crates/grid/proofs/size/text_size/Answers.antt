@@ -32,4 +32,8 @@ pub overflow_add-result : goal.overflow_add-result
 overflow_add-result c = omega (arith, most c)
 
 pub overflow_add-result-2 : goal.overflow_add-result-2
-overflow_add-result-2 c = omega (arith, most (goal.at.overflow_add-result-2 c).After-levels_size, c.requires.sized.sides.low)
+overflow_add-result-2 c = omega (
+  arith,
+  most (goal.at.overflow_add-result-2 c).After-levels_size,
+  c.requires.sized.sides.low,
+)

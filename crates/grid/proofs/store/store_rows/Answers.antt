@@ -24,7 +24,11 @@ room : (c : After-rows_south-south)
 room c =
     let kept = c.loop-at.invariant.2 in
     place_room c.rows_south-south.result c.args.columns c.args.rows
-    (length c.loop-at.out) (omega (arith, c.rows_south-south.ensures, left_here _ _ _ _ c.loop-at.invariant.0 c.loop-at-test.true))
+    (length c.loop-at.out) (omega (
+      arith,
+      c.rows_south-south.ensures,
+      left_here _ _ _ _ c.loop-at.invariant.0 c.loop-at-test.true,
+    ))
     (omega (arith, c.requires.1))
 
 pub overflow_mul-south : goal.overflow_mul-south

@@ -39,4 +39,7 @@ returns-else-at-edge_count c =
     (omega (arith, c.if-at-edge_count.false, c.edge_count.ensures)))
 
 pub returns-else-crossed_at : goal.returns-else-crossed_at
-returns-else-crossed_at c = rw (lt-ltb _ _ (inside (goal.at.returns-else-crossed_at c).Then-at-edge_count), sym c.crossed_at.ensures ∙ c.if-crossed_at.false)
+returns-else-crossed_at c = rw (
+  lt-ltb _ _ (inside (goal.at.returns-else-crossed_at c).Then-at-edge_count),
+  sym c.crossed_at.ensures ∙ c.if-crossed_at.false,
+)

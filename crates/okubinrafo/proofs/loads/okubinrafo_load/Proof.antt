@@ -2,7 +2,7 @@
 use mathlib.Core.Path.{◌≡◌, sym, ap, ◌∙◌}
 use native.Mathlib.Omega.{arith}
 use lib.ListN.{length}
-use Rattle.book_rules.specs.Columns.{Book, book_now}
+use Rattle.book_rules.specs.Columns.{Book, book_lent}
 use Rattle.load_rules.specs.declared.Load.{Load}
 use Rattle.load_rules.specs.Load.{book_load}
 use Rattle.room.specs.Room.{front}
@@ -18,7 +18,7 @@ start c = search
 
 -- the book, its load and the load's numbers
 abbrev book : tie.Start → Book
-book s = book_now s.args.identities s.args.groups s.args.marks s.args.counts s.args.levels
+book s = book_lent s.args.identities.now s.args.groups.now s.args.marks.now s.args.counts.now s.args.levels.now
 
 abbrev the-load : tie.Start → Load
 the-load s = book_load s.args.points s.args.point (book s) s.args.days

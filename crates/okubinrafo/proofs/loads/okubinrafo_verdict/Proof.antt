@@ -1,6 +1,6 @@
 -- `okubinrafo::loads::okubinrafo_verdict` meets its contract: a refusal, or a verdict that is written. Assumes nothing.
 use mathlib.Core.Path.{sym, ◌∙◌}
-use Rattle.book_rules.specs.Columns.{book_now}
+use Rattle.book_rules.specs.Columns.{book_lent}
 use Rattle.load_rules.specs.declared.Judged.{Judged}
 use Rattle.load_rules.specs.Verdict.{book_verdict}
 use Rattle.okubinrafo.proofs.Numbers.{judged_refused, judged_given}
@@ -13,7 +13,7 @@ abbrev verdict : tie.After-verdict-at → Judged
 verdict c =
     let s : tie.Start = search in
     book_verdict s.args.points s.args.point
-    (book_now s.args.identities s.args.groups s.args.marks s.args.counts s.args.levels)
+    (book_lent s.args.identities.now s.args.groups.now s.args.marks.now s.args.counts.now s.args.levels.now)
     s.args.days s.args.limit
 
 returns : tie.Need-returns

@@ -54,14 +54,25 @@ past c =
 
 pub returns-then-same_text : goal.returns-then-same_text
 returns-then-same_text c =
-    rw (past (goal.at.returns-then-same_text c).Else-n-lead-ne0, le-leb _ _ c.if-points-gt-MAX_POINTS.false, sym c.same_text.ensures ∙ c.if-same_text.true)
+    rw (
+      past (goal.at.returns-then-same_text c).Else-n-lead-ne0,
+      le-leb _ _ c.if-points-gt-MAX_POINTS.false,
+      sym c.same_text.ensures ∙ c.if-same_text.true,
+    )
 
 pub returns-else-same_text : goal.returns-else-same_text
 returns-else-same_text c =
-    rw (past (goal.at.returns-else-same_text c).Else-n-lead-ne0, le-leb _ _ c.if-points-gt-MAX_POINTS.false, sym c.same_text.ensures ∙ c.if-same_text.false)
+    rw (
+      past (goal.at.returns-else-same_text c).Else-n-lead-ne0,
+      le-leb _ _ c.if-points-gt-MAX_POINTS.false,
+      sym c.same_text.ensures ∙ c.if-same_text.false,
+    )
 
 pub returns-then-points-gt-MAX_POINTS : goal.returns-then-points-gt-MAX_POINTS
-returns-then-points-gt-MAX_POINTS c = rw (past (goal.at.returns-then-points-gt-MAX_POINTS c).Else-n-lead-ne0, lt-leb _ _ c.if-points-gt-MAX_POINTS.true)
+returns-then-points-gt-MAX_POINTS c = rw (
+  past (goal.at.returns-then-points-gt-MAX_POINTS c).Else-n-lead-ne0,
+  lt-leb _ _ c.if-points-gt-MAX_POINTS.true,
+)
 
 pub slice_bounds-same_text-end : goal.slice_bounds-same_text-end
 slice_bounds-same_text-end c = sym (length-take-le _ _ c.if-full-n.false)

@@ -72,7 +72,8 @@ returns-then-s-end-lt2 c =
     let s = c.args.s.now in
     let n = c.in-Got.points in
     let empty : first_line (drop (c.line_end-end.result + 2) s) ≡ [] =
-    line_none s (c.line_end-end.result + 2) (omega (arith, c.if-s-end-lt2.true, within (goal.at.returns-then-s-end-lt2 c).After-line_end-end)) in
+    line_none s (c.line_end-end.result + 2)
+    (omega (arith, c.if-s-end-lt2.true, within (goal.at.returns-then-s-end-lt2 c).After-line_end-end)) in
     c.refused_limits-then-s-end-lt2.ensures
     ∙ rw (
       headed (goal.at.returns-then-s-end-lt2 c).In-Got,

@@ -30,7 +30,8 @@ past c =
     rw (not-false a.c.read c.if-not-c.false, ne_eqb a.c.blanks 0 c.if-blanks-eq0.false)
 
 pub returns-then-blanks-points : goal.returns-then-blanks-points
-returns-then-blanks-points c = c.row_layout-then-blanks-points.ensures ∙ rw (past (goal.at.returns-then-blanks-points c).Else-blanks-eq0, eq-eqb _ _ c.if-blanks-points.true)
+returns-then-blanks-points c = c.row_layout-then-blanks-points.ensures
+    ∙ rw (past (goal.at.returns-then-blanks-points c).Else-blanks-eq0, eq-eqb _ _ c.if-blanks-points.true)
 
 pub returns : goal.returns
 returns c = c.off_layout-2.ensures ∙ rw (past (goal.at.returns c).Else-blanks-eq0, ne_eqb _ _ c.if-blanks-points.false)

@@ -40,7 +40,13 @@ pub returns-then-l-ne0 : goal.returns-then-l-ne0
 returns-then-l-ne0 c = unfold row_refusal in rw (ne_eqb c.args.l.refusal 0 c.if-l-ne0.true)
 
 pub returns-then-points-room : goal.returns-then-points-room
-returns-then-points-room c = rw (past (goal.at.returns-then-points-room c).Else-refused-ne0, le-leb _ _ c.if-points-room.true)
+returns-then-points-room c = rw (
+  past (goal.at.returns-then-points-room c).Else-refused-ne0,
+  le-leb _ _ c.if-points-room.true,
+)
 
 pub returns-else-points-room : goal.returns-else-points-room
-returns-else-points-room c = rw (past (goal.at.returns-else-points-room c).Else-refused-ne0, lt-leb _ _ c.if-points-room.false)
+returns-else-points-room c = rw (
+  past (goal.at.returns-else-points-room c).Else-refused-ne0,
+  lt-leb _ _ c.if-points-room.false,
+)

@@ -9,7 +9,8 @@ use Rattle.register.proofs.write.put_line.Given as goal
 
 abbrev pub invariant-loop-k : goal.invariant-loop-k
 invariant-loop-k l =
-    Wrote l.initial.out 0 (joined_by 44 (listing (text_at l.f l.levels) l.k)) l.out l.at × (l.at ≤ 9 * l.k) × (l.k ≤ 5 + length l.levels)
+    Wrote l.initial.out 0 (joined_by 44 (listing (text_at l.f l.levels) l.k)) l.out l.at × (l.at ≤ 9 * l.k)
+    × (l.k ≤ 5 + length l.levels)
     × (length l.out ≡ length l.initial.out)
 
 abbrev pub decreases-loop-k : goal.decreases-loop-k

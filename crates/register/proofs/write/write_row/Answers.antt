@@ -54,7 +54,10 @@ returns c =
     }
 
 pub put_row-n-requires : goal.put_row-n-requires
-put_row-n-requires c = (fine_writable (fault_fine _ _ _ (fine (goal.at.put_row-n-requires c).Else-refused-ne0)), omega arith)
+put_row-n-requires c = (
+  fine_writable (fault_fine _ _ _ (fine (goal.at.put_row-n-requires c).Else-refused-ne0)),
+  omega arith,
+)
 
 pub put_front-requires : goal.put_front-requires
 put_front-requires c = (wrote_fits c.put_row-n.ensures.0, c.if-out-n.false)

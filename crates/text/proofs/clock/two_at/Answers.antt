@@ -37,4 +37,5 @@ returns-else-n-bound c =
     )
 
 pub returns-in_default : goal.returns-in_default
-returns-in_default c = unfold two_at in let e = sym (two-of (goal.at.returns-in_default c).After-digits) ∙ c.in_default.is in rw e
+returns-in_default c = unfold two_at in let e = sym (two-of (goal.at.returns-in_default c).After-digits)
+    ∙ c.in_default.is in rw e

@@ -61,7 +61,8 @@ returns-in_default-digits c =
     let s = c.args.s.now in
     let rest = length s - (c.args.d + 1) + 1 in
     let f : digits_of 0 (drop rest s) ≡ Off = cc (part-rest s rest) in
-    sym (opened (goal.at.returns-in_default-digits c).Else-s-point-ne46 ∙ rw (units (goal.at.returns-in_default-digits c).In-Got, f))
+    sym (opened (goal.at.returns-in_default-digits c).Else-s-point-ne46
+    ∙ rw (units (goal.at.returns-in_default-digits c).In-Got, f))
 
 -- the decimals beside them
 parts : (c : In-Got-digits) → let s = c.args.s.now in
@@ -86,7 +87,8 @@ small c =
 
 pub returns : goal.returns
 returns c =
-    sym (opened (goal.at.returns c).Else-s-point-ne46 ∙ rw (units (goal.at.returns c).In-Got, parts (goal.at.returns c).In-Got-digits, ← c.power.ensures))
+    sym (opened (goal.at.returns c).Else-s-point-ne46
+    ∙ rw (units (goal.at.returns c).In-Got, parts (goal.at.returns c).In-Got-digits, ← c.power.ensures))
 
 pub slice_bounds-whole-end : goal.slice_bounds-whole-end
 slice_bounds-whole-end c = let s = c.args.s.now in sym (length-take-le (length s - (c.args.d + 1)) s (omega arith))

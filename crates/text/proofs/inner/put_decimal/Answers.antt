@@ -31,7 +31,14 @@ put_digits-requires c =
     let whole = c.put_whole-point in (
       c.requires.0,
       rw c.power-parts.ensures (mod-lt c.args.n (parts_some c.args.d)),
-      omega (arith, room (goal.at.put_digits-requires c).After-power-parts, whole.ensures.place, whole.auto.out, point.ensures.place, point.auto.out),
+      omega (
+        arith,
+        room (goal.at.put_digits-requires c).After-power-parts,
+        whole.ensures.place,
+        whole.auto.out,
+        point.ensures.place,
+        point.auto.out,
+      ),
     )
 
 pub returns : goal.returns
@@ -45,4 +52,7 @@ returns c =
     c.put_byte-next.ensures (rw power at digits.ensures))
 
 pub put_whole-point-requires : goal.put_whole-point-requires
-put_whole-point-requires c = (units (goal.at.put_whole-point-requires c).After-power-parts, omega (arith, room (goal.at.put_whole-point-requires c).After-power-parts))
+put_whole-point-requires c = (
+  units (goal.at.put_whole-point-requires c).After-power-parts,
+  omega (arith, room (goal.at.put_whole-point-requires c).After-power-parts),
+)

@@ -29,7 +29,8 @@ loop-k-preserved c =
     let next = digit (goal.at.loop-k-preserved c).In-loop-k in
     let rest = show_digits (l.k - 1) (l.left % (l.parts / 10)) in
     let held = rw next.text at l.invariant.0 in (
-      writing_more ((48 + l.left / (l.parts / 10)) ∷ []) rest held (room (goal.at.loop-k-preserved c).At-loop-k) byte.ensures,
+      writing_more ((48 + l.left / (l.parts / 10)) ∷ []) rest held (room (goal.at.loop-k-preserved c).At-loop-k)
+          byte.ensures,
       next.parts,
       next.rest,
       byte.auto.out ∙ l.invariant.3,

@@ -8,7 +8,8 @@ use Rattle.text.proofs.inner.put_digits.Given as goal
 
 abbrev pub invariant-loop-k : goal.invariant-loop-k
 invariant-loop-k l =
-    Writing l.initial.out l.at (show_digits l.d l.n) l.out l.next (show_digits l.k l.left) × (l.parts ≡ 10 ^ l.k) × (l.left < 10 ^ l.k)
+    Writing l.initial.out l.at (show_digits l.d l.n) l.out l.next (show_digits l.k l.left) × (l.parts ≡ 10 ^ l.k)
+    × (l.left < 10 ^ l.k)
     × (length l.out ≡ length l.initial.out)
 
 abbrev pub decreases-loop-k : goal.decreases-loop-k

@@ -66,7 +66,9 @@ loop-at-preserved c =
     p.new.out p.result
     t.ensures.0 c.loop-at-test.true fits (subst (λ (t : List ℕ). Wrote l.room l.size t p.new.out
     p.result) (wrote_front w) p.ensures)
-    (step (goal.at.loop-at-preserved c).After-put_step-step).went.text (step (goal.at.loop-at-preserved c).After-put_step-step).went.reached (step (goal.at.loop-at-preserved c).After-put_step-step).whole
+    (step (goal.at.loop-at-preserved c).After-put_step-step).went.text
+    (step (goal.at.loop-at-preserved c).After-put_step-step).went.reached
+    (step (goal.at.loop-at-preserved c).After-put_step-step).whole
 
 pub slice_bounds-piece-end : goal.slice_bounds-piece-end
 slice_bounds-piece-end c = wrote_fits c.put_step-step.ensures.1

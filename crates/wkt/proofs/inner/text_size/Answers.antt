@@ -61,7 +61,13 @@ put_step-step-requires c =
 
 pub overflow_add-size : goal.overflow_add-size
 overflow_add-size c =
-    omega (arith, c.loop-at.invariant.1.1.1, (step (goal.at.overflow_add-size c).After-put_step-step).short, (few (goal.at.overflow_add-size c).Start).0, (few (goal.at.overflow_add-size c).Start).1)
+    omega (
+      arith,
+      c.loop-at.invariant.1.1.1,
+      (step (goal.at.overflow_add-size c).After-put_step-step).short,
+      (few (goal.at.overflow_add-size c).Start).0,
+      (few (goal.at.overflow_add-size c).Start).1,
+    )
 
 pub loop-at-preserved : goal.loop-at-preserved
 loop-at-preserved c =

@@ -92,7 +92,11 @@ overflow_add-result-in-Vertical c =
       far,
       c.stand-in-Vertical-2.ensures,
       metres_small c.in-Vertical.row c.args.frame.spacing
-          (omega (arith, (ready-2 (goal.at.overflow_add-result-in-Vertical c).In-Vertical).0.0, c.requires.0.sized.sides.low))
+          (omega (
+            arith,
+            (ready-2 (goal.at.overflow_add-result-in-Vertical c).In-Vertical).0.0,
+            c.requires.0.sized.sides.low,
+          ))
           c.requires.0.near,
       c.requires.0.near,
       c.requires.0.south,
@@ -122,7 +126,11 @@ pub level-west-requires : goal.level-west-requires
 level-west-requires c = let w = (ready c).0 in (c.requires.0.sized, (w.0, omega (arith, w.1)))
 
 pub overflow_add-col : goal.overflow_add-col
-overflow_add-col c = omega (arith, (ready (goal.at.overflow_add-col c).In-Horizontal).0.1, c.requires.0.sized.sides.narrow)
+overflow_add-col c = omega (
+  arith,
+  (ready (goal.at.overflow_add-col c).In-Horizontal).0.1,
+  c.requires.0.sized.sides.narrow,
+)
 
 pub level-east-requires : goal.level-east-requires
 level-east-requires c = (c.requires.0.sized, (ready (goal.at.level-east-requires c).In-Horizontal).0)

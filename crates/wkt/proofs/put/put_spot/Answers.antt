@@ -24,15 +24,27 @@ put_decimal-requires c =
     let east = c.put_decimal-space in (
       omega arith,
       omega arith,
-      omega (arith, room (goal.at.put_decimal-requires c).Start, east.ensures.place, east.auto.out, space.ensures.place, space.auto.out),
+      omega (
+        arith,
+        room (goal.at.put_decimal-requires c).Start,
+        east.ensures.place,
+        east.auto.out,
+        space.ensures.place,
+        space.auto.out,
+      ),
     )
 
 pub returns : goal.returns
 returns c =
     let east = c.put_decimal-space in
     wrote_then c.requires east.ensures
-    (wrote_then (omega (arith, room (goal.at.returns c).Start, east.ensures.place, east.auto.out)) c.put_byte-next.ensures
+    (wrote_then (omega (arith, room (goal.at.returns c).Start, east.ensures.place, east.auto.out))
+    c.put_byte-next.ensures
     c.put_decimal.ensures)
 
 pub put_decimal-space-requires : goal.put_decimal-space-requires
-put_decimal-space-requires c = (omega arith, omega arith, omega (arith, room (goal.at.put_decimal-space-requires c).Start))
+put_decimal-space-requires c = (
+  omega arith,
+  omega arith,
+  omega (arith, room (goal.at.put_decimal-space-requires c).Start),
+)

@@ -97,7 +97,13 @@ returns-then-point-count c =
 
 pub overflow_add-result-2 : goal.overflow_add-result-2
 overflow_add-result-2 c =
-    omega (arith, few (goal.at.overflow_add-result-2 c).Else-line-counts, enough (goal.at.overflow_add-result-2 c).Else-line-counts, at-point (goal.at.overflow_add-result-2 c).Else-point-count, c.requires.0.0.marks c.args.at.line)
+    omega (
+      arith,
+      few (goal.at.overflow_add-result-2 c).Else-line-counts,
+      enough (goal.at.overflow_add-result-2 c).Else-line-counts,
+      at-point (goal.at.overflow_add-result-2 c).Else-point-count,
+      c.requires.0.0.marks c.args.at.line,
+    )
 
 pub put_place-requires : goal.put_place-requires
 put_place-requires c =
@@ -131,8 +137,11 @@ returns c =
       place_short a.levels.now a.frame a.v n,
     ) in
     let l = ne_eqb _ _ c.if-line-counts.false in
-    let p = ne_eqb _ _ c.if-point-count.false in
-    (rw (l, p), rw (l, p, edge (goal.at.returns c).After-around) (wrote_then fits c.put_before-place.ensures c.put_place.ensures))
+    let p = ne_eqb _ _ c.if-point-count.false in (
+      rw (l, p),
+      rw (l, p, edge (goal.at.returns c).After-around)
+          (wrote_then fits c.put_before-place.ensures c.put_place.ensures),
+    )
 
 pub returns-then-line-counts : goal.returns-then-line-counts
 unfolding piece_of
@@ -140,7 +149,11 @@ returns-then-line-counts c =
     let e = eq-eqb _ _ c.if-line-counts.true in (rw e, rw e c.put_end.ensures)
 
 pub overflow_add-result-then-point-count-2 : goal.overflow_add-result-then-point-count-2
-overflow_add-result-then-point-count-2 c = omega (arith, few (goal.at.overflow_add-result-then-point-count-2 c).Else-line-counts, enough (goal.at.overflow_add-result-then-point-count-2 c).Else-line-counts)
+overflow_add-result-then-point-count-2 c = omega (
+  arith,
+  few (goal.at.overflow_add-result-then-point-count-2 c).Else-line-counts,
+  enough (goal.at.overflow_add-result-then-point-count-2 c).Else-line-counts,
+)
 
 pub overflow_add-n : goal.overflow_add-n
 overflow_add-n c = omega (arith, few (goal.at.overflow_add-n c).Else-line-counts, within c)

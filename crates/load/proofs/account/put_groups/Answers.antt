@@ -1,0 +1,33 @@
+use Rattle.std.specs.Prelude.{◌≡◌}
+use mathlib.Core.Path.{refl, ap, ◌∙◌}
+use native.Mathlib.Omega.{arith}
+use Rattle.movement.specs.Limits.{group_count}
+use Rattle.room.specs.Room.{front}
+use Rattle.load_rules.specs.Account.{groups_to}
+use Rattle.load.specs.InnerSteps.{group_at}
+use Rattle.load.proofs.AccountLaws.{group_scalable, groups_more}
+use Rattle.load.proofs.account.put_groups.Goals as goal
+
+pub put_group-requires : goal.put_group-requires
+put_group-requires c =
+    record {
+      scalable = rw c.group_at.ensures (group_scalable c.args.groups c.requires.bounded c.loop-g.g (omega arith));
+      at_in_bounds = omega arith;
+    }
+
+pub loop-g-preserved : goal.loop-g-preserved
+loop-g-preserved c = (
+  omega arith,
+  omega arith,
+  c.put_group.ensures
+      ∙ rw (c.loop-g.invariant.2, c.group_at.ensures)
+      (groups_more (group_at c.args.groups) c.loop-g.g c.args.answer.now),
+)
+
+pub returns : goal.returns
+returns c =
+    let last : c.loop-g.g ≡ group_count = omega arith in
+    c.loop-g.invariant.2 ∙ ap (λ n. front (groups_to (group_at c.args.groups) n) c.args.answer.now) last
+
+pub loop-g-init : goal.loop-g-init
+loop-g-init c = unfold groups_to in (omega arith, refl, refl)

@@ -1,0 +1,96 @@
+use Rattle.std.specs.Prelude.{◌≡◌, length, get_or}
+use mathlib.Core.Path.{sym, ap, subst, ◌∙◌}
+use native.Mathlib.Omega.{arith}
+use Rattle.book_rules.specs.Columns.{Book, book_lent}
+use Rattle.load_rules.specs.{Shares.shares_to, Shares.book_shares, Tally.tally}
+use Rattle.load.specs.InnerSteps.{flat, flat_at, RoomForOne}
+use Rattle.load.proofs.RowLaws.{Row, row_at, row_next, row_skipped}
+use Rattle.load.proofs.tally.with_rows.Goals as goal
+use Rattle.load.proofs.tally.with_rows.Goals.{In-loop-i, Start, then-counts-at-ne0, else-counts-at-ne0}
+
+abbrev book : Start → Book
+book s = book_lent s.args.ids.now s.args.groups.now s.args.marks.now s.args.counts.now s.args.levels.now
+
+-- the row that a turn reads
+row : (c : In-loop-i)
+    → let a = c.args in Row a.points a.point (book_lent a.ids.now a.groups.now a.marks.now a.counts.now a.levels.now) c.loop-i.i
+row c =
+    let a = c.args in
+    row_at a.points a.point (book_lent a.ids.now a.groups.now a.marks.now a.counts.now a.levels.now) c.requires.levels_value c.requires.point_lt_points
+    c.loop-i.i c.loop-i-test.true
+
+pub with_row-next-requires : goal.with_row-next-requires
+unfolding flat_at
+with_row-next-requires c =
+    let g = get_or c.args.groups.now c.loop-i.i 0 in
+    record {
+      room_for_one = (
+        subst (λ cs. RoomForOne (flat_at cs g)) (sym c.loop-i.invariant.1) (row (goal.at.with_row-next-requires c).In-loop-i).room,
+        (row (goal.at.with_row-next-requires c).In-loop-i).group<,
+        (row (goal.at.with_row-next-requires c).In-loop-i).level≤,
+      );
+      tables = c.requires.start_value.1;
+    }
+
+pub loop-i-preserved : goal.loop-i-preserved
+unfolding flat_at
+loop-i-preserved c =
+    let p = c.args.points in
+    let pt = c.args.point in
+    let i = c.loop-i.i in (
+      omega arith,
+      elim c.if-counts-at-ne0.branch [
+        | then-counts-at-ne0 w ↦ w.cells-is ∙ row_next p pt (book (goal.at.loop-i-preserved c).Start) c.requires.levels_value c.requires.point_lt_points i c.loop-i-test.true
+            c.loop-i.cells w.with_row-next.result c.loop-i.invariant.1 w.if-counts-at-ne0.true w.with_row-next.ensures
+        | else-counts-at-ne0 w ↦ w.cells-is ∙ c.loop-i.invariant.1
+            ∙ ap (λ ss. flat (tally ss)) (row_skipped p pt (book (goal.at.loop-i-preserved c).Start) c.requires.levels_value c.requires.point_lt_points i w.if-counts-at-ne0.false)
+      ],
+    )
+
+pub returns : goal.returns
+unfolding book_shares
+returns c =
+    let e : c.loop-i.i ≡ length c.args.ids.now = omega arith in
+    c.loop-i.invariant.1 ∙ ap (λ n. flat (tally (shares_to c.args.points c.args.point (book (goal.at.returns c).Start) n))) e
+
+pub loop-i-init : goal.loop-i-init
+loop-i-init c = unfold shares_to in (omega arith, c.requires.start_value.0)
+
+pub overflow_mul-at : goal.overflow_mul-at
+overflow_mul-at c = omega (arith, (row c).in_levels)
+
+pub overflow_add-at : goal.overflow_add-at
+overflow_add-at c = omega (arith, (row c).in_levels)
+
+pub offset_bounds-counts-at : goal.offset_bounds-counts-at
+offset_bounds-counts-at c = omega (arith, (row c).in_levels)
+
+pub bounds-counts-at : goal.bounds-counts-at
+bounds-counts-at c = (row (goal.at.bounds-counts-at c).In-loop-i).in_counts
+
+pub bounds-groups-i : goal.bounds-groups-i
+bounds-groups-i c = (row (goal.at.bounds-groups-i c).In-loop-i).in_groups
+
+pub overflow_cast-g : goal.overflow_cast-g
+overflow_cast-g c = omega (arith, (row (goal.at.overflow_cast-g c).In-loop-i).group<)
+
+pub offset_bounds-cells-g : goal.offset_bounds-cells-g
+offset_bounds-cells-g c = omega (arith, (row (goal.at.offset_bounds-cells-g c).In-loop-i).group<)
+
+pub bounds-cells-g : goal.bounds-cells-g
+bounds-cells-g c = omega (arith, (row (goal.at.bounds-cells-g c).In-loop-i).group<)
+
+pub bounds-marks-i : goal.bounds-marks-i
+bounds-marks-i c = (row (goal.at.bounds-marks-i c).In-loop-i).in_marks
+
+pub offset_bounds-levels-at : goal.offset_bounds-levels-at
+offset_bounds-levels-at c = omega (arith, (row (goal.at.offset_bounds-levels-at c).In-loop-i).in_levels)
+
+pub bounds-levels-at : goal.bounds-levels-at
+bounds-levels-at c = (row (goal.at.bounds-levels-at c).In-loop-i).in_levels
+
+pub offset_bounds-cells-g-then-counts-at-ne0 : goal.offset_bounds-cells-g-then-counts-at-ne0
+offset_bounds-cells-g-then-counts-at-ne0 c = omega (arith, (row (goal.at.offset_bounds-cells-g-then-counts-at-ne0 c).In-loop-i).group<)
+
+pub bounds-cells-g-then-counts-at-ne0 : goal.bounds-cells-g-then-counts-at-ne0
+bounds-cells-g-then-counts-at-ne0 c = omega (arith, (row (goal.at.bounds-cells-g-then-counts-at-ne0 c).In-loop-i).group<)
