@@ -7,8 +7,8 @@
 mod asked;
 
 use cases::column::stepped;
-use cases::inner::line_past;
 use cases::fields::{letter, number, numbers, place};
+use cases::inner::line_past;
 
 // The descriptor of standard input.
 const STDIN_FILENO: i32 = 0;
