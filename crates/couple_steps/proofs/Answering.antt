@@ -1,6 +1,6 @@
 -- Which text may be written once the two files are read: a refusal, or the sheet of the tables that hold them.
 -- Assumes nothing.
-use Rattle.std.specs.Prelude.{ℕ, ◌-◌}
+use Rattle.std.specs.Prelude.{ℕ}
 use mathlib.Core.{Path.◌≡◌, Path.sym, Path.ap, Path.◌∙◌, List.List, List.[]}
 use Rattle.channel.specs.System.Origin.{input}
 use Rattle.text.specs.Sheet.{refused_text}

@@ -1,9 +1,9 @@
 -- A file is refused with one number at one line, and one that is right with none; one of which nothing came is refused
 -- 16 at line 1. Assumes nothing.
-use Rattle.std.specs.Prelude.{ℕ, suc, ◌+◌, ◌<◌, ◌≤◌}
+use Rattle.std.specs.Prelude.{ℕ, ◌+◌, ◌<◌, ◌≤◌}
 use mathlib.Core.{Path.◌≡◌, Path.refl, Path.sym, Path.ap, Path.◌∙◌, Logic.◌↔◌, List.List, List.[]}
 use native.Mathlib.Omega.{arith}
-use lib.{ListN.length, ListN.get_or, Dec.ltb}
+use lib.{ListN.get_or, Dec.ltb}
 use borrow.Author.Tests.{ltb-true, ltb-false}
 use Rattle.text.specs.{Line.lines_of, Field.joined_by, Number.shown, Spelled.bytes, Sheet.ended, Sheet.refused_text}
 use Rattle.text.proofs.Digits.{either}

@@ -1,6 +1,6 @@
 -- What the program writes, by its bytes: a line for each movement where both files are right, and else one refusal.
 -- Assumes nothing.
-use Rattle.std.specs.Prelude.{ℕ, suc, ◌+◌, ◌<◌, List, [], ◌∷◌, ◌++◌}
+use Rattle.std.specs.Prelude.{ℕ, suc, ◌<◌, List, [], ◌∷◌, ◌++◌}
 use mathlib.Core.{Path.◌≡◌, Path.refl, Path.sym, Path.ap, Path.◌∙◌, Logic.◌↔◌}
 use mathlib.Core.List.{append_assoc}
 use native.Mathlib.Omega.{arith}
