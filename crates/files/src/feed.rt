@@ -84,6 +84,7 @@ fn last(
 
 // One turn: bytes are read behind those that wait, and the lines that they end are taken.
 fn read_on(
+    rt: &HostRuntime,
     ids: &mut [u32],
     groups: &mut [u32],
     marks: &mut [u32],
@@ -102,7 +103,7 @@ fn read_on(
         taken.old result (book_lent ids.new groups.new marks.new counts.new levels.new) bytes.new taken.new
         × (sound points (book_lent ids.new groups.new marks.new counts.new levels.new) ≡ true) }
 {
-    match read_input(taken, &mut bytes[left..]) {
+    match read_input(rt, taken, &mut bytes[left..]) {
         Arrived::Bytes(n) => piece(
             ids,
             groups,
@@ -130,6 +131,7 @@ fn read_on(
 
 // Reads the register into the book.
 pub(crate) fn read_register(
+    rt: &HostRuntime,
     ids: &mut [u32],
     groups: &mut [u32],
     marks: &mut [u32],
@@ -148,7 +150,7 @@ pub(crate) fn read_register(
     let mut line = 1;
     loop {
         let turn = read_on(
-            ids, groups, marks, counts, levels, points, bytes, left, line, &mut taken,
+            rt, ids, groups, marks, counts, levels, points, bytes, left, line, &mut taken,
         );
         let state = turn.state;
         if state != READING {

@@ -35,11 +35,11 @@ const BOOK_ROWS: usize = 2000;
 const BOOK_LEVELS: usize = BOOK_ROWS * MAX_POINTS;
 
 // Puts limits.csv at the start of the buffer and answers its length. One that can't be opened or read counts as empty.
-fn limits_text(text: &mut [u8]) -> usize
+fn limits_text(rt: &HostRuntime, text: &mut [u8]) -> usize
     requires { length text.old ≡ limits_room }
     ensures { IsPrefixLen result text.new × Opened (take result text.new) }
 {
-    let read = read_file(b"limits.csv", text);
+    let read = read_file(rt, "limits.csv", text);
     let state = read.state;
     if state == FAILED {
         return 0;
@@ -48,7 +48,7 @@ fn limits_text(text: &mut [u8]) -> usize
 }
 
 // The text that answers limits.csv and the register, at the front of the buffer.
-fn answer(kind: u32, text: &[u8], out: &mut [u8]) -> usize
+fn answer(rt: &HostRuntime, kind: u32, text: &[u8], out: &mut [u8]) -> usize
     requires opened { Opened text.now }
     requires longest_text_in_bounds { longest_text ≤ length out.old }
     ensures { WrittenIn (telling_of kind) text.now out.new result }
@@ -56,7 +56,7 @@ fn answer(kind: u32, text: &[u8], out: &mut [u8]) -> usize
     let limits = register::limits_csv::read_limits(text);
     let refusal = limits.refusal;
     if refusal != 0 {
-        sentences::limits(limits.line as u64, refusal, text);
+        sentences::limits(rt, limits.line as u64, refusal, text);
         return put_refused(out, refusal, limits.line as u64);
     }
     let mut ids = [0u32; BOOK_ROWS];
@@ -65,6 +65,7 @@ fn answer(kind: u32, text: &[u8], out: &mut [u8]) -> usize
     let mut counts = [0u32; BOOK_LEVELS];
     let mut levels = [0u32; BOOK_LEVELS];
     report(
+        rt,
         kind,
         &mut ids,
         &mut groups,
@@ -78,6 +79,7 @@ fn answer(kind: u32, text: &[u8], out: &mut [u8]) -> usize
 
 // The report of a register, into these columns; of the last two only as many numbers as the points need.
 fn report(
+    rt: &HostRuntime,
     kind: u32,
     ids: &mut [u32],
     groups: &mut [u32],
@@ -93,6 +95,7 @@ fn report(
 {
     let room = BOOK_ROWS * limits.points as usize;
     report_in(
+        rt,
         kind,
         ids,
         groups,
@@ -106,6 +109,7 @@ fn report(
 
 // The register is read into the book; then its report is written, or its refusal.
 fn report_in(
+    rt: &HostRuntime,
     kind: u32,
     ids: &mut [u32],
     groups: &mut [u32],
@@ -121,14 +125,16 @@ fn report_in(
 {
     let points = limits.points as usize;
     let mut bytes = io::large_buffer();
-    let read = feed::read_register(ids, groups, marks, counts, levels, points, &mut bytes);
+    let read = feed::read_register(rt, ids, groups, marks, counts, levels, points, &mut bytes);
     answer_read(
+        rt,
         kind, ids, groups, marks, counts, levels, limits, &bytes, read, out,
     )
 }
 
 // The answer to a register that was read: its refusal, or the text of its book.
 fn answer_read(
+    rt: &HostRuntime,
     kind: u32,
     ids: &[u32],
     groups: &[u32],
@@ -146,20 +152,20 @@ fn answer_read(
 {
     let refusal = read.refusal;
     if refusal != 0 {
-        return refuse(bytes, read, limits, out);
+        return refuse(rt, bytes, read, limits, out);
     }
     let report = put_told(kind, out, ids, groups, marks, counts, levels, limits);
-    sentences::answer(report.refused, read.line, ids);
+    sentences::answer(rt, report.refused, read.line, ids);
     report.size
 }
 
 // The register is refused: its one line, and the sentence that goes with it.
-fn refuse(bytes: &[u8], read: Turn, limits: LimitsFile, out: &mut [u8]) -> usize
+fn refuse(rt: &HostRuntime, bytes: &[u8], read: Turn, limits: LimitsFile, out: &mut [u8]) -> usize
     requires { longest_text ≤ length out.old }
     ensures { WroteWithin longest_refused out.old 0 (refused_text read.refusal read.line)
         out.new result }
 {
-    sentences::refusal(bytes, read, limits.points);
+    sentences::refusal(rt, bytes, read, limits.points);
     put_refused(out, read.refusal, read.line)
 }
 
@@ -194,13 +200,13 @@ fn write(kind: u32, limits: &[u8], sent: &mut usize, text: &[u8]) -> bool
 }
 
 // All of a program: its files are read, its text is written, and it answers whether all of it was taken.
-pub fn run(kind: u32, sent: &mut usize) -> bool
+pub fn run(rt: &HostRuntime, kind: u32, sent: &mut usize) -> bool
     requires { sent.old ≡ 0 }
     ensures { Run (MayWrite (telling_of kind)) result sent.new }
 {
     let mut text = io::buffer();
-    let n = limits_text(&mut text);
+    let n = limits_text(rt, &mut text);
     let mut out = io::large_buffer();
-    let size = answer(kind, &text[..n], &mut out);
+    let size = answer(rt, kind, &text[..n], &mut out);
     write(kind, &text[..n], sent, &out[..size])
 }

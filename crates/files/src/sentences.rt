@@ -10,9 +10,9 @@ const REGISTER: usize = 1;
 const LIMITS: usize = 2;
 
 // limits.csv is refused.
-pub fn limits(line: u64, refusal: u32, text: &[u8]) {
+pub fn limits(rt: &HostRuntime, line: u64, refusal: u32, text: &[u8]) {
     let mut name = io::buffer();
-    let n = argument(LIMITS, &mut name);
+    let n = argument(rt, LIMITS, &mut name);
     if n == 0 {
         of_limits::refused(b"limits.csv", line, refusal, text);
         return;
@@ -21,9 +21,9 @@ pub fn limits(line: u64, refusal: u32, text: &[u8]) {
 }
 
 // The register is refused.
-pub fn refusal(bytes: &[u8], read: Turn, points: u32) {
+pub fn refusal(rt: &HostRuntime, bytes: &[u8], read: Turn, points: u32) {
     let mut name = io::buffer();
-    let n = argument(REGISTER, &mut name);
+    let n = argument(rt, REGISTER, &mut name);
     if n == 0 {
         refused(b"register", bytes, read, points);
         return;
@@ -51,9 +51,9 @@ fn refused(file: &[u8], bytes: &[u8], read: Turn, points: u32) {
 }
 
 // The book of a register that was read to its end is refused, or answered; `next` is the number of the line past it.
-pub fn answer(refusal: u32, next: u64, ids: &[u32]) {
+pub fn answer(rt: &HostRuntime, refusal: u32, next: u64, ids: &[u32]) {
     let mut name = io::buffer();
-    let n = argument(REGISTER, &mut name);
+    let n = argument(rt, REGISTER, &mut name);
     if n == 0 {
         answered(b"register", refusal, next, ids);
         return;
