@@ -55,9 +55,9 @@ fn run(
     requires levels_value { sound points (book_lent ids.old groups.old marks.old counts.old levels.old) ≡ true }
     requires journal_value { laid_out journal.now ≡ true }
     requires journal_in_bounds { length (calls_of journal.now) ≤ length answers.old }
-    ensures levels_value_2 { book_lent ids.new groups.new marks.new counts.new levels.new
+    ensures book_of_calls { book_lent ids.new groups.new marks.new counts.new levels.new
         ≡ booked (book_lent ids.old groups.old marks.old counts.old levels.old) (calls_for points journal.now) }
-    ensures answers_after { answers.new
+    ensures answers_of_calls { answers.new
         ≡ front (answered (book_lent ids.old groups.old marks.old counts.old levels.old) (calls_for points journal.now))
         answers.old }
 {
