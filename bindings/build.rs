@@ -1,5 +1,5 @@
 //! Links the library that OKUBINRAFO_LIB names, libokubinrafo.a or libokubinrafo.so; without it the static library that
-//! `rt staticlib okubinrafo` writes.
+//! `tools/static-lib okubinrafo` writes.
 
 use std::path::PathBuf;
 
@@ -13,7 +13,7 @@ fn main() {
         Some("libokubinrafo.so") if library.is_file() => "dylib",
         _ => {
             eprintln!("{} is no libokubinrafo.a or libokubinrafo.so.", library.display());
-            eprintln!("In the repository `rt staticlib okubinrafo` (x86-64) builds target/staticlib/libokubinrafo.a,");
+            eprintln!("In the repository `tools/static-lib okubinrafo` (x86-64) builds target/staticlib/libokubinrafo.a,");
             eprintln!("`tools/native-lib okubinrafo libokubinrafo.so` a shared one; OKUBINRAFO_LIB names either.");
             std::process::exit(1);
         }
