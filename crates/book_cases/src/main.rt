@@ -5,8 +5,8 @@
 // where nothing is written, and the columns as they should be. Shown is each of them beside what it should be.
 #![tactic(auto)]
 
-use cases::inner::line_past;
 use cases::fields::{numbers, place};
+use cases::inner::line_past;
 use cases::show::{field, list, say};
 
 // The descriptor of standard input.
