@@ -8,9 +8,11 @@ use lib.{ListN.length, ListN.get_or, Dec.eqb, Dec.leb, Dec.ltb}
 use borrow.Author.Tests.{ltb-true, ltb-false, leb-true, leb-false, eqb-true, eqb-false, le-leb, lt-ltb, eq-eqb, ne_eqb}
 use Rattle.refusal.specs.Refuse.{refuse}
 use Rattle.refusal.proofs.{Laws.and_left, Laws.and_right, Ranges.within_at, Ranges.within_each}
-use Rattle.movement.specs.Limits.{type_count, kind_count, seconds_a_day, max_mass, mass_not_counted, max_identity, max_level}
+use Rattle.movement.specs.Limits.{type_count, kind_count, seconds_a_day, max_mass, mass_not_counted, max_identity}
+use Rattle.movement.specs.Limits.{max_level}
 use Rattle.movement.specs.Aircraft.{aircraft_numbered, mass_fits}
-use Rattle.movement.specs.Rules.{fields_fit, counts, movement_refusal, identity_fits, levels_fit, counts_fit, zero_elsewhere}
+use Rattle.movement.specs.Rules.{fields_fit, counts, movement_refusal, identity_fits, levels_fit, counts_fit}
+use Rattle.movement.specs.Rules.{zero_elsewhere}
 use Rattle.movement.specs.Ranges.{CountsInRange, ZeroElsewhere}
 use Rattle.movement.proofs.Ranges.{ranges_hold}
 use Rattle.book_rules.specs.Columns.{Book, index_of, stands, sound, cells_at}
@@ -99,7 +101,8 @@ fields_decide t k s m = decides_not (fields_fit t k s m) holds back
 counts_decide : (m : ℕ) → Decides (counts m) (m ≤ 150)
 unfolding counts
 counts_decide m =
-    decides (ltb mass_not_counted m) (λ e h. omega (arith, ltb-true mass_not_counted m e)) (ltb-false mass_not_counted m)
+    decides (ltb mass_not_counted m) (λ e h. omega (arith, ltb-true mass_not_counted m e))
+    (ltb-false mass_not_counted m)
 
 identity_decides : (x : ℕ) → Decides (identity_fits x) (NoIdentity x)
 unfolding identity_fits

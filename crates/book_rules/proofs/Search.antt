@@ -198,7 +198,8 @@ stands_here x xs at l r e h = by (eqb (get_or xs at 0) x) refl
   where
     by : (t : Bool) → eqb (get_or xs at 0) x ≡ t → t ≡ ltb (index_of x xs) (length xs)
     by true k =
-        sym (lt-ltb (index_of x xs) (length xs) (omega (arith, index_before_lem x xs at h (eqb-true (get_or xs at 0) x k))))
+        sym (lt-ltb (index_of x xs) (length xs)
+        (omega (arith, index_before_lem x xs at h (eqb-true (get_or xs at 0) x k))))
     by false k = not (ltb (index_of x xs) (length xs)) refl
       where
         not : (s : Bool) → ltb (index_of x xs) (length xs) ≡ s → false ≡ s

@@ -167,7 +167,8 @@ rows_pass p (x ∷ xs) (g ∷ gs) (m ∷ ms) cs ls hg hm h =
     rw first (rows_pass p xs gs ms (drop p cs) (drop p ls) (omega arith) (omega arith) rest)
   where
     rest : (i : ℕ) → i < length xs
-        → row_sound (get_or xs i 0) (get_or gs i 0) (get_or ms i 0) (cells_at p i (drop p cs)) (cells_at p i (drop p ls))
+        → row_sound (get_or xs i 0) (get_or gs i 0) (get_or ms i 0) (cells_at p i (drop p cs))
+        (cells_at p i (drop p ls))
         ≡ true
     rest i k = rw (cells_next p i cs, cells_next p i ls) (h (suc i) (omega arith))
 

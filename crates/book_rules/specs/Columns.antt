@@ -1,6 +1,7 @@
 -- The columns of a book, when they are sound, and how each column changes: RULES, "Movements and the book".
 -- Assumes nothing.
-use Rattle.std.specs.Prelude.{ℕ, zero, suc, ◌+◌, ◌*◌, Bool, true, cond, ◌&&◌, ◌||◌, List, [], ◌∷◌, ◌++◌, length, take, drop, replicate, eqb, leb, ltb}
+use Rattle.std.specs.Prelude.{ℕ, zero, suc, ◌+◌, ◌*◌, Bool, true, cond, ◌&&◌, ◌||◌, List, [], ◌∷◌, ◌++◌, length, take}
+use Rattle.std.specs.Prelude.{drop, replicate, eqb, leb, ltb}
 use Rattle.refusal.specs.Range.{all_within}
 use Rattle.movement.specs.Limits.{max_rows, max_points, max_identity, max_count, max_level, group_count}
 use Rattle.movement.specs.Rules.{zero_elsewhere}

@@ -1,6 +1,7 @@
 -- What a history of calls means without rows: RULES, "Movements and the book".
 -- And the book whose rows are such a list. Assumes nothing.
-use Rattle.std.specs.Prelude.{◌≡◌, ℕ, suc, ◌*◌, ◌-◌, ◌≤◌, Bool, true, false, cond, not, ◌&&◌, ◌||◌, List, [], ◌∷◌, ◌++◌, length, replicate, eqb, leb, ltb}
+use Rattle.std.specs.Prelude.{◌≡◌, ℕ, suc, ◌*◌, ◌-◌, ◌≤◌, Bool, true, false, cond, not, ◌&&◌, ◌||◌, List, [], ◌∷◌, ◌++◌}
+use Rattle.std.specs.Prelude.{length, replicate, eqb, leb, ltb}
 use Rattle.refusal.specs.Refuse.{refuse}
 use Rattle.movement.specs.Limits.{max_rows, max_points}
 use Rattle.movement.specs.Rules.{movement_refusal, identity_fits, levels_fit, counts_fit, zero_elsewhere}

@@ -1,5 +1,6 @@
 -- What each call does, by look-up: how a reader of the rows finds an identity before and after it. Assumes nothing.
-use Rattle.std.specs.Prelude.{ℕ, ◌+◌, ◌*◌, ◌≤◌, ◌<◌, ◌≡◌, true, cond, List, [], ◌∷◌, length, take, drop, get_or, replicate, eqb}
+use Rattle.std.specs.Prelude.{ℕ, ◌+◌, ◌*◌, ◌≤◌, ◌<◌, ◌≡◌, true, cond, List, [], ◌∷◌, length, take, drop, get_or}
+use Rattle.std.specs.Prelude.{replicate, eqb}
 use Rattle.movement.specs.Ranges.{CountsInRange}
 use Rattle.book_rules.specs.Columns.{Book, sound}
 use Rattle.book_rules.specs.Reasons.{Fields}

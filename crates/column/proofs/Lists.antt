@@ -3,7 +3,8 @@ use mathlib.Core.{Path.◌≡◌, Path.sym, Path.ap, Path.◌∙◌, List.List, 
 use Rattle.std.specs.Prelude.{ℕ, zero, suc, ◌+◌, ◌-◌, ◌<◌, ◌≤◌, length, get_or, take, drop, set}
 use native.Mathlib.{Nat.not-suc-le-zero, Nat.add_comm, Omega.arith}
 use lib.ListN.{get_or-append, length-drop, length-append, take-append-drop}
-use lib.Seq.{take-suc, drop-cons, append_snoc, set_at, length-take-le, drop_at, get_or-take, get_or-drop, get_or-append-add}
+use lib.Seq.{take-suc, drop-cons, append_snoc, set_at, length-take-le, drop_at, get_or-take, get_or-drop}
+use lib.Seq.{get_or-append-add}
 use Rattle.room.proofs.Laws.{front_to}
 
 -- d's first i + w values, then s's from index i on

@@ -1,6 +1,6 @@
 -- The program's room is as large as it has to be: no network text that is neither 17 nor 12 has more than 590,175
 -- bytes, and one has as many, 256 rows of 256 values spelled as no data is, in eight bytes. Assumes nothing.
-use Rattle.std.specs.Prelude.{ℕ, zero, suc, ◌+◌, ◌*◌, ◌<◌, ◌≤◌, Bool, true, false, ◌&&◌, List, [], ◌∷◌, ◌++◌}
+use Rattle.std.specs.Prelude.{ℕ, zero, suc, map, ◌+◌, ◌*◌, ◌<◌, ◌≤◌, Bool, true, false, ◌&&◌, List, [], ◌∷◌, ◌++◌}
 use mathlib.Core.{Path.◌≡◌, Path.refl, Path.sym, Path.ap, Path.◌∙◌}
 use native.Mathlib.Omega.{arith}
 use borrow.Author.Tests.{eq-eqb, eqb-true}
@@ -200,8 +200,10 @@ frame_is = rw (columns_is, height_is_lem, west_is, south_is, spacing_is) refl
 fault_none : fault_line lines ≡ 0
 unfolding fault_line first_off
 fault_none =
-    rw (columns_is, height_is_lem, west_is, south_is, spacing_is, names_on, names_well_lem, data_is, rows_are)
-    (none_off 7 (is_row spelling) rows (times-all (is_row spelling) 256 row row_on))
+    rw (columns_is, height_is_lem, west_is, south_is, spacing_is, names_on, names_well_lem)
+    (ap (λ (d : List ℕ). first_off 7 (map (is_row d) (rows_of lines))) data_is
+    ∙ ap (λ (rs : List (List ℕ)). first_off 7 (map (is_row spelling) rs)) rows_are
+    ∙ none_off 7 (is_row spelling) rows (times-all (is_row spelling) 256 row row_on))
 
 fits : rows_fit frame rows ≡ true
 unfolding rows_fit

@@ -1,5 +1,6 @@
 -- A network that is on its layout and as large as its frame says is shorter than the program's room. Assumes nothing.
-use Rattle.std.specs.Prelude.{◌≡◌, ℕ, zero, suc, ◌+◌, ◌*◌, ◌^◌, ◌<◌, ◌≤◌, Bool, true, false, cond, ◌&&◌, ◌||◌, List, [], ◌∷◌, ◌++◌, map}
+use Rattle.std.specs.Prelude.{◌≡◌, ℕ, zero, suc, ◌+◌, ◌*◌, ◌^◌, ◌<◌, ◌≤◌, Bool, true, false, cond, ◌&&◌, ◌||◌, List, []}
+use Rattle.std.specs.Prelude.{◌∷◌, ◌++◌, map}
 use mathlib.Core.Path.{refl, sym, ap, ◌∙◌}
 use native.Mathlib.{Nat.mul-le-mul, Omega.arith}
 use borrow.Author.Tests.{eq-eqb, eqb-true, leb-true}
@@ -111,7 +112,8 @@ key_short_lem key line k h small =
 
 number_short : (t : List ℕ) → is_number t ≡ true → length t ≤ 7
 number_short t h =
-    one_of (is_got (whole_of t)) (is_got (thousandths_of t)) h (λ w. whole_short t w) (λ l. omega (arith, level_short t l))
+    one_of (is_got (whole_of t)) (is_got (thousandths_of t)) h (λ w. whole_short t w)
+    (λ l. omega (arith, level_short t l))
 
 spelling_short : (t : List ℕ) → is_spelling t ≡ true → length t ≤ 8
 spelling_short t h =

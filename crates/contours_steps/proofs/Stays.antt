@@ -4,7 +4,8 @@ use Rattle.std.specs.Prelude.{ℕ, zero, suc, ◌+◌, ◌<◌, ◌≤◌, List,
 use mathlib.Core.{Path.◌≡◌, Path.refl, Path.sym, Path.ap, Path.◌∙◌, Bool.Bool, Bool.true, Bool.false, Bool.cond}
 use native.Mathlib.Omega.{arith}
 use borrow.Author.Tests.{lt-leb, ltb-true, ltb-false}
-use lib.{Dec.ltb, Dec.leb, ListN.length, ListN.get_or, ListN.drop, ListN.length-append, ListN.length-drop, Seq.get_or-drop}
+use lib.{Dec.ltb, Dec.leb, ListN.length, ListN.get_or, ListN.drop, ListN.length-append, ListN.length-drop}
+use lib.{Seq.get_or-drop}
 use Rattle.text.specs.{Number.is_got, Line.first_line, Line.lines_of}
 use Rattle.text.proofs.{Digits.either, Lines.lines_step, Streams.stream_line}
 use Rattle.grid.specs.Row.{is_row}
@@ -73,7 +74,8 @@ body_is ls = either (names (sixth ls)) (λ yes. rw yes refl) (λ no. rw no refl)
 
 body_at : (six : List ℕ) (b : Bool) → names six ≡ b → (ls : List (List ℕ)) (j : ℕ) → 5 + j < length ls
     → get_or (body_of six ls) j true ≡ cond b
-    (cond (leb j 0) (names_well six) (is_row (spelled_in six) (get_or ls (5 + j) []))) (is_row unnamed (get_or ls (5 + j) []))
+    (cond (leb j 0) (names_well six) (is_row (spelled_in six) (get_or ls (5 + j) [])))
+    (is_row unnamed (get_or ls (5 + j) []))
 unfolding body_of
 body_at six true e ls zero h = rw e refl
 body_at six true e ls (suc j) h =

@@ -10,9 +10,9 @@ ghost use Rattle.couple_steps.specs.Table.{table_step, longest_text};
 ghost use Rattle.couple_steps.specs.Written.{tracks_origin};
 ghost use Rattle.couple_steps.specs.InnerTable.{held_in, reading_in, Roomy};
 
+use channel::file::{Source, close_file, open_file};
 use channel::inner::read_from;
-use channel::file::{close_file, open_file};
-use channel::input::{Arrived, STANDARD_INPUT};
+use channel::input::Arrived;
 use couple_steps::inner::feeding::{take_last, take_piece};
 use flights::{MOVEMENT_COLUMNS, TRACK_COLUMNS};
 use stream::inner::failed;
@@ -66,9 +66,10 @@ fn last(table: &mut [u32], columns: usize, bytes: &[u8], line: u64) -> Turn
 
 // One turn: bytes are read behind those that wait, and the lines that they end are taken.
 fn read_on(
+    rt: &HostRuntime,
     opened: bool,
-    name: &[u8],
-    fd: i32,
+    name: &str,
+    source: &Source,
     taken: &mut u64,
     table: &mut [u32],
     columns: usize,
@@ -76,14 +77,14 @@ fn read_on(
     left: usize,
     line: u64,
 ) -> Turn
-    requires descriptor { Descriptor fd (origin_of opened name.now) }
+    requires descriptor { Descriptor source.now (origin_of opened name.now) }
     requires roomy { Roomy columns table.old }
     requires waiting { Waiting longest_text bytes.old left line taken.old }
     ensures { Turned (origin_of opened name.now) (table_step columns) longest_text
         (reading_in columns 0 line table.old) (take left bytes.old) taken.old result
         (held_in columns table.new result.line) bytes.new taken.new }
 {
-    match read_from(opened, name, fd, taken, &mut bytes[left..]) {
+    match read_from(rt, opened, name, source, taken, &mut bytes[left..]) {
         Arrived::Bytes(n) => piece(table, columns, bytes, left + n, line),
         Arrived::End => last(table, columns, &bytes[..left], line),
         Arrived::Failed => failed(line),
@@ -92,15 +93,16 @@ fn read_on(
 
 // Reads a file into its table, from its beginning.
 fn read_table(
+    rt: &HostRuntime,
     opened: bool,
-    name: &[u8],
-    fd: i32,
+    name: &str,
+    source: &Source,
     taken: &mut u64,
     table: &mut [u32],
     columns: usize,
     bytes: &mut [u8],
 ) -> Turn
-    requires descriptor { Descriptor fd (origin_of opened name.now) }
+    requires descriptor { Descriptor source.now (origin_of opened name.now) }
     requires taken_value { taken.old ≡ 0 }
     requires roomy { Roomy columns table.old }
     requires longest_text_in_bounds { longest_text + 2 < length bytes.old }
@@ -110,7 +112,9 @@ fn read_table(
     let mut left = 0;
     let mut line = 1;
     loop {
-        let turn = read_on(opened, name, fd, taken, table, columns, bytes, left, line);
+        let turn = read_on(
+            rt, opened, name, source, taken, table, columns, bytes, left, line,
+        );
         let state = turn.state;
         if state != READING {
             return turn;
@@ -121,37 +125,39 @@ fn read_table(
 }
 
 // Reads tracks.csv of the current folder. One that can't be opened can't be read.
-pub(crate) fn read_tracks(table: &mut [u32], bytes: &mut [u8]) -> Turn
+pub(crate) fn read_tracks(rt: &HostRuntime, table: &mut [u32], bytes: &mut [u8]) -> Turn
     requires roomy { Roomy 8 table.old }
     requires longest_text_in_bounds { longest_text + 2 < length bytes.old }
     ensures { Done tracks_origin (table_step 8) longest_text [] result (held_in 8 table.new result.line) }
 {
-    let fd = open_file(b"tracks.csv");
+    let source = open_file(rt, "tracks.csv");
     let mut taken = 0;
     let turn = read_table(
+        rt,
         true,
-        b"tracks.csv",
-        fd,
+        "tracks.csv",
+        &source,
         &mut taken,
         table,
         TRACK_COLUMNS,
         bytes,
     );
-    close_file(fd);
+    close_file(source);
     turn
 }
 
 // Reads the movements from standard input.
-pub(crate) fn read_movements(table: &mut [u32], bytes: &mut [u8]) -> Turn
+pub(crate) fn read_movements(rt: &HostRuntime, table: &mut [u32], bytes: &mut [u8]) -> Turn
     requires roomy { Roomy 9 table.old }
     requires longest_text_in_bounds { longest_text + 2 < length bytes.old }
     ensures { Done input (table_step 9) longest_text [] result (held_in 9 table.new result.line) }
 {
     let mut taken = 0;
     read_table(
+        rt,
         false,
-        b"",
-        STANDARD_INPUT,
+        "",
+        &Source::Input,
         &mut taken,
         table,
         MOVEMENT_COLUMNS,

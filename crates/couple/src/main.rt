@@ -28,9 +28,9 @@ const TRACK_CELLS: usize = MAX_FLIGHTS * TRACK_COLUMNS;
 
 const MOVEMENT_CELLS: usize = MAX_FLIGHTS * MOVEMENT_COLUMNS;
 
-fn main() {
+fn main(rt: HostRuntime) {
     let mut sent = 0;
-    let went = run(&mut sent);
+    let went = run(&rt, &mut sent);
     if !went {
         io::write_all(STDERR_FILENO, b"the output could not be written\n");
     }
@@ -38,45 +38,51 @@ fn main() {
 
 // All of it: tracks.csv is read first, and where it is refused the movements are not read. As each function from here
 // on, it answers whether all was taken, and moves the one count of bytes that went.
-fn run(sent: &mut usize) -> bool
+fn run(rt: &HostRuntime, sent: &mut usize) -> bool
     requires { sent.old ≡ 0 }
     ensures { Run MayWrite result sent.new }
 {
     let mut tracks = [0u32; TRACK_CELLS];
     let mut bytes = io::large_buffer();
-    let read = feed::read_tracks(&mut tracks, &mut bytes);
+    let read = feed::read_tracks(rt, &mut tracks, &mut bytes);
     let refusal = read.refusal;
     if refusal != 0 {
-        return refuse(TRACK_COLUMNS, &bytes, read, sent);
+        return refuse(rt, TRACK_COLUMNS, &bytes, read, sent);
     }
-    with_movements(&tracks, read, &mut bytes, sent)
+    with_movements(rt, &tracks, read, &mut bytes, sent)
 }
 
 // A file is refused: its one line, and the sentence that goes with it.
-fn refuse(columns: usize, bytes: &[u8], read: Turn, sent: &mut usize) -> bool
+fn refuse(rt: &HostRuntime, columns: usize, bytes: &[u8], read: Turn, sent: &mut usize) -> bool
     requires may_write { MayWrite (refused_text read.refusal read.line) }
     requires sent_value { sent.old ≡ 0 }
     ensures { Run MayWrite result sent.new }
 {
     let went = print::refused(read.refusal, read.line, sent);
     if went {
-        say::refused(columns, bytes, read);
+        say::refused(rt, columns, bytes, read);
     }
     went
 }
 
 // The movements, where tracks.csv is not refused.
-fn with_movements(tracks: &[u32], read: Turn, bytes: &mut [u8], sent: &mut usize) -> bool
+fn with_movements(
+    rt: &HostRuntime,
+    tracks: &[u32],
+    read: Turn,
+    bytes: &mut [u8],
+    sent: &mut usize,
+) -> bool
     requires table_read { TableRead tracks_origin 8 tracks.now read }
     requires longest_text_in_bounds { longest_text + 2 < length bytes.old }
     requires sent_value { sent.old ≡ 0 }
     ensures { Run MayWrite result sent.new }
 {
     let mut movements = [0u32; MOVEMENT_CELLS];
-    let next = feed::read_movements(&mut movements, bytes);
+    let next = feed::read_movements(rt, &mut movements, bytes);
     let refusal = next.refusal;
     if refusal != 0 {
-        return refuse(MOVEMENT_COLUMNS, bytes, next, sent);
+        return refuse(rt, MOVEMENT_COLUMNS, bytes, next, sent);
     }
     coupled(tracks, read, &movements, next, bytes, sent)
 }

@@ -24,18 +24,18 @@ struct Counts {
 }
 
 // The file of so many columns is refused.
-pub(crate) fn refused(columns: usize, bytes: &[u8], read: Turn) {
+pub(crate) fn refused(rt: &HostRuntime, columns: usize, bytes: &[u8], read: Turn) {
     if columns == TRACK_COLUMNS {
-        named(TRACKS, b"tracks.csv", columns, bytes, read);
+        named(rt, TRACKS, b"tracks.csv", columns, bytes, read);
         return;
     }
-    named(MOVEMENTS, b"movements", columns, bytes, read);
+    named(rt, MOVEMENTS, b"movements", columns, bytes, read);
 }
 
 // By the name that was typed.
-fn named(place: usize, plain: &[u8], columns: usize, bytes: &[u8], read: Turn) {
+fn named(rt: &HostRuntime, place: usize, plain: &[u8], columns: usize, bytes: &[u8], read: Turn) {
     let mut name = io::buffer();
-    let n = argument(place, &mut name);
+    let n = argument(rt, place, &mut name);
     if n == 0 {
         told(plain, columns, bytes, read);
         return;

@@ -59,7 +59,8 @@ module _ {columns : ℕ} {flat : List ℕ} (room : Roomy columns flat) (n : ℕ)
   pub flights_in_rule : 8 ≤ columns → flights_in flat n ≡ flights_of (rows_in columns flat n)
   flights_in_rule h =
       flights_same (column_in_rule 1 (omega arith)) (column_in_rule 2 (omega arith)) (column_in_rule 3 (omega arith))
-      (column_in_rule 4 (omega arith)) (column_in_rule 5 (omega arith)) (column_in_rule 6 (omega arith)) (column_in_rule 7 (omega arith))
+      (column_in_rule 4 (omega arith)) (column_in_rule 5 (omega arith)) (column_in_rule 6 (omega arith))
+      (column_in_rule 7 (omega arith))
 
   pub movements_in_rule : 9 ≤ columns → movements_in flat n ≡ movements_of (rows_in columns flat n)
   movements_in_rule h = movements_same (flights_in_rule (omega arith)) (column_in_rule 8 (omega arith))
@@ -115,4 +116,5 @@ module _ (rows : Rows) (few : length rows ≤ max_flights)
 
   pub movements_fit_rule : movements_fit (movements_of rows) ≡ true
   unfolding movements_fit
-  movements_fit_rule = rw (flights_fit_rule, eq-eqb (length (column_of 8 rows)) (length (column_of 1 rows)) (same 8)) refl
+  movements_fit_rule = rw (flights_fit_rule, eq-eqb (length (column_of 8 rows)) (length (column_of 1 rows)) (same 8))
+      refl

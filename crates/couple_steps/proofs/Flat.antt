@@ -75,7 +75,8 @@ module _ {t : Turn} (flat : List ℕ) (w : ReadWhole input (table_step 9) [] t (
 
   pub moves_ready : Roomy 9 flat → movements_fit (movements_in flat (t.line - 2)) ≡ true
   moves_ready room =
-      subst (λ (m : Movements). movements_fit m ≡ true) (sym (movements_in_rule room (t.line - 2) moves_few (omega arith)))
+      subst (λ (m : Movements). movements_fit m ≡ true)
+      (sym (movements_in_rule room (t.line - 2) moves_few (omega arith)))
       moves_row_fit
 
 -- The sheet of two tables
@@ -138,7 +139,8 @@ module _ (ids numbers room : List ℕ) (m n : ℕ) (fits : Roomy 9 ids) (also : 
       → flight_line ids numbers answers i
       ≡ flight_line (column_of 0 (rows_in 9 ids m)) (column_of 0 (rows_in 8 numbers n)) given i
   line_same i h =
-      let track : track_text numbers (get_or answers i 0) ≡ track_text (column_of 0 (rows_in 8 numbers n)) (get_or given i 0) =
+      let track : track_text numbers (get_or answers i 0)
+      ≡ track_text (column_of 0 (rows_in 8 numbers n)) (get_or given i 0) =
       ap (track_text numbers) (answer_at i h) ∙ track_same numbers n (get_or given i 0) (answer_most i h) in
       ap (λ (id : ℕ). line (show_number id ∷ track_text numbers (get_or answers i 0) ∷ []))
       (first_column_lem 9 ids m i (omega arith) h)

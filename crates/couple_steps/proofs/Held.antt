@@ -31,7 +31,8 @@ module _ (columns : ℕ) (heading : List ℕ) (headed : (line : List ℕ) → he
   pub held_long : length (table_of columns file).held ≡ length (rows_of file)
   held_long = ap length is ∙ length-map (rows_of file) (numbers_of columns)
 
-  row_held_rule : (i : ℕ) → i < length (rows_of file) → get_or (table_of columns file).held i [] ≡ numbers_of columns (row i)
+  row_held_rule : (i : ℕ) → i < length (rows_of file) → get_or (table_of columns file).held i []
+      ≡ numbers_of columns (row i)
   row_held_rule i h = ap (λ (rows : Rows). get_or rows i []) is ∙ map_at (numbers_of columns) (rows_of file) i [] [] h
 
   number_held : (i k : ℕ) → i < length (rows_of file) → k < columns

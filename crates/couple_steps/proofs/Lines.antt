@@ -50,7 +50,8 @@ module _ (ids numbers answers : List ℕ) where
   pub id_field : (i : ℕ) → field_of 44 0 (flight_line ids numbers answers i) ≡ show_number (get_or ids i 0)
   id_field i = join_field 44 (fields i) (fields_free 44 (omega arith) i) 0 (omega arith)
 
-  pub track_field : (i : ℕ) → field_of 44 1 (flight_line ids numbers answers i) ≡ track_text numbers (get_or answers i 0)
+  pub track_field : (i : ℕ) → field_of 44 1 (flight_line ids numbers answers i)
+      ≡ track_text numbers (get_or answers i 0)
   track_field i = join_field 44 (fields i) (fields_free 44 (omega arith) i) 1 (omega arith)
 
   pub one_comma : (i : ℕ) → count_of 44 (flight_line ids numbers answers i) ≡ 1

@@ -24,7 +24,8 @@ use Rattle.couple_steps.specs.Table.{Rows, numbers_of, line_refusal, line_after,
 use Rattle.couple_steps.specs.Right.{track_heading, movement_heading, rows_of, Reads, Right, Passes, Fault, Refused}
 
 -- a row on its layout is judged by its date
-dated : (values : List ℕ) (b : Bool) → date_exists (get_or values 1 0) ≡ b → (judged_flight values).refusal ≡ cond b 0 18
+dated : (values : List ℕ) (b : Bool) → date_exists (get_or values 1 0) ≡ b → (judged_flight values).refusal
+    ≡ cond b 0 18
 unfolding judged_flight
 dated values true e = rw e refl
 dated values false e = rw e refl
@@ -86,7 +87,8 @@ module _ (columns : ℕ) (heading : List ℕ) (headed : (line : List ℕ) → he
   unfolding line_refusal
   refused_row more ne = rw (ne_eqb n 1 more, ne_eqb (flight_of columns line).refusal 0 ne) refl
 
-  pub over_row : (n ≡ 1 → ⊥) → (flight_of columns line).refusal ≡ 0 → max_flights + 1 < n → line_refusal columns n line ≡ 18
+  pub over_row : (n ≡ 1 → ⊥) → (flight_of columns line).refusal ≡ 0 → max_flights + 1 < n → line_refusal columns n line
+      ≡ 18
   unfolding line_refusal
   over_row more z over = rw (ne_eqb n 1 more, z, lt-leb n (max_flights + 1) over) refl
 
@@ -217,7 +219,8 @@ module _ (columns : ℕ) where
   rows_held s [] two z = sym (append-nil s.held)
   rows_held s (l ∷ ls) two z =
       either (eqb s.refusal 0)
-      (λ go. let on : (lines_read (table_step columns) (line_read (table_step columns) s l) ls).refusal ≡ 0 = rw go at z in
+      (λ go. let next = line_read (table_step columns) s l in
+      let on : (lines_read (table_step columns) next ls).refusal ≡ 0 = rw go at z in
       let fine = line_fine (table_step columns) s l ls on in
       rw go (rows_held (line_read (table_step columns) s l) ls (omega (arith, fine.1)) on
       ∙ ap (λ (rows : Rows). rows ++ map (numbers_of columns) ls) (one_more s l two fine.0)

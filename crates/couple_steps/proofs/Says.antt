@@ -8,7 +8,8 @@ use lib.{ListN.length, ListN.get_or, Dec.eqb}
 use borrow.Author.Tests.{ne_eqb, eqb-true, eqb-false}
 use Rattle.text.specs.{Line.lines_of, Field.field_of, Field.up_to, Field.joined_by, Number.show_number, Index.listing}
 use Rattle.text.specs.{Spelled.bytes, Sheet.ended, Sheet.refused_text}
-use Rattle.text.proofs.{Digits.either, Shown.whole_number_lem, Indices.length_listing, Indices.listing_at, Sheets.refuses}
+use Rattle.text.proofs.{Digits.either, Shown.whole_number_lem, Indices.length_listing, Indices.listing_at}
+use Rattle.text.proofs.{Sheets.refuses}
 use Rattle.coupling_rules.specs.{Promises.Coupled}
 use Rattle.flights.specs.{Row.flight_of, Spelled.Spells, Spelled.column, Header.header_refusal}
 use Rattle.couple_steps.specs.Table.{table_of, column_of, flights_of, movements_of}
@@ -93,10 +94,12 @@ module _ (tracks movements : List ℕ) (rt : RightTracks tracks) (rm : RightMove
         omega (arith, (c.agrees i j here e).0.there, held_many 8 track_heading track_headed (omega arith) tracks rt) in
         track_field ids numbers answers i ∙ track_number numbers (get_or answers i 0) j e
         ∙ ap show_number (value_held 8 track_heading track_headed (omega arith) tracks rt j 0 low (omega arith))
-        ∙ as_spelled 8 (get_or (rows_of tracks) j []) (spelled 8 track_heading track_headed (omega arith) tracks rt j low)
+        ∙ as_spelled 8 (get_or (rows_of tracks) j [])
+        (spelled 8 track_heading track_headed (omega arith) tracks rt j low)
 
     line_says : (i : ℕ) → i < length (rows_of movements)
-        → LineSays tracks (get_or (rows_of movements) i []) (get_or (lines_of (coupled_text tracks movements)) (suc i) [])
+        → LineSays tracks (get_or (rows_of movements) i [])
+        (get_or (lines_of (coupled_text tracks movements)) (suc i) [])
         (get_or answers i 0)
     line_says i h =
         let is = line_is i h in

@@ -1,5 +1,6 @@
 -- When tracks.csv and the movements are right, and what is wrong with them: RULES, "Radar tracks". Assumes nothing.
-use Rattle.std.specs.Prelude.{◌≡◌, ℕ, ◌+◌, ◌<◌, ◌≤◌, true, false, List, [], length, get_or, drop, ◌≢◌, slice_index, slice_index_or}
+use Rattle.std.specs.Prelude.{◌≡◌, ℕ, ◌+◌, ◌<◌, ◌≤◌, true, false, List, [], length, get_or, drop, ◌≢◌, slice_index}
+use Rattle.std.specs.Prelude.{slice_index_or}
 use Rattle.date.specs.Calendar.{date_exists}
 use Rattle.text.specs.Line.{lines_of}
 use Rattle.text.specs.Spelled.{bytes}
@@ -54,7 +55,8 @@ pub data Refused (columns : ℕ) (header file : List ℕ) (number line : ℕ) : 
   empty : length (lines_of file) ≡ 0 → number ≡ 16 → line ≡ 1 → Refused columns header file number line
   first : (before : ℕ) → before < length (lines_of file) → line ≡ before + 1
       → ((i : ℕ) → i < before → Passes columns header (i + 1) (slice_index_or (lines_of file) i []))
-      → Fault columns header line (slice_index_or (lines_of file) before []) number → Refused columns header file number line
+      → Fault columns header line (slice_index_or (lines_of file) before []) number
+      → Refused columns header file number line
 
 -- A file is refused in one way, and one that is right in none
 pub record RefusedOnce (columns : ℕ) (header file : List ℕ) : Type 0 where

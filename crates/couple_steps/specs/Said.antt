@@ -1,6 +1,7 @@
 -- What a person may count on in what the program couple writes, read back from its own bytes: RULES, "Radar tracks".
 -- Assumes nothing.
-use Rattle.std.specs.Prelude.{◌≡◌, ℕ, suc, ◌+◌, ◌<◌, ◌↔◌, List, [], ◌∷◌, ◌++◌, length, get_or, slice_index, slice_index_or}
+use Rattle.std.specs.Prelude.{◌≡◌, ℕ, suc, ◌+◌, ◌<◌, ◌↔◌, List, [], ◌∷◌, ◌++◌, length, get_or, slice_index}
+use Rattle.std.specs.Prelude.{slice_index_or}
 use Rattle.text.specs.Line.{lines_of}
 use Rattle.text.specs.Field.{count_of, field_of}
 use Rattle.text.specs.Number.{show_number}
@@ -64,7 +65,8 @@ pub record CoupledSays (tracks movements : List ℕ) : Type 0 where
   pub heading : get_or (lines_of (coupled_text tracks movements)) 0 [] ≡ bytes "id,track"
   pub lines : length (lines_of (coupled_text tracks movements)) ≡ 1 + length (rows_of movements)
   pub each : (i : ℕ) → i < length (rows_of movements)
-      → LineSays tracks (slice_index_or (rows_of movements) i []) (slice_index_or (lines_of (coupled_text tracks movements)) (suc i) [])
+      → LineSays tracks (slice_index_or (rows_of movements) i [])
+      (slice_index_or (lines_of (coupled_text tracks movements)) (suc i) [])
       (slice_index answer i)
   -- the last line has its CRLF too
   pub before : List ℕ

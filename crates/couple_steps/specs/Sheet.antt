@@ -18,7 +18,8 @@ track_text numbers answer = cond (answer == 0) [] (show_number (slice_index numb
 
 -- the line of movement i: its id, and the number of its track
 abbrev pub flight_line : (ids numbers answers : List ℕ) (i : ℕ) → List ℕ
-flight_line ids numbers answers i = line (show_number (slice_index ids i) ∷ track_text numbers (slice_index answers i) ∷ [])
+flight_line ids numbers answers i = line (show_number (slice_index ids i) ∷ track_text numbers (slice_index answers i)
+    ∷ [])
 
 -- a heading, and a line for each movement in the order given
 unfoldable pub sheet_text : (ids numbers answers : List ℕ) (many : ℕ) → List ℕ

@@ -48,7 +48,8 @@ fn put_answered(
     days: u32,
 ) -> usize
     requires point_lt_max_points { (point < max_points) × (at + longest_point ≤ length out.old) }
-    requires days_value { (book_load points point (book_lent ids.now groups.now marks.now counts.now levels.now) days).refused ≡ 0 }
+    requires days_value { (book_load points point
+        (book_lent ids.now groups.now marks.now counts.now levels.now) days).refused ≡ 0 }
     ensures { WroteWithin longest_point out.old at
         (ended (lines_at points point (book_lent ids.now groups.now marks.now counts.now levels.now))) out.new result }
 {

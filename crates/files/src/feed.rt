@@ -68,7 +68,8 @@ fn last(
     requires unended { Unended bytes.now }
     requires le_line { 1 ≤ line }
     requires bytes_bound { line + length bytes.now < 2 ^ 64 }
-    ensures { Lasted (register_step points) (reading_at 0 line (book_lent ids.old groups.old marks.old counts.old levels.old))
+    ensures { Lasted (register_step points)
+        (reading_at 0 line (book_lent ids.old groups.old marks.old counts.old levels.old))
         bytes.now result (book_lent ids.new groups.new marks.new counts.new levels.new)
         × (sound points (book_lent ids.new groups.new marks.new counts.new levels.new) ≡ true) }
 {
@@ -142,7 +143,8 @@ pub(crate) fn read_register(
 ) -> Turn
     requires levels_value { sound points (book_lent ids.old groups.old marks.old counts.old levels.old) ≡ true }
     requires longest_line_in_bounds { longest_line < length bytes.old }
-    ensures { Done input (register_step points) longest_row (book_lent ids.old groups.old marks.old counts.old levels.old) result
+    ensures { Done input (register_step points) longest_row
+        (book_lent ids.old groups.old marks.old counts.old levels.old) result
         (book_lent ids.new groups.new marks.new counts.new levels.new) }
 {
     let mut taken = 0;

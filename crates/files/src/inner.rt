@@ -89,7 +89,8 @@ fn report(
     limits: LimitsFile,
     out: &mut [u8],
 ) -> usize
-    requires levels_value { book_lent ids.old groups.old marks.old counts.old levels.old ≡ empty_book max_points book_rows }
+    requires levels_value { book_lent ids.old groups.old marks.old counts.old levels.old
+        ≡ empty_book max_points book_rows }
     requires limits_fit { LimitsFit limits × (longest_text ≤ length out.old) }
     ensures { AnsweredIn (telling_of kind) limits out.new result }
 {
@@ -119,7 +120,8 @@ fn report_in(
     limits: LimitsFile,
     out: &mut [u8],
 ) -> usize
-    requires levels_value { book_lent ids.old groups.old marks.old counts.old levels.old ≡ empty_book limits.points book_rows }
+    requires levels_value { book_lent ids.old groups.old marks.old counts.old levels.old
+        ≡ empty_book limits.points book_rows }
     requires limits_fit { LimitsFit limits × (longest_text ≤ length out.old) }
     ensures { AnsweredIn (telling_of kind) limits out.new result }
 {
@@ -147,7 +149,8 @@ fn answer_read(
     out: &mut [u8],
 ) -> usize
     requires { LimitsFit limits × (longest_text ≤ length out.old) }
-    ensures { Sized (telling_of kind) limits (turned_to read (book_lent ids.now groups.now marks.now counts.now levels.now))
+    ensures { Sized (telling_of kind) limits
+        (turned_to read (book_lent ids.now groups.now marks.now counts.now levels.now))
         out.new result }
 {
     let refusal = read.refusal;
@@ -181,7 +184,8 @@ fn put_told(
     limits: LimitsFile,
 ) -> Report
     requires { LimitsFit limits × (longest_text ≤ length out.old) }
-    ensures { Told (telling_of kind) limits (book_lent ids.now groups.now marks.now counts.now levels.now) out.old result
+    ensures { Told (telling_of kind) limits (book_lent ids.now groups.now marks.now counts.now levels.now) out.old
+        result
         out.new }
 {
     if kind == EXPLAIN {

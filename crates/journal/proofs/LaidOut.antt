@@ -56,14 +56,16 @@ call_front : (j : List ℕ) → 1 ≤ width_of j → width_of j ≤ length j
     → spelled (call_at j) ++ drop (width_of j) j ≡ j
 unfolding width_of call_at spelled
 call_front j some all =
-    by (eqb (get_or j 0 0) 1) (eqb (get_or j 0 0) 2) (eqb (get_or j 0 0) 3) (eqb (get_or j 0 0) 4) refl refl refl refl some all
+    by (eqb (get_or j 0 0) 1) (eqb (get_or j 0 0) 2) (eqb (get_or j 0 0) 3) (eqb (get_or j 0 0) 4) refl refl refl refl
+    some all
   where
     by : (a b c d : Bool) → eqb (get_or j 0 0) 1 ≡ a → eqb (get_or j 0 0) 2 ≡ b → eqb (get_or j 0 0) 3 ≡ c
         → eqb (get_or j 0 0) 4 ≡ d
         → 1 ≤ cond a (7 + get_or j 6 0) (cond b (3 + get_or j 2 0) (cond (c || d) 2 0))
         → cond a (7 + get_or j 6 0) (cond b (3 + get_or j 2 0) (cond (c || d) 2 0)) ≤ length j
         → spelled
-        (cond a (enter (get_or j 1 0) (get_or j 2 0) (get_or j 3 0) (get_or j 4 0) (get_or j 5 0) (take (get_or j 6 0) (drop 7 j)))
+        (cond a (enter (get_or j 1 0) (get_or j 2 0) (get_or j 3 0) (get_or j 4 0) (get_or j 5 0)
+        (take (get_or j 6 0) (drop 7 j)))
         (cond b (supply (get_or j 1 0) (take (get_or j 2 0) (drop 3 j)))
         (cond c (take_back (get_or j 1 0)) (withdraw (get_or j 1 0)))))
         ++ drop (cond a (7 + get_or j 6 0) (cond b (3 + get_or j 2 0) (cond (c || d) 2 0))) j

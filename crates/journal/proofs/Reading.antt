@@ -164,11 +164,13 @@ module _ (j : List ℕ) where
       → width_of j ≡ 0
   unfolding width_of
   width_none a b d e =
-      rw (ne_eqb (get_or j 0 0) 1 a, ne_eqb (get_or j 0 0) 2 b, ne_eqb (get_or j 0 0) 3 d, ne_eqb (get_or j 0 0) 4 e) refl
+      rw (ne_eqb (get_or j 0 0) 1 a, ne_eqb (get_or j 0 0) 2 b, ne_eqb (get_or j 0 0) 3 d, ne_eqb (get_or j 0 0) 4 e)
+      refl
 
   pub call_enter : get_or j 0 0 ≡ 1
       → call_at j
-      ≡ enter (get_or j 1 0) (get_or j 2 0) (get_or j 3 0) (get_or j 4 0) (get_or j 5 0) (take (get_or j 6 0) (drop 7 j))
+      ≡ enter (get_or j 1 0) (get_or j 2 0) (get_or j 3 0) (get_or j 4 0) (get_or j 5 0)
+      (take (get_or j 6 0) (drop 7 j))
   unfolding call_at
   call_enter e = rw e refl
 

@@ -1,7 +1,8 @@
 -- A journal: a sequence of calls as numbers, one after the other, and what making them all gives. Assumes nothing.
 --   1 enter: identity, type, kind, time, mass, how many yes and no follow, those
 --   2 supply: identity, how many levels follow, those levels     3 take back: identity     4 withdraw: identity
-use Rattle.std.specs.Prelude.{◌≡◌, ℕ, zero, suc, ◌+◌, ◌-◌, Bool, true, cond, ◌&&◌, ◌||◌, List, [], ◌∷◌, length, take, drop, ◌==◌, nat_le, slice_index}
+use Rattle.std.specs.Prelude.{◌≡◌, ℕ, zero, suc, ◌+◌, ◌-◌, Bool, true, cond, ◌&&◌, ◌||◌, List, [], ◌∷◌, length, take}
+use Rattle.std.specs.Prelude.{drop, ◌==◌, nat_le, slice_index}
 use Rattle.refusal.specs.Refuse.{refuse}
 use Rattle.room.specs.Room.{leaves}
 use Rattle.book_rules.specs.Columns.{Book, sound}
@@ -21,7 +22,8 @@ width_of j =
 -- an *enter* and a *supply* at the front
 abbrev pub enter_at : List ℕ → Call
 enter_at j =
-    enter (slice_index j 1) (slice_index j 2) (slice_index j 3) (slice_index j 4) (slice_index j 5) (take (slice_index j 6) (drop 7 j))
+    enter (slice_index j 1) (slice_index j 2) (slice_index j 3) (slice_index j 4) (slice_index j 5)
+    (take (slice_index j 6) (drop 7 j))
 
 abbrev pub supply_at : List ℕ → Call
 supply_at j = supply (slice_index j 1) (take (slice_index j 2) (drop 3 j))

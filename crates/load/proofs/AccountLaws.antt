@@ -38,7 +38,8 @@ group_scalable cs b g h =
 pub groups_more : (f : ℕ → Group) (g : ℕ) (room : List ℕ)
     → put (front (groups_to f g) room) (4 * g) (group_numbers (f g)) ≡ front (groups_to f (g + 1)) room
 unfolding groups_to
-groups_more f g room = rw (add-one g) (front_grows (groups_to f g) room (4 * g) (group_numbers (f g)) (length_groups f g))
+groups_more f g room =
+    rw (add-one g) (front_grows (groups_to f g) room (4 * g) (group_numbers (f g)) (length_groups f g))
 
 -- the numbers of the whole behind those of all groups
 pub account_front : (cs : List (List (List Group))) (s : Sums) → s ≡ sums_of (group_at cs) group_count

@@ -37,8 +37,10 @@ sum_le_length w b (s ∷ ss) = omega (arith, b s, sum_le_length w b ss)
 
 tally_le : (ss : List Share) (g : ℕ) → ((tally ss g).computed ≤ length ss) × ((tally ss g).missing ≤ length ss)
 unfolding tally
-tally_le ss g =
-    (sum_le_length (adds_computed g) (λ s. (adds_le g s).0) ss, sum_le_length (adds_missing g) (λ s. (adds_le g s).1) ss)
+tally_le ss g = (
+  sum_le_length (adds_computed g) (λ s. (adds_le g s).0) ss,
+  sum_le_length (adds_missing g) (λ s. (adds_le g s).1) ss,
+)
 
 abbrev Small : Share → Type 0
 Small (has g e) = e ≤ max_energy

@@ -32,7 +32,8 @@ pub fn account_at(
     days: u32,
     answer: &mut [u64],
 ) -> u32
-    ensures { Writes (book_load points point (book_lent ids.now groups.now marks.now counts.now levels.now) days).refused
+    ensures { Writes
+        (book_load points point (book_lent ids.now groups.now marks.now counts.now levels.now) days).refused
         (account_of points point (book_lent ids.now groups.now marks.now counts.now levels.now) days)
         answer.old result answer.new }
 {

@@ -79,7 +79,8 @@ pub(crate) fn point_fits(
     points: usize,
     point: usize,
 ) -> bool
-    ensures { result ≡ (sound points (book_lent ids.now groups.now marks.now counts.now levels.now) && nat_lt point points) }
+    ensures { result
+        ≡ (sound points (book_lent ids.now groups.now marks.now counts.now levels.now) && nat_lt point points) }
 {
     if !soundness::is_sound(ids, groups, marks, counts, levels, points) {
         return false;
@@ -110,7 +111,8 @@ fn load_of(
     requires levels_value { sound points (book_lent ids.now groups.now marks.now counts.now levels.now) ≡ true }
     requires point_lt_points { point < points }
     requires days_value { days_fit days ≡ true }
-    ensures { result ≡ load_of true (book_shares points point (book_lent ids.now groups.now marks.now counts.now levels.now)) days }
+    ensures { result
+        ≡ load_of true (book_shares points point (book_lent ids.now groups.now marks.now counts.now levels.now)) days }
 {
     answer_from(
         groups_of(ids, groups, marks, counts, levels, points, point),

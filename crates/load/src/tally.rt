@@ -108,7 +108,8 @@ fn with_rows(
     requires start_value { (start ≡ flat (tally [])) × (Tables a.now powers.now) }
     requires levels_value { sound points (book_lent ids.now groups.now marks.now counts.now levels.now) ≡ true }
     requires point_lt_points { point < points }
-    ensures { result ≡ flat (tally (book_shares points point (book_lent ids.now groups.now marks.now counts.now levels.now))) }
+    ensures { result
+        ≡ flat (tally (book_shares points point (book_lent ids.now groups.now marks.now counts.now levels.now))) }
 {
     let mut cells = start;
     let mut i = 0;
@@ -141,7 +142,8 @@ fn tallied(
     requires start_value { (start ≡ table (tally [])) × (Tables a.now powers.now) }
     requires levels_value { sound points (book_lent ids.now groups.now marks.now counts.now levels.now) ≡ true }
     requires point_lt_points { point < points }
-    ensures { result ≡ table (tally (book_shares points point (book_lent ids.now groups.now marks.now counts.now levels.now))) }
+    ensures { result
+        ≡ table (tally (book_shares points point (book_lent ids.now groups.now marks.now counts.now levels.now))) }
 {
     arranged(with_rows(
         side_by_side(start),
@@ -169,7 +171,8 @@ pub(crate) fn groups_of(
 ) -> Groups
     requires levels_value { sound points (book_lent ids.now groups.now marks.now counts.now levels.now) ≡ true }
     requires point_lt_points { point < points }
-    ensures { result ≡ table (tally (book_shares points point (book_lent ids.now groups.now marks.now counts.now levels.now))) }
+    ensures { result
+        ≡ table (tally (book_shares points point (book_lent ids.now groups.now marks.now counts.now levels.now))) }
 {
     let a = level::tables::table_a();
     let powers = level::tables::powers();

@@ -63,7 +63,8 @@ module _ (f : ℕ → Group) where
     unfolding account_from
     account_group g j h k =
         let long = length_groups group_count in
-        get_or-append (groups_to f group_count) whole 0 (4 * g + j) (omega arith) ∙ group_number_rule group_count g j h k
+        get_or-append (groups_to f group_count) whole 0 (4 * g + j) (omega arith)
+        ∙ group_number_rule group_count g j h k
 
     pub account_whole : (j : ℕ) → get_or (account_from f days) (whole_from + j) 0 ≡ get_or whole j 0
     unfolding account_from

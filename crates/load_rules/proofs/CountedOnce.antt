@@ -230,7 +230,8 @@ module _ (p pt n : ℕ) (cs : List Made) where
   unfolding list_verdict
   verdict_refusals days limit =
       rw (verdict_afresh days limit)
-      (verdict_numbers_rule (sizes_fit p n && ltb pt p) (shares_of pt (standing_at p n pt cs)) days (range_exactly p n pt)
+      (verdict_numbers_rule (sizes_fit p n && ltb pt p) (shares_of pt (standing_at p n pt cs)) days
+      (range_exactly p n pt)
       (days_exactly days) (ten_exactly pt (standing_at p n pt cs)) limit (limit_exactly limit))
 
   alone : (days : ℕ) → ¬ ((book_load p pt book days).refused ≡ 0) → Alone (book_load p pt book days)
@@ -253,6 +254,7 @@ module _ (p pt n : ℕ) (cs : List Made) where
 
 -- a book with no movement: total 0, and below zero
 pub no_movement : (days : ℕ) → days_fit days ≡ true → load_of true [] days ≡ refused_load 0
-unfolding load_of load_refusal none_computed any_computed answer refused_load total_of general_factor scaled_by known_sum
+unfolding load_of load_refusal none_computed any_computed answer refused_load total_of general_factor scaled_by
+    known_sum
     sum_to known tally sum_of level_of
 no_movement days fit = rw (fit, zero-div (86400 * days)) refl

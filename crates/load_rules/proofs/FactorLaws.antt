@@ -82,7 +82,8 @@ module _ (f : ℕ → Counts) where
       k = sum_to (λ g. known (f g)) n
 
       added : Fraction
-      added = plus (weight_to f n) (times (times (whole_fraction (f n).computed) (group_factor (f n))) (general_factor f))
+      added = plus (weight_to f n)
+          (times (times (whole_fraction (f n).computed) (group_factor (f n))) (general_factor f))
 
       go : (t : Bool) → eqb (f n).computed 0 ≡ t → zero < (weight_to f n).lower
           → (weight_to f n).upper * (general_factor f).lower ≡ k * (general_factor f).upper * (weight_to f n).lower

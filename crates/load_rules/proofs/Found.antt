@@ -100,7 +100,8 @@ module _ (p pt g : ℕ) where
       go false e c d (holds ls) =
           rw e ((each_brings pt).elsewhere g (movement x h cs (holds ls)) (eqb-false h g e))
       go true e false d none =
-          rw (e, d) ((each_brings pt).not_there g (movement x h cs none) (omega (arith, eqb-false (get_or cs pt 0) 1 d)))
+          rw (e, d)
+          ((each_brings pt).not_there g (movement x h cs none) (omega (arith, eqb-false (get_or cs pt 0) 1 d)))
       go true e false d (holds ls) =
           rw (e, d)
           ((each_brings pt).not_there g (movement x h cs (holds ls)) (omega (arith, eqb-false (get_or cs pt 0) 1 d)))
@@ -131,7 +132,8 @@ counting_found p pt (a ∷ ms) s = go (eqb (get_or a.counts pt 0) 1) refl a.held
     there : ℕ
     there = get_or a.counts pt 0
 
-    length_all : (c : Bool) → eqb there 1 ≡ c → length (counting_at pt (a ∷ ms)) ≡ cond c 1 0 + length (counting_at pt ms)
+    length_all : (c : Bool) → eqb there 1 ≡ c → length (counting_at pt (a ∷ ms))
+        ≡ cond c 1 0 + length (counting_at pt ms)
     length_all true e = ap length (counting_kept pt a ms (λ z. omega (arith, eqb-true there 1 e))) ∙ omega arith
     length_all false e =
         let most : there ≤ 1 = within_at 1 a.counts pt s.0.counted.within in
@@ -197,7 +199,8 @@ module _ (p pt : ℕ) (b : Book) (ok : (sound p b ≡ true) × (pt < p)) where
 
   -- V, U and S of each group
   pub tally_found : (g : ℕ) → tally (book_shares p pt b) g
-      ≡ group_with (over_all p b (marked_there pt g 1)) (over_all p b (marked_there pt g 0)) (over_all p b (energy_there pt g))
+      ≡ group_with (over_all p b (marked_there pt g 1)) (over_all p b (marked_there pt g 0))
+      (over_all p b (energy_there pt g))
   unfolding tally
   tally_found g =
       let each : tally (book_shares p pt b) g ≡ tally (shares_of pt here) g = ap (λ ss. tally ss g) shares in

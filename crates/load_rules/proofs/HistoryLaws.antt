@@ -7,7 +7,8 @@ use native.Mathlib.{Nat.zero-mul, Nat.zero-add, Nat.suc-mul, Omega.arith}
 use lib.{ListN.length, ListN.get_or, ListN.replicate, ListN.get_or-append, Seq.get_or-append-add, Dec.eqb}
 use Rattle.movement.specs.Limits.{group_count}
 use Rattle.book_rules.specs.Columns.{book_of}
-use Rattle.book_rules.specs.History.{Held, Movement, mark_of, levels_of, column, identity_cell, rows_of, empty_book, Made}
+use Rattle.book_rules.specs.History.{Held, Movement, mark_of, levels_of, column, identity_cell, rows_of, empty_book}
+use Rattle.book_rules.specs.History.{Made}
 use Rattle.book_rules.specs.History.{booked, movements}
 use Rattle.book_rules.specs.History.Held.{none, holds}
 use Rattle.book_rules.proofs.{Standing.AllGood, History.told_all}

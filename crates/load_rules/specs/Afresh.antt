@@ -1,13 +1,15 @@
 -- Demand 3: a load worked afresh from the list of movements, without rows, and what it says of each movement.
 -- Assumes nothing.
-use Rattle.std.specs.Prelude.{ℕ, zero, suc, ◌+◌, ◌*◌, ◌%◌, ◌^◌, ◌<◌, ◌≡◌, Bool, true, false, cond, not, ◌&&◌, ◌||◌, List, [], ◌∷◌, ◌++◌, ◌↔◌, length, get_or, eqb, ltb}
+use Rattle.std.specs.Prelude.{ℕ, zero, suc, ◌+◌, ◌*◌, ◌%◌, ◌^◌, ◌<◌, ◌≡◌, Bool, true, false, cond, not, ◌&&◌, ◌||◌}
+use Rattle.std.specs.Prelude.{List, [], ◌∷◌, ◌++◌, ◌↔◌, length, get_or, eqb, ltb}
 use Rattle.level.specs.Energy.{energy_of, mean_of}
 use Rattle.level.specs.Level.{level_of, level_given, level_value}
 use Rattle.level.specs.Neighbours.{Quotient}
 use Rattle.movement.specs.Limits.{group_count}
 use Rattle.movement.specs.Period.{weight_of}
 use Rattle.movement.specs.Group.{group_period}
-use Rattle.book_rules.specs.History.{Held, Movement, movement, sizes_fit, has_levels, Made, empty_book, booked, movements}
+use Rattle.book_rules.specs.History.{Held, Movement, movement, sizes_fit, has_levels, Made, empty_book, booked}
+use Rattle.book_rules.specs.History.{movements}
 use Rattle.book_rules.specs.History.Held.{none, holds}
 use Rattle.load_rules.specs.declared.Counts.{Counts}
 use Rattle.load_rules.specs.declared.Load.{Load}
@@ -124,7 +126,8 @@ pub record CountsEach (a : Load) (pt : ℕ) (ms : List Movement) (days : ℕ) : 
       ≡ scaled_by (general_factor (counts_at a))
       (sum_to (λ g. scaled_by (group_factor (counts_at a g)) (energy_of_group pt g ms)) group_count)
   -- which is the rules' formulas 10 and 11
-  pub formulas : TotalHolds (λ g. (counts_at a g).computed) (λ g. (counts_at a g).missing) (λ g. energy_of_group pt g ms)
+  pub formulas : TotalHolds (λ g. (counts_at a g).computed) (λ g. (counts_at a g).missing)
+      (λ g. energy_of_group pt g ms)
       a.total
   -- its level is that of M, and M is that of the total answered, and of 64 bits, for which levels are told
   pub level : a.level ≡ level_of (mean_of a.total days)

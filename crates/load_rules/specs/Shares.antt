@@ -1,7 +1,8 @@
 -- What each movement brings to a point: its group, and its energy there or none.
 -- From the rows of a book, and from the list of movements.
 -- Assumes nothing.
-use Rattle.std.specs.Prelude.{ℕ, zero, suc, ◌+◌, ◌*◌, ◌<◌, ◌≡◌, Bool, true, false, cond, List, [], ◌∷◌, ◌++◌, length, get_or, eqb}
+use Rattle.std.specs.Prelude.{ℕ, zero, suc, ◌+◌, ◌*◌, ◌<◌, ◌≡◌, Bool, true, false, cond, List, [], ◌∷◌, ◌++◌, length}
+use Rattle.std.specs.Prelude.{get_or, eqb}
 use Rattle.level.specs.Energy.{energy_of}
 use Rattle.movement.specs.Period.{weight_of}
 use Rattle.movement.specs.Group.{group_period}

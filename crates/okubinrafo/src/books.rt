@@ -77,7 +77,8 @@ pub extern "C" fn okubinrafo_take_back(
     points: u32,
     identity: u32,
 ) -> u32
-    ensures { Called points (book_lent identities.now groups.now marks.old counts.now levels.old) (Call.take_back identity) result
+    ensures { Called points (book_lent identities.now groups.now marks.old counts.now levels.old)
+        (Call.take_back identity) result
         (book_lent identities.now groups.now marks.new counts.now levels.new) }
 {
     book::take_back(
@@ -102,7 +103,8 @@ pub extern "C" fn okubinrafo_withdraw(
     points: u32,
     identity: u32,
 ) -> u32
-    ensures { Called points (book_lent identities.old groups.old marks.old counts.old levels.old) (Call.withdraw identity) result
+    ensures { Called points (book_lent identities.old groups.old marks.old counts.old levels.old)
+        (Call.withdraw identity) result
         (book_lent identities.new groups.new marks.new counts.new levels.new) }
 {
     book::withdraw(

@@ -65,8 +65,10 @@ pub extern "C" fn okubinrafo_load(
     days: u32,
     answer: &mut [u64],
 ) -> u32
-    ensures { Writes (book_load points point (book_lent identities.now groups.now marks.now counts.now levels.now) days).refused
-        (load_numbers (book_load points point (book_lent identities.now groups.now marks.now counts.now levels.now) days))
+    ensures { Writes
+        (book_load points point (book_lent identities.now groups.now marks.now counts.now levels.now) days).refused
+        (load_numbers
+            (book_load points point (book_lent identities.now groups.now marks.now counts.now levels.now) days))
         answer.old result answer.new }
 {
     let load = load::load_at(
@@ -105,7 +107,8 @@ pub extern "C" fn okubinrafo_account(
     days: u32,
     answer: &mut [u64],
 ) -> u32
-    ensures { Writes (book_load points point (book_lent identities.now groups.now marks.now counts.now levels.now) days).refused
+    ensures { Writes
+        (book_load points point (book_lent identities.now groups.now marks.now counts.now levels.now) days).refused
         (account_of points point (book_lent identities.now groups.now marks.now counts.now levels.now) days)
         answer.old result answer.new }
 {
@@ -148,8 +151,12 @@ pub extern "C" fn okubinrafo_verdict(
     answer: &mut [u32],
 ) -> u32
     ensures { Writes
-        (refusal_number (book_verdict points point (book_lent identities.now groups.now marks.now counts.now levels.now) days limit))
-        (verdict_numbers (book_verdict points point (book_lent identities.now groups.now marks.now counts.now levels.now) days limit))
+        (refusal_number
+            (book_verdict points point (book_lent identities.now groups.now marks.now counts.now levels.now) days
+            limit))
+        (verdict_numbers
+            (book_verdict points point (book_lent identities.now groups.now marks.now counts.now levels.now) days
+            limit))
         answer.old result answer.new }
 {
     let judged = load::verdict_at(

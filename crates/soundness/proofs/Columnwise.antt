@@ -5,7 +5,8 @@ use mathlib.Core.{Bool.◌&&◌, Bool.◌||◌, Bool.and-true, Bool.and-false, B
 use mathlib.Core.List.{List, [], ◌∷◌}
 use Prim.Native.Nat.{ℕ, zero, suc, ◌+◌, ◌-◌, ◌*◌, ◌≤◌, ◌<◌}
 use native.Mathlib.{Nat.zero-mul, Nat.suc-mul, Omega.arith}
-use lib.{ListN.length, ListN.take, ListN.drop, ListN.get_or, ListN.length-drop, Seq.drop-drop, Dec.eqb, Dec.leb, Dec.ltb}
+use lib.{ListN.length, ListN.take, ListN.drop, ListN.get_or, ListN.length-drop, Seq.drop-drop, Dec.eqb, Dec.leb}
+use lib.{Dec.ltb}
 use borrow.Author.Tests.{lt-ltb, lt-leb, ne_eqb}
 use Rattle.refusal.specs.Range.{all_within}
 use Rattle.refusal.proofs.Laws.{and_left, and_right, nil_of_lem}
@@ -81,7 +82,8 @@ cut : (b w t d : Bool) → w ≡ (t && d) → (b && w) ≡ ((b && t) && d)
 cut true w t d e = e
 cut false w t d e = refl
 
-within_split : (top n : ℕ) (xs : List ℕ) → all_within top xs ≡ (all_within top (take n xs) && all_within top (drop n xs))
+within_split : (top n : ℕ) (xs : List ℕ) → all_within top xs
+    ≡ (all_within top (take n xs) && all_within top (drop n xs))
 unfolding all_within
 within_split top zero xs = refl
 within_split top (suc n) [] = refl

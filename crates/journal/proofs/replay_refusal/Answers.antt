@@ -35,7 +35,13 @@ pub count_calls-requires : goal.count_calls-requires
 count_calls-requires c = settled c.is_laid_out.ensures c.if-not-is_laid_out.false
 
 pub returns-then-room-count_calls : goal.returns-then-room-count_calls
-returns-then-room-count_calls c = rw (past (goal.at.returns-then-room-count_calls c).Else-not-is_sound, ← c.count_calls.ensures, lt-leb _ _ c.if-room-count_calls.true)
+returns-then-room-count_calls c =
+    rw (
+      past (goal.at.returns-then-room-count_calls c).Else-not-is_sound,
+      ← c.count_calls.ensures,
+      lt-leb _ _ c.if-room-count_calls.true,
+    )
 
 pub returns : goal.returns
-returns c = rw (past (goal.at.returns c).Else-not-is_sound, ← c.count_calls.ensures, le-leb _ _ c.if-room-count_calls.false)
+returns c =
+    rw (past (goal.at.returns c).Else-not-is_sound, ← c.count_calls.ensures, le-leb _ _ c.if-room-count_calls.false)

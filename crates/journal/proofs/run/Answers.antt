@@ -11,8 +11,10 @@ use Rattle.journal.proofs.run.Goals as goal
 use Rattle.journal.proofs.run.Goals.{After-width_of-width}
 
 pub loop-at-init : goal.loop-at-init
-loop-at-init c =
-    (replay_starts _ _ _ _ c.requires.levels_value c.requires.journal_value, (refl, (refl, (refl, (refl, (refl, refl))))))
+loop-at-init c = (
+  replay_starts _ _ _ _ c.requires.levels_value c.requires.journal_value,
+  (refl, (refl, (refl, (refl, (refl, refl))))),
+)
 
 -- the call at `at` is complete
 step : (c : After-width_of-width)
@@ -24,7 +26,8 @@ step c =
 -- there is an answer's room for it
 space : (c : After-width_of-width)
     → let a = c.args in
-    length (all a.points (book_lent a.ids.now a.groups.now a.marks.now a.counts.now a.levels.now) a.journal.now) ≤ length a.answers.now
+    length (all a.points (book_lent a.ids.now a.groups.now a.marks.now a.counts.now a.levels.now) a.journal.now)
+    ≤ length a.answers.now
 space c =
     let a = c.args in
     omega (
@@ -57,7 +60,8 @@ make_call-answer-requires c =
 
 pub offset_bounds-answers-made : goal.offset_bounds-answers-made
 offset_bounds-answers-made c =
-    let b = below (goal.at.offset_bounds-answers-made c).After-width_of-width in let e = c.loop-at.invariant.1 in omega arith
+    let b = below (goal.at.offset_bounds-answers-made c).After-width_of-width in let e = c.loop-at.invariant.1 in
+    omega arith
 
 pub overflow_add-made : goal.overflow_add-made
 overflow_add-made c =
@@ -74,7 +78,8 @@ loop-at-smaller c =
 pub loop-at-preserved : goal.loop-at-preserved
 loop-at-preserved c =
     let inv = c.loop-at.invariant in (
-      replay_more inv.0 (step (goal.at.loop-at-preserved c).After-width_of-width) (space (goal.at.loop-at-preserved c).After-width_of-width) c.make_call-answer.ensures,
+      replay_more inv.0 (step (goal.at.loop-at-preserved c).After-width_of-width)
+          (space (goal.at.loop-at-preserved c).After-width_of-width) c.make_call-answer.ensures,
       (
         search rules,
         (search rules, (search rules, (search rules, (search rules, simp length-set (omega (arith, inv.1)))))),

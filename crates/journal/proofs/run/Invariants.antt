@@ -7,7 +7,8 @@ use Rattle.journal.proofs.run.Given as goal
 
 abbrev pub invariant-loop-at : goal.invariant-loop-at
 invariant-loop-at l =
-    Replaying l.points (book_of l.initial.ids l.initial.groups l.initial.marks l.initial.counts l.initial.levels) l.journal l.initial.answers l.at l.made
+    Replaying l.points (book_of l.initial.ids l.initial.groups l.initial.marks l.initial.counts l.initial.levels)
+    l.journal l.initial.answers l.at l.made
     (book_of l.ids l.groups l.marks l.counts l.levels) l.answers
     × ((length l.ids ≡ length l.initial.ids)
     × ((length l.groups ≡ length l.initial.groups)

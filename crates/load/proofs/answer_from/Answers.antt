@@ -23,7 +23,8 @@ none c =
 pub returns-then-none_computed : goal.returns-then-none_computed
 returns-then-none_computed c =
     c.refusal.ensures
-    ∙ sym (from_refused (group_at c.args.groups) c.args.days (sym (none (goal.at.returns-then-none_computed c).After-none_computed)
+    ∙ sym (from_refused (group_at c.args.groups) c.args.days
+    (sym (none (goal.at.returns-then-none_computed c).After-none_computed)
     ∙ c.if-none_computed.true))
 
 pub returns : goal.returns
@@ -31,9 +32,14 @@ returns c =
     let same = sums_totals c.args.groups c.summed-sums.result c.summed-sums.ensures c.args.days
     c.totals_of-totals.ensures in
     from_answered (group_at c.args.groups) c.args.days c.totals_of-totals.result.total
-    c.totals_of-totals.result.level c.counts_of-counts.result (sym (none (goal.at.returns c).After-none_computed) ∙ c.if-none_computed.false) same.0 same.1
+    c.totals_of-totals.result.level c.counts_of-counts.result
+    (sym (none (goal.at.returns c).After-none_computed) ∙ c.if-none_computed.false) same.0 same.1
     c.counts_of-counts.ensures
 
 pub totals_of-totals-requires : goal.totals_of-totals-requires
 totals_of-totals-requires c =
-    record { scalable = fits (goal.at.totals_of-totals-requires c).After-summed-sums; days_value = c.requires.days_value }
+    record {
+      scalable = fits (goal.at.totals_of-totals-requires c).After-summed-sums;
+      days_value =
+          c.requires.days_value;
+    }

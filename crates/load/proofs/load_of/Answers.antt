@@ -17,7 +17,10 @@ pub answer_from-requires : goal.answer_from-requires
 unfolding book_shares
 answer_from-requires c =
     record {
-      bounded = rw c.groups_of.ensures (rows_bounded c.args.points c.args.point (book (goal.at.answer_from-requires c).Start) c.requires.levels_value c.requires.point_lt_points);
+      bounded =
+          rw c.groups_of.ensures
+          (rows_bounded c.args.points c.args.point (book (goal.at.answer_from-requires c).Start) c.requires.levels_value
+          c.requires.point_lt_points);
       days_value = c.requires.days_value;
     }
 
@@ -29,5 +32,6 @@ returns c =
     ∙ ap (λ cs. load_from (group_at cs) c.args.days) c.groups_of.ensures
     ∙ from_table_rule (tally ss) c.args.days
     ∙ from_shares ss c.args.days c.requires.days_value
-    (rows_grouped c.args.points c.args.point (book (goal.at.returns c).Start) c.requires.levels_value c.requires.point_lt_points
+    (rows_grouped c.args.points c.args.point (book (goal.at.returns c).Start) c.requires.levels_value
+    c.requires.point_lt_points
     (length c.args.ids.now) (omega arith))

@@ -68,8 +68,10 @@ pub fn take_lines(
 ) -> Feed
     requires levels_value { sound points (book_lent ids.old groups.old marks.old counts.old levels.old) ≡ true }
     requires bytes_bound { line + length bytes.now < 2 ^ 64 }
-    ensures { LinesTaken (register_step points) (reading_at 0 line (book_lent ids.old groups.old marks.old counts.old levels.old))
-        bytes.now result.at (reading_at result.refusal result.line (book_lent ids.new groups.new marks.new counts.new levels.new))
+    ensures { LinesTaken (register_step points)
+        (reading_at 0 line (book_lent ids.old groups.old marks.old counts.old levels.old))
+        bytes.now result.at
+        (reading_at result.refusal result.line (book_lent ids.new groups.new marks.new counts.new levels.new))
         × (sound points (book_lent ids.new groups.new marks.new counts.new levels.new) ≡ true) }
 {
     let mut at = 0;
@@ -119,7 +121,8 @@ pub fn take_last(
     requires unended { Unended bytes.now }
     requires le_line { 1 ≤ line }
     requires bytes_bound { line + length bytes.now < 2 ^ 64 }
-    ensures { LastTaken (register_step points) (reading_at 0 line (book_lent ids.old groups.old marks.old counts.old levels.old))
+    ensures { LastTaken (register_step points)
+        (reading_at 0 line (book_lent ids.old groups.old marks.old counts.old levels.old))
         bytes.now (reading_at result.refusal result.line (book_lent ids.new groups.new marks.new counts.new levels.new))
         × (sound points (book_lent ids.new groups.new marks.new counts.new levels.new) ≡ true) }
 {
@@ -170,7 +173,8 @@ pub fn take_piece(
     ensures { PieceTaken (register_step points) longest_row
         (reading_at 0 line (book_lent ids.old groups.old marks.old counts.old levels.old)) (take len bytes.old)
         (reading_at result.refusal result.line (book_lent ids.new groups.new marks.new counts.new levels.new))
-        (take result.left bytes.new) × (sound points (book_lent ids.new groups.new marks.new counts.new levels.new) ≡ true) }
+        (take result.left bytes.new)
+        × (sound points (book_lent ids.new groups.new marks.new counts.new levels.new) ≡ true) }
 {
     let feed = take_lines(
         ids,

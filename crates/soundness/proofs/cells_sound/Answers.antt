@@ -10,7 +10,8 @@ use Rattle.movement.specs.Limits.{max_count}
 use Rattle.book_rules.specs.Columns.{cells_sound, top_count, top_level}
 use Rattle.soundness.proofs.Columnwise.{flag_read_lem, held_within, held_more, held_end}
 use Rattle.soundness.proofs.cells_sound.Goals as goal
-use Rattle.soundness.proofs.cells_sound.Goals.{then-counts-i-gt-MAX_COUNT, else-counts-i-gt-MAX_COUNT, then-top_level-levels, else-top_level-levels}
+use Rattle.soundness.proofs.cells_sound.Goals.{then-counts-i-gt-MAX_COUNT, else-counts-i-gt-MAX_COUNT}
+use Rattle.soundness.proofs.cells_sound.Goals.{then-top_level-levels, else-top_level-levels}
 
 pub loop-i-preserved : goal.loop-i-preserved
 loop-i-preserved c =
@@ -21,7 +22,8 @@ loop-i-preserved c =
     let most = c.top_level.result in (
       omega arith,
       (
-        flag_read_lem (all_within max_count cs) s.counted c.if-counts-i-gt-MAX_COUNT.counted (leb (get_or cs i 0) max_count)
+        flag_read_lem (all_within max_count cs) s.counted c.if-counts-i-gt-MAX_COUNT.counted
+            (leb (get_or cs i 0) max_count)
             (all_within max_count (drop (i + 1) cs))
             (s.invariant.1.0 ∙ ap (λ (k : Bool). s.counted && k)
             (within_more max_count cs i c.loop-i-test.true refl))

@@ -20,4 +20,5 @@ pub returns-then-x-eq0 : goal.returns-then-x-eq0
 returns-then-x-eq0 c = unfold head_sound in simp (eq-eqb _ _ c.if-x-eq0.true, ne_eqb _ _ c.if-g-eq0.false)
 
 pub returns-then-x-gt-MAX_IDENTITY : goal.returns-then-x-gt-MAX_IDENTITY
-returns-then-x-gt-MAX_IDENTITY c = unfold head_sound in simp (ne_eqb _ _ c.if-x-eq0.false, lt-leb _ _ c.if-x-gt-MAX_IDENTITY.true)
+returns-then-x-gt-MAX_IDENTITY c = unfold head_sound in
+    simp (ne_eqb _ _ c.if-x-eq0.false, lt-leb _ _ c.if-x-gt-MAX_IDENTITY.true)

@@ -39,7 +39,8 @@ cells_sound-requires c = let f = fits (goal.at.cells_sound-requires c).Else-not-
 pub returns-then-not-cells_sound : goal.returns-then-not-cells_sound
 returns-then-not-cells_sound c =
     let f = fits (goal.at.returns-then-not-cells_sound c).Else-not-shape_fits in
-    sym (past (goal.at.returns-then-not-cells_sound c).Else-not-identities_rise ∙ cells_fail _ _ _ _ _ _ f.groups= f.marks= f.counts= f.levels=
+    sym (past (goal.at.returns-then-not-cells_sound c).Else-not-identities_rise
+    ∙ cells_fail _ _ _ _ _ _ f.groups= f.marks= f.counts= f.levels=
     (settled c.cells_sound.ensures c.if-not-cells_sound.true))
 
 pub rows_sound-requires : goal.rows_sound-requires

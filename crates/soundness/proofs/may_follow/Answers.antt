@@ -8,7 +8,8 @@ pub returns-then-after-eq0 : goal.returns-then-after-eq0
 returns-then-after-eq0 c = unfold follows in simp (eq-eqb _ _ c.if-after-eq0.true)
 
 pub returns-then-before-eq0 : goal.returns-then-before-eq0
-returns-then-before-eq0 c = unfold follows in simp (ne_eqb _ _ c.if-after-eq0.false, le-ltb _ _ (le_of_eq c.if-before-eq0.true))
+returns-then-before-eq0 c = unfold follows in simp
+    (ne_eqb _ _ c.if-after-eq0.false, le-ltb _ _ (le_of_eq c.if-before-eq0.true))
 
 pub returns : goal.returns
 returns c = unfold follows in simp (ne_eqb _ _ c.if-after-eq0.false, lt-ltb _ _ (pos_of_ne-zero c.if-before-eq0.false))

@@ -72,7 +72,10 @@ loop-i-preserved c = (
   omega arith,
   (
     room_next c.args.points c.loop-i.i c.loop-i.at c.loop-i.invariant.1.0,
-    (next (goal.at.loop-i-preserved c).After-row_sound (c.if-not-row_sound.false), (passed-cells (goal.at.loop-i-preserved c).In-loop-i).1),
+    (
+      next (goal.at.loop-i-preserved c).After-row_sound (c.if-not-row_sound.false),
+      (passed-cells (goal.at.loop-i-preserved c).In-loop-i).1,
+    ),
   ),
 )
 
@@ -91,4 +94,5 @@ pub slice_bounds-row_sound-end-in-loop-i : goal.slice_bounds-row_sound-end-in-lo
 slice_bounds-row_sound-end-in-loop-i c = (spaces (goal.at.slice_bounds-row_sound-end-in-loop-i c).In-loop-i).1
 
 pub returns-then-not-row_sound : goal.returns-then-not-row_sound
-returns-then-not-row_sound c = sym (next (goal.at.returns-then-not-row_sound c).After-row_sound (c.if-not-row_sound.true))
+returns-then-not-row_sound c =
+    sym (next (goal.at.returns-then-not-row_sound c).After-row_sound (c.if-not-row_sound.true))

@@ -45,7 +45,8 @@ past_rows : (c : Else-marks-rows) → let a = c.args in
     ≡ (eqb a.counts (a.rows * a.points) && eqb a.levels (a.rows * a.points))
 past_rows c =
     rw (
-      past c.args.groups c.args.marks c.args.counts c.args.levels c.if-points-lt1.false c.if-points-gt-MAX_POINTS.false c.if-rows-lt1.false
+      past c.args.groups c.args.marks c.args.counts c.args.levels c.if-points-lt1.false c.if-points-gt-MAX_POINTS.false
+          c.if-rows-lt1.false
           c.if-rows-gt-MAX_ROWS.false,
       eq-eqb _ _ c.if-groups-rows.false,
       eq-eqb _ _ c.if-marks-rows.false,
@@ -59,16 +60,24 @@ pub returns-then-points-lt1 : goal.returns-then-points-lt1
 returns-then-points-lt1 c = unfold shape_fits in simp (lt-leb _ _ c.if-points-lt1.true)
 
 pub returns-then-points-gt-MAX_POINTS : goal.returns-then-points-gt-MAX_POINTS
-returns-then-points-gt-MAX_POINTS c = unfold shape_fits in simp (le-leb _ _ c.if-points-lt1.false, lt-leb _ _ c.if-points-gt-MAX_POINTS.true)
+returns-then-points-gt-MAX_POINTS c = unfold shape_fits in
+    simp (le-leb _ _ c.if-points-lt1.false, lt-leb _ _ c.if-points-gt-MAX_POINTS.true)
 
 pub returns-then-groups-rows : goal.returns-then-groups-rows
-returns-then-groups-rows c = rw (in_range (goal.at.returns-then-groups-rows c).Else-rows-gt-MAX_ROWS, ne_eqb _ _ c.if-groups-rows.true)
+returns-then-groups-rows c =
+    rw (in_range (goal.at.returns-then-groups-rows c).Else-rows-gt-MAX_ROWS, ne_eqb _ _ c.if-groups-rows.true)
 
 pub returns-then-marks-rows : goal.returns-then-marks-rows
-returns-then-marks-rows c = rw (in_range (goal.at.returns-then-marks-rows c).Else-rows-gt-MAX_ROWS, eq-eqb _ _ c.if-groups-rows.false, ne_eqb _ _ c.if-marks-rows.true)
+returns-then-marks-rows c =
+    rw (
+      in_range (goal.at.returns-then-marks-rows c).Else-rows-gt-MAX_ROWS,
+      eq-eqb _ _ c.if-groups-rows.false,
+      ne_eqb _ _ c.if-marks-rows.true,
+    )
 
 pub returns-then-counts-cells : goal.returns-then-counts-cells
-returns-then-counts-cells c = rw (past_rows (goal.at.returns-then-counts-cells c).Else-marks-rows, ne_eqb _ _ c.if-counts-cells.true)
+returns-then-counts-cells c =
+    rw (past_rows (goal.at.returns-then-counts-cells c).Else-marks-rows, ne_eqb _ _ c.if-counts-cells.true)
 
 pub returns : goal.returns
 returns c = rw (past_rows (goal.at.returns c).Else-marks-rows, eq-eqb _ _ c.if-counts-cells.false)

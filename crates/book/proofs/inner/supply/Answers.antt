@@ -35,7 +35,8 @@ returns-then-not_supplied-ne0 c = keeps c.requires c.supply_refusal-not_supplied
 
 pub copy_at-requires : goal.copy_at-requires
 copy_at-requires c =
-    rw (levels_length _ _ (supplied _ _ _ _ _ (ok (goal.at.copy_at-requires c).Else-not_supplied-ne0)).1) (row (goal.at.copy_at-requires c).Else-not_supplied-ne0).levels<
+    rw (levels_length _ _ (supplied _ _ _ _ _ (ok (goal.at.copy_at-requires c).Else-not_supplied-ne0)).1)
+    (row (goal.at.copy_at-requires c).Else-not_supplied-ne0).levels<
 
 pub returns : goal.returns
 unfolding sound_refusal changed row_marked

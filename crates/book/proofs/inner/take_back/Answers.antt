@@ -30,7 +30,8 @@ take_back_refusal-not_taken_back-requires c =
 
 pub returns-then-not_taken_back-ne0 : goal.returns-then-not_taken_back-ne0
 unfolding sound_refusal
-returns-then-not_taken_back-ne0 c = keeps c.requires c.take_back_refusal-not_taken_back.ensures c.if-not_taken_back-ne0.true
+returns-then-not_taken_back-ne0 c = keeps c.requires c.take_back_refusal-not_taken_back.ensures
+    c.if-not_taken_back-ne0.true
 
 pub returns : goal.returns
 unfolding sound_refusal changed row_marked

@@ -40,7 +40,8 @@ row_out-requires c =
 pub returns : goal.returns
 unfolding sound_refusal changed
 returns c =
-    meets c.requires (ok (goal.at.returns c).Else-not_withdrawn-ne0) (c.row_out.ensures ∙ rw (row (goal.at.returns c).Else-not_withdrawn-ne0).index refl)
+    meets c.requires (ok (goal.at.returns c).Else-not_withdrawn-ne0)
+    (c.row_out.ensures ∙ rw (row (goal.at.returns c).Else-not_withdrawn-ne0).index refl)
 
 pub place_of-at-requires : goal.place_of-at-requires
 place_of-at-requires c = sound_rises _ _ c.requires

@@ -20,7 +20,8 @@ allowed c = sym c.movement_refusal-refused.ensures ∙ c.if-refused-ne0.false
 pub returns-then-refused-ne0 : goal.returns-then-refused-ne0
 returns-then-refused-ne0 c =
     let said = c.movement_refusal-refused.ensures in
-    said ∙ enter_refused _ _ _ _ _ _ _ _ (fitting (goal.at.returns-then-refused-ne0 c).Else-not-counts_fit) (λ e. c.if-refused-ne0.true (said ∙ e))
+    said ∙ enter_refused _ _ _ _ _ _ _ _ (fitting (goal.at.returns-then-refused-ne0 c).Else-not-counts_fit)
+    (λ e. c.if-refused-ne0.true (said ∙ e))
 
 -- past both, the other rules decide
 past-movement : (c : Else-refused-ne0) → let a = c.args in
@@ -32,7 +33,8 @@ past-movement c =
 
 pub returns-then-not-identity_fits : goal.returns-then-not-identity_fits
 returns-then-not-identity_fits c =
-    sym (past-movement (goal.at.returns-then-not-identity_fits c).Else-refused-ne0 ∙ simp (settled c.identity_fits.ensures c.if-not-identity_fits.true))
+    sym (past-movement (goal.at.returns-then-not-identity_fits c).Else-refused-ne0
+    ∙ simp (settled c.identity_fits.ensures c.if-not-identity_fits.true))
 
 pub stands_at-requires : goal.stands_at-requires
 stands_at-requires c =
@@ -63,11 +65,13 @@ past c =
 
 pub returns-then-rows-ids : goal.returns-then-rows-ids
 unfolding stands
-returns-then-rows-ids c = rw (past (goal.at.returns-then-rows-ids c).Else-stands_at) (simp (← c.requires.rows_value, lt-ltb _ _ c.if-rows-ids.true))
+returns-then-rows-ids c = rw (past (goal.at.returns-then-rows-ids c).Else-stands_at)
+    (simp (← c.requires.rows_value, lt-ltb _ _ c.if-rows-ids.true))
 
 pub returns : goal.returns
 unfolding stands
-returns c = rw (past (goal.at.returns c).Else-stands_at) (simp (← c.requires.rows_value, le-ltb _ _ c.if-rows-ids.false))
+returns c = rw (past (goal.at.returns c).Else-stands_at)
+    (simp (← c.requires.rows_value, le-ltb _ _ c.if-rows-ids.false))
 
 pub returns-then-not-counts_fit : goal.returns-then-not-counts_fit
 returns-then-not-counts_fit c = unfold enter_refusal in simp (settled c.counts_fit.ensures c.if-not-counts_fit.true)

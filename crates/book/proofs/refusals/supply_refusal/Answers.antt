@@ -68,7 +68,8 @@ judged c e =
     ) refl
 
 pub returns-then-not-identity_fits : goal.returns-then-not-identity_fits
-returns-then-not-identity_fits c = unfold supply_refusal in simp (settled c.identity_fits.ensures c.if-not-identity_fits.true)
+returns-then-not-identity_fits c = unfold supply_refusal in
+    simp (settled c.identity_fits.ensures c.if-not-identity_fits.true)
 
 pub returns-then-not-stands_at : goal.returns-then-not-stands_at
 returns-then-not-stands_at c =
@@ -91,7 +92,8 @@ pub slice_bounds-zero_elsewhere-end : goal.slice_bounds-zero_elsewhere-end
 slice_bounds-zero_elsewhere-end c = space c
 
 pub returns-then-not-zero_elsewhere : goal.returns-then-not-zero_elsewhere
-returns-then-not-zero_elsewhere c = sym (judged (goal.at.returns-then-not-zero_elsewhere c).After-zero_elsewhere (c.if-not-zero_elsewhere.true))
+returns-then-not-zero_elsewhere c =
+    sym (judged (goal.at.returns-then-not-zero_elsewhere c).After-zero_elsewhere (c.if-not-zero_elsewhere.true))
 
 pub returns : goal.returns
 returns c = sym (judged (goal.at.returns c).After-zero_elsewhere (c.if-not-zero_elsewhere.false))

@@ -28,4 +28,5 @@ returns c =
     )
 
 pub returns-then-not-identity_fits : goal.returns-then-not-identity_fits
-returns-then-not-identity_fits c = unfold withdraw_refusal in simp (settled c.identity_fits.ensures c.if-not-identity_fits.true)
+returns-then-not-identity_fits c = unfold withdraw_refusal in
+    simp (settled c.identity_fits.ensures c.if-not-identity_fits.true)

@@ -6,7 +6,9 @@ use Rattle.column.proofs.inner.shift_up.Given as goal
 
 abbrev pub invariant-loop-left : goal.invariant-loop-left
 invariant-loop-left l =
-    (l.left ≤ l.count) × ((l.tail ≡ back (raised l.count l.w l.initial.tail) l.initial.tail l.w l.left) × (length l.tail ≡ length l.initial.tail))
+    (l.left ≤ l.count)
+    × ((l.tail ≡ back (raised l.count l.w l.initial.tail) l.initial.tail l.w l.left)
+    × (length l.tail ≡ length l.initial.tail))
 
 abbrev pub decreases-loop-left : goal.decreases-loop-left
 decreases-loop-left l = l.left

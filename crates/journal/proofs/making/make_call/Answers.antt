@@ -8,7 +8,8 @@ pub enter_from-requires : goal.enter_from-requires
 enter_from-requires c =
     record {
       levels_value = c.requires.levels_value;
-      rest_in_bounds = omega (arith, (complete_width _ c.requires.rest_value).1, width_enter c.args.rest.now c.if-kind-eq1.true);
+      rest_in_bounds =
+          omega (arith, (complete_width _ c.requires.rest_value).1, width_enter c.args.rest.now c.if-kind-eq1.true);
     }
 
 pub returns-then-kind-eq1 : goal.returns-then-kind-eq1
@@ -19,7 +20,8 @@ pub supply_from-requires : goal.supply_from-requires
 supply_from-requires c =
     record {
       levels_value = c.requires.levels_value;
-      rest_in_bounds = omega (arith, (complete_width _ c.requires.rest_value).1, width_supply c.args.rest.now c.if-kind-eq2.true);
+      rest_in_bounds =
+          omega (arith, (complete_width _ c.requires.rest_value).1, width_supply c.args.rest.now c.if-kind-eq2.true);
     }
 
 pub returns-then-kind-eq2 : goal.returns-then-kind-eq2

@@ -17,14 +17,17 @@ book s = book_lent s.args.ids.now s.args.groups.now s.args.marks.now s.args.coun
 
 -- past the first test the book is sound and the point is there
 there : (c : Else-not-point_fits)
-    → let a = c.args in (sound a.points (book_lent a.ids.now a.groups.now a.marks.now a.counts.now a.levels.now) ≡ true) × (a.point < a.points)
+    → let a = c.args in (sound a.points (book_lent a.ids.now a.groups.now a.marks.now a.counts.now a.levels.now) ≡ true)
+    × (a.point < a.points)
 there c =
     let a = c.args in
-    fits_there a.points a.point (book_lent a.ids.now a.groups.now a.marks.now a.counts.now a.levels.now) (settled c.point_fits.ensures c.if-not-point_fits.false)
+    fits_there a.points a.point (book_lent a.ids.now a.groups.now a.marks.now a.counts.now a.levels.now)
+    (settled c.point_fits.ensures c.if-not-point_fits.false)
 
 pub returns-then-not-point_fits : goal.returns-then-not-point_fits
 unfolding book_load load_of load_refusal refused_load
-returns-then-not-point_fits c = refuse (rw (settled c.point_fits.ensures c.if-not-point_fits.true) refl) (λ z. omega arith)
+returns-then-not-point_fits c = refuse (rw (settled c.point_fits.ensures c.if-not-point_fits.true) refl)
+    (λ z. omega arith)
 
 pub returns-then-not-days_fit : goal.returns-then-not-days_fit
 unfolding book_load load_of load_refusal refused_load
@@ -39,7 +42,9 @@ unfolding book_shares
 put_account-requires c =
     record {
       bounded = rw c.groups_of.ensures
-          (rows_bounded c.args.points c.args.point (book (goal.at.put_account-requires c).Start) (there (goal.at.put_account-requires c).Else-not-point_fits).0 (there (goal.at.put_account-requires c).Else-not-point_fits).1);
+          (rows_bounded c.args.points c.args.point (book (goal.at.put_account-requires c).Start)
+          (there (goal.at.put_account-requires c).Else-not-point_fits).0
+          (there (goal.at.put_account-requires c).Else-not-point_fits).1);
       days_value = settled c.days_fit.ensures c.if-not-days_fit.false;
     }
 
@@ -50,7 +55,8 @@ returns c =
     rw (settled c.point_fits.ensures c.if-not-point_fits.false)
     (account_shares (book_shares s.args.points s.args.point (book (goal.at.returns c).Start)) s.args.days
     (settled c.days_fit.ensures c.if-not-days_fit.false)
-    (rows_grouped s.args.points s.args.point (book (goal.at.returns c).Start) (there (goal.at.returns c).Else-not-point_fits).0 (there (goal.at.returns c).Else-not-point_fits).1
+    (rows_grouped s.args.points s.args.point (book (goal.at.returns c).Start)
+    (there (goal.at.returns c).Else-not-point_fits).0 (there (goal.at.returns c).Else-not-point_fits).1
     (length s.args.ids.now) (omega arith))
     c.groups_of.ensures c.put_account.ensures)
 

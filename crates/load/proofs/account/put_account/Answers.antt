@@ -28,18 +28,22 @@ none c =
 
 fine : (c : Else-none_computed) → (load_from (group_at c.args.groups) c.args.days).refused ≡ 0
 fine c =
-    from_fine (group_at c.args.groups) c.args.days (sym (sums_none c.args.groups c.summed-sums.result c.summed-sums.ensures c.none_computed.ensures)
+    from_fine (group_at c.args.groups) c.args.days
+    (sym (sums_none c.args.groups c.summed-sums.result c.summed-sums.ensures c.none_computed.ensures)
     ∙ c.if-none_computed.false)
 
 pub returns-then-none_computed : goal.returns-then-none_computed
 unfolding refused_load
 returns-then-none_computed c =
     refuse (ap (λ (l : Load). l.refused)
-    (from_refused (group_at c.args.groups) c.args.days (sym (none (goal.at.returns-then-none_computed c).After-none_computed) ∙ c.if-none_computed.true))) (λ z. omega arith)
+    (from_refused (group_at c.args.groups) c.args.days
+    (sym (none (goal.at.returns-then-none_computed c).After-none_computed) ∙ c.if-none_computed.true)))
+    (λ z. omega arith)
 
 pub returns-then-answer-lt-ACCOUNT_NUMBERS : goal.returns-then-answer-lt-ACCOUNT_NUMBERS
 returns-then-answer-lt-ACCOUNT_NUMBERS c =
-    lack (fine (goal.at.returns-then-answer-lt-ACCOUNT_NUMBERS c).Else-none_computed) (omega (arith, length_account (group_at c.args.groups) c.args.days, c.if-answer-lt-ACCOUNT_NUMBERS.true))
+    lack (fine (goal.at.returns-then-answer-lt-ACCOUNT_NUMBERS c).Else-none_computed)
+    (omega (arith, length_account (group_at c.args.groups) c.args.days, c.if-answer-lt-ACCOUNT_NUMBERS.true))
 
 pub put_whole-requires : goal.put_whole-requires
 put_whole-requires c =
@@ -51,7 +55,8 @@ put_whole-requires c =
 pub returns : goal.returns
 returns c =
     let a = c.args in
-    write (fine (goal.at.returns c).Else-none_computed) (omega (arith, length_account (group_at a.groups) a.days, c.if-answer-lt-ACCOUNT_NUMBERS.false))
+    write (fine (goal.at.returns c).Else-none_computed)
+    (omega (arith, length_account (group_at a.groups) a.days, c.if-answer-lt-ACCOUNT_NUMBERS.false))
     (c.put_whole.ensures
     ∙ rw c.put_groups.ensures
     (account_front a.groups c.summed-sums.result c.summed-sums.ensures a.days c.totals_of.result

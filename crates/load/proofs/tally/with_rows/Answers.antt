@@ -13,10 +13,12 @@ book s = book_lent s.args.ids.now s.args.groups.now s.args.marks.now s.args.coun
 
 -- the row that a turn reads
 row : (c : In-loop-i)
-    → let a = c.args in Row a.points a.point (book_lent a.ids.now a.groups.now a.marks.now a.counts.now a.levels.now) c.loop-i.i
+    → let a = c.args in Row a.points a.point (book_lent a.ids.now a.groups.now a.marks.now a.counts.now a.levels.now)
+    c.loop-i.i
 row c =
     let a = c.args in
-    row_at a.points a.point (book_lent a.ids.now a.groups.now a.marks.now a.counts.now a.levels.now) c.requires.levels_value c.requires.point_lt_points
+    row_at a.points a.point (book_lent a.ids.now a.groups.now a.marks.now a.counts.now a.levels.now)
+    c.requires.levels_value c.requires.point_lt_points
     c.loop-i.i c.loop-i-test.true
 
 pub with_row-next-requires : goal.with_row-next-requires
@@ -25,7 +27,8 @@ with_row-next-requires c =
     let g = get_or c.args.groups.now c.loop-i.i 0 in
     record {
       room_for_one = (
-        subst (λ cs. RoomForOne (flat_at cs g)) (sym c.loop-i.invariant.1) (row (goal.at.with_row-next-requires c).In-loop-i).room,
+        subst (λ cs. RoomForOne (flat_at cs g)) (sym c.loop-i.invariant.1)
+            (row (goal.at.with_row-next-requires c).In-loop-i).room,
         (row (goal.at.with_row-next-requires c).In-loop-i).group<,
         (row (goal.at.with_row-next-requires c).In-loop-i).level≤,
       );
@@ -40,10 +43,13 @@ loop-i-preserved c =
     let i = c.loop-i.i in (
       omega arith,
       elim c.if-counts-at-ne0.branch [
-        | then-counts-at-ne0 w ↦ w.cells-is ∙ row_next p pt (book (goal.at.loop-i-preserved c).Start) c.requires.levels_value c.requires.point_lt_points i c.loop-i-test.true
+        | then-counts-at-ne0 w ↦ w.cells-is ∙ row_next p pt (book (goal.at.loop-i-preserved c).Start)
+            c.requires.levels_value c.requires.point_lt_points i c.loop-i-test.true
             c.loop-i.cells w.with_row-next.result c.loop-i.invariant.1 w.if-counts-at-ne0.true w.with_row-next.ensures
         | else-counts-at-ne0 w ↦ w.cells-is ∙ c.loop-i.invariant.1
-            ∙ ap (λ ss. flat (tally ss)) (row_skipped p pt (book (goal.at.loop-i-preserved c).Start) c.requires.levels_value c.requires.point_lt_points i w.if-counts-at-ne0.false)
+            ∙ ap (λ ss. flat (tally ss))
+            (row_skipped p pt (book (goal.at.loop-i-preserved c).Start) c.requires.levels_value
+            c.requires.point_lt_points i w.if-counts-at-ne0.false)
       ],
     )
 
@@ -51,7 +57,8 @@ pub returns : goal.returns
 unfolding book_shares
 returns c =
     let e : c.loop-i.i ≡ length c.args.ids.now = omega arith in
-    c.loop-i.invariant.1 ∙ ap (λ n. flat (tally (shares_to c.args.points c.args.point (book (goal.at.returns c).Start) n))) e
+    c.loop-i.invariant.1
+    ∙ ap (λ n. flat (tally (shares_to c.args.points c.args.point (book (goal.at.returns c).Start) n))) e
 
 pub loop-i-init : goal.loop-i-init
 loop-i-init c = unfold shares_to in (omega arith, c.requires.start_value.0)
@@ -90,7 +97,9 @@ pub bounds-levels-at : goal.bounds-levels-at
 bounds-levels-at c = (row (goal.at.bounds-levels-at c).In-loop-i).in_levels
 
 pub offset_bounds-cells-g-then-counts-at-ne0 : goal.offset_bounds-cells-g-then-counts-at-ne0
-offset_bounds-cells-g-then-counts-at-ne0 c = omega (arith, (row (goal.at.offset_bounds-cells-g-then-counts-at-ne0 c).In-loop-i).group<)
+offset_bounds-cells-g-then-counts-at-ne0 c = omega
+    (arith, (row (goal.at.offset_bounds-cells-g-then-counts-at-ne0 c).In-loop-i).group<)
 
 pub bounds-cells-g-then-counts-at-ne0 : goal.bounds-cells-g-then-counts-at-ne0
-bounds-cells-g-then-counts-at-ne0 c = omega (arith, (row (goal.at.bounds-cells-g-then-counts-at-ne0 c).In-loop-i).group<)
+bounds-cells-g-then-counts-at-ne0 c =
+    omega (arith, (row (goal.at.bounds-cells-g-then-counts-at-ne0 c).In-loop-i).group<)

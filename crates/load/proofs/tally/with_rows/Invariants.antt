@@ -8,7 +8,8 @@ use Rattle.load.proofs.tally.with_rows.Given as goal
 
 abbrev pub invariant-loop-i : goal.invariant-loop-i
 invariant-loop-i l =
-    (l.i ≤ length l.ids) × (l.cells ≡ flat (tally (shares_to l.points l.point (book_of l.ids l.groups l.marks l.counts l.levels) l.i)))
+    (l.i ≤ length l.ids)
+    × (l.cells ≡ flat (tally (shares_to l.points l.point (book_of l.ids l.groups l.marks l.counts l.levels) l.i)))
 
 abbrev pub decreases-loop-i : goal.decreases-loop-i
 decreases-loop-i l = length l.ids - l.i

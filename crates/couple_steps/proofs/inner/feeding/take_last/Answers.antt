@@ -18,10 +18,12 @@ returns-then-bytes-eq0 c =
 
 pub returns-then-refusal-ne0 : goal.returns-then-refusal-ne0
 returns-then-refusal-ne0 c =
-    last_refused (taken_stopped _ c.take_line-refusal.new.table c.take_line-refusal.ensures c.if-refusal-ne0.true) c.requires.unended
+    last_refused (taken_stopped _ c.take_line-refusal.new.table c.take_line-refusal.ensures c.if-refusal-ne0.true)
+    c.requires.unended
     c.if-bytes-eq0.false c.if-refusal-ne0.true
 
 pub returns : goal.returns
 returns c =
-    last_taken (taken_next _ c.take_line-refusal.new.table c.take_line-refusal.ensures c.if-refusal-ne0.false) c.requires.unended
+    last_taken (taken_next _ c.take_line-refusal.new.table c.take_line-refusal.ensures c.if-refusal-ne0.false)
+    c.requires.unended
     c.if-bytes-eq0.false c.requires.le_line.0 c.if-refusal-ne0.false

@@ -23,21 +23,27 @@ loop-end-init c =
 
 pub take_line-refusal-requires : goal.take_line-refusal-requires
 take_line-refusal-requires c =
-    record { roomy = roomy_as c.requires.roomy c.loop-end.invariant.1; le_number = omega (arith, c.loop-end.invariant.0.least, c.requires.le_line.0) }
+    record {
+      roomy = roomy_as c.requires.roomy c.loop-end.invariant.1;
+      le_number = omega (arith, c.loop-end.invariant.0.least, c.requires.le_line.0);
+    }
 
 pub returns-then-refusal-ne0 : goal.returns-then-refusal-ne0
 returns-then-refusal-ne0 c =
     taking_refused c.loop-end.invariant.0 (omega arith)
-    (taken_stopped _ c.take_line-refusal.new.table c.take_line-refusal.ensures c.if-refusal-ne0.true) c.if-refusal-ne0.true
+    (taken_stopped _ c.take_line-refusal.new.table c.take_line-refusal.ensures c.if-refusal-ne0.true)
+    c.if-refusal-ne0.true
 
 pub overflow_add-number : goal.overflow_add-number
 overflow_add-number c =
-    omega (arith, (inside (goal.at.overflow_add-number c).At-loop-end).0, (inside (goal.at.overflow_add-number c).At-loop-end).1, c.loop-end.invariant.0.most, c.requires.le_line.1)
+    let i = inside (goal.at.overflow_add-number c).At-loop-end in
+    omega (arith, i.0, i.1, c.loop-end.invariant.0.most, c.requires.le_line.1)
 
 pub loop-end-preserved : goal.loop-end-preserved
 loop-end-preserved c = (
   taking_next c.loop-end.invariant.0 (omega arith)
-      (taken_next _ c.take_line-refusal.new.table c.take_line-refusal.ensures c.if-refusal-ne0.false) c.line_end-end-in-loop-end.result
+      (taken_next _ c.take_line-refusal.new.table c.take_line-refusal.ensures c.if-refusal-ne0.false)
+      c.line_end-end-in-loop-end.result
       c.if-refusal-ne0.false c.line_end-end-in-loop-end.ensures,
   c.take_line-refusal.auto.table ∙ c.loop-end.invariant.1,
 )
@@ -61,10 +67,13 @@ pub overflow_add-at : goal.overflow_add-at
 overflow_add-at c = omega (arith, (inside (goal.at.overflow_add-at c).At-loop-end).1)
 
 pub line_end-end-requires-in-loop-end : goal.line_end-end-requires-in-loop-end
-line_end-end-requires-in-loop-end c = omega (arith, (inside (goal.at.line_end-end-requires-in-loop-end c).At-loop-end).1)
+line_end-end-requires-in-loop-end c =
+    omega (arith, (inside (goal.at.line_end-end-requires-in-loop-end c).At-loop-end).1)
 
 pub loop-end-smaller : goal.loop-end-smaller
-loop-end-smaller c = omega (arith, (inside (goal.at.loop-end-smaller c).At-loop-end).0, (inside (goal.at.loop-end-smaller c).At-loop-end).1)
+loop-end-smaller c =
+    let i = inside (goal.at.loop-end-smaller c).At-loop-end in
+    omega (arith, i.0, i.1)
 
 pub returns : goal.returns
 returns c = taking_done c.loop-end.invariant.0 (omega arith)

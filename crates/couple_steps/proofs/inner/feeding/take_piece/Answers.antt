@@ -17,7 +17,8 @@ whole c = length-take-le c.args.len c.args.bytes.now c.requires.len_in_bounds
 left-of : (c : After-take_lines-feed) → let a = c.args in
     length (drop c.take_lines-feed.result.at (take a.len a.bytes.now)) ≡ a.len - c.take_lines-feed.result.at
 left-of c =
-    length-drop c.take_lines-feed.result.at (take c.args.len c.args.bytes.now) ∙ rw (length-take-le c.args.len c.args.bytes.now c.requires.len_in_bounds) refl
+    length-drop c.take_lines-feed.result.at (take c.args.len c.args.bytes.now)
+    ∙ rw (length-take-le c.args.len c.args.bytes.now c.requires.len_in_bounds) refl
 
 begins : (c : After-take_lines-feed) → c.take_lines-feed.result.at ≤ c.args.len
 begins c = rw (length-take-le c.args.len c.args.bytes.now c.requires.len_in_bounds) at c.take_lines-feed.ensures.within
@@ -27,7 +28,8 @@ slice_bounds-take_lines-end-2 c = sym (whole (goal.at.slice_bounds-take_lines-en
 
 pub take_lines-feed-requires : goal.take_lines-feed-requires
 take_lines-feed-requires c =
-    record { roomy = c.requires.roomy; le_line = (c.requires.le_line.0, rw (whole (goal.at.take_lines-feed-requires c).Start) c.requires.le_line.1) }
+    let size = whole (goal.at.take_lines-feed-requires c).Start in
+    record { roomy = c.requires.roomy; le_line = (c.requires.le_line.0, rw size c.requires.le_line.1) }
 
 pub returns-then-refusal-ne0 : goal.returns-then-refusal-ne0
 returns-then-refusal-ne0 c =
@@ -45,8 +47,10 @@ to_front-requires c =
 pub returns : goal.returns
 returns c =
     let at = c.take_lines-feed.result.at in
-    piece_left longest_text _ c.take_lines-feed.ensures c.if-refusal-ne0.false (rw (left-of (goal.at.returns c).After-take_lines-feed) c.if-left-gt-LONGEST_LINE.false)
-    (c.to_front.ensures ∙ sym (waiting c.args.bytes.now at c.args.len (begins (goal.at.returns c).After-take_lines-feed) c.requires.len_in_bounds))
+    piece_left longest_text _ c.take_lines-feed.ensures c.if-refusal-ne0.false
+    (rw (left-of (goal.at.returns c).After-take_lines-feed) c.if-left-gt-LONGEST_LINE.false)
+    (c.to_front.ensures ∙ sym (waiting c.args.bytes.now at c.args.len
+    (begins (goal.at.returns c).After-take_lines-feed) c.requires.len_in_bounds))
 
 pub overflow_sub-left : goal.overflow_sub-left
 overflow_sub-left c = begins (goal.at.overflow_sub-left c).After-take_lines-feed

@@ -24,7 +24,8 @@ put_line-at-requires c =
 
 pub loop-i-preserved : goal.loop-i-preserved
 loop-i-preserved c =
-    putting_next _ _ _ _ c.loop-i.invariant (omega arith) (omega (arith, inside (goal.at.loop-i-preserved c).At-loop-i)) c.put_line-at.ensures
+    putting_next _ _ _ _ c.loop-i.invariant (omega arith)
+    (omega (arith, inside (goal.at.loop-i-preserved c).At-loop-i)) c.put_line-at.ensures
 
 pub returns : goal.returns
 returns c =

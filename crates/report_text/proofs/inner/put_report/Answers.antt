@@ -1,0 +1,29 @@
+-- `report_text::inner::put_report` meets its contract: the one line of rule 10, or the header and the points. Assumes
+-- nothing.
+use Rattle.book_rules.specs.Columns.{Book, book_of}
+use Rattle.report_text.specs.Text.{book_text}
+use Rattle.report_text.proofs.Points.{text_refused, text_points}
+use Rattle.report_text.proofs.inner.put_report.Goals as goal
+use Rattle.report_text.proofs.inner.put_report.Goals.{Start}
+
+abbrev book : Start → Book
+book s =
+    let a = s.args in book_of a.ids.now a.groups.now a.marks.now a.counts.now a.levels.now
+
+pub returns-then-refused-ne0 : goal.returns-then-refused-ne0
+unfolding book_text
+returns-then-refused-ne0 c =
+    let q = c.book_refusal-refused.ensures in
+    record {
+      wrote = text_refused c.args.limits (book (goal.at.returns-then-refused-ne0 c).Start) _ q c.if-refused-ne0.true c.put_refused-size.ensures.wrote;
+      refused = q;
+    }
+
+pub returns : goal.returns
+unfolding book_text
+returns c =
+    let q = c.book_refusal-refused.ensures in
+    record {
+      wrote = text_points c.args.limits (book (goal.at.returns c).Start) q c.if-refused-ne0.false c.put_points-size.ensures;
+      refused = q;
+    }
