@@ -57,7 +57,8 @@ module _ {origin : Origin} {taken taken' : ℕ} {room : List ℕ} {r : Arrived} 
         known = omega arith;
       }
 
-  pub read_broken : 1 ≤ length room → r ≡ Failed → Fills origin (record { size = n; state = failed }) (put_mid n m text room)
+  pub read_broken : 1 ≤ length room → r ≡ Failed
+      → Fills origin (record { size = n; state = failed }) (put_mid n m text room)
   read_broken some e =
       let last = gave_as reads Failed e in
       record {

@@ -16,7 +16,8 @@ night_from = 82800
 
 -- day from 07:00:00 to before 19:00:00, evening to before 23:00:00, night otherwise
 abbrev pub period_of : ℕ → Period
-period_of s = cond (nat_lt s day_from) Night (cond (nat_lt s evening_from) Day (cond (nat_lt s night_from) Evening Night))
+period_of s = cond (nat_lt s day_from) Night
+    (cond (nat_lt s evening_from) Day (cond (nat_lt s night_from) Evening Night))
 
 -- the rules' number of a period
 abbrev pub period_number : Period → ℕ

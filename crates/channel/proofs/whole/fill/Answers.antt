@@ -7,12 +7,14 @@ use Rattle.channel.proofs.whole.fill.Goals as goal
 use Rattle.channel.proofs.whole.fill.Goals.{In-Bytes}
 
 -- what a read that gave bytes gave
-more : (c : In-Bytes) → let n = c.loop-n.n in let m = length c.loop-n.text - n in let now = put_mid n m c.loop-n.text c.read_from.new.room in
+more : (c : In-Bytes) → let n = c.loop-n.n in let m = length c.loop-n.text - n in let now = put_mid n m c.loop-n.text
+    c.read_from.new.room in
     (1 ≤ c.in-Bytes.k) × (n + c.in-Bytes.k ≤ length now)
     × Came (origin_of c.args.opened c.args.name.now) c.read_from.new.taken (take (n + c.in-Bytes.k) now)
 more c =
     let l = c.loop-n in
-    read_more c.read_from.ensures l.n (length l.text - l.n) l.text l.invariant.0 l.invariant.1 c.in-Bytes.k c.in-Bytes.is
+    read_more c.read_from.ensures l.n (length l.text - l.n) l.text l.invariant.0 l.invariant.1 c.in-Bytes.k
+    c.in-Bytes.is
 
 pub loop-n-init : goal.loop-n-init
 loop-n-init c = (omega arith, record { first = none_came _; long = refl })
@@ -32,7 +34,8 @@ pub returns-in-Failed : goal.returns-in-Failed
 returns-in-Failed c =
     let l = c.loop-n in
     let kept : length c.read_from.new.room ≡ length l.text - l.n = search rules in
-    read_broken c.read_from.ensures l.n (length l.text - l.n) l.text l.invariant.0 l.invariant.1 (omega (arith, kept)) c.in-Failed.is
+    read_broken c.read_from.ensures l.n (length l.text - l.n) l.text l.invariant.0 l.invariant.1 (omega (arith, kept))
+    c.in-Failed.is
 
 pub returns : goal.returns
 returns c = let l = c.loop-n in filled_up l.n l.text l.invariant.0 (omega arith) l.invariant.1

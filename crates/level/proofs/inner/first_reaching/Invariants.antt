@@ -1,4 +1,5 @@
--- `level::inner::first_reaching` meets its contract. Every level before the decade of m misses m, and the first level of
+-- `level::inner::first_reaching` meets its contract. Every level before the decade of m misses m, and the first level
+-- of
 -- the next decade reaches it. The loop's invariant: every level before n misses m. Assumes nothing.
 use Rattle.std.specs.Prelude.{ℕ, ◌-◌, ◌<◌, ◌≤◌}
 use Rattle.level.specs.{Level.bound}

@@ -8,7 +8,8 @@ use Rattle.movement.proofs.rules.fields_fit.Goals as goal
 pub returns-then-second-ge-SECONDS_A_DAY : goal.returns-then-second-ge-SECONDS_A_DAY
 unfolding fields_fit
 returns-then-second-ge-SECONDS_A_DAY c =
-    simp (lt-ltb _ _ c.if-aircraft-ge-TYPES.false, lt-ltb _ _ c.if-kind-ge-KINDS.false, le-ltb _ _ c.if-second-ge-SECONDS_A_DAY.true)
+    simp (lt-ltb _ _ c.if-aircraft-ge-TYPES.false, lt-ltb _ _ c.if-kind-ge-KINDS.false,
+    le-ltb _ _ c.if-second-ge-SECONDS_A_DAY.true)
 
 pub returns-then-mass-gt-MAX_MASS : goal.returns-then-mass-gt-MAX_MASS
 unfolding fields_fit
@@ -36,4 +37,5 @@ pub returns-then-aircraft-ge-TYPES : goal.returns-then-aircraft-ge-TYPES
 returns-then-aircraft-ge-TYPES c = unfold fields_fit in simp (le-ltb _ _ c.if-aircraft-ge-TYPES.true)
 
 pub returns-then-kind-ge-KINDS : goal.returns-then-kind-ge-KINDS
-returns-then-kind-ge-KINDS c = unfold fields_fit in simp (lt-ltb _ _ c.if-aircraft-ge-TYPES.false, le-ltb _ _ c.if-kind-ge-KINDS.true)
+returns-then-kind-ge-KINDS c = unfold fields_fit in simp
+    (lt-ltb _ _ c.if-aircraft-ge-TYPES.false, le-ltb _ _ c.if-kind-ge-KINDS.true)

@@ -7,7 +7,8 @@ use Rattle.movement.proofs.rules.zero_elsewhere.Given as goal
 
 abbrev pub invariant-loop-i : goal.invariant-loop-i
 invariant-loop-i l =
-    (l.i ≤ length l.counts) × (zero_elsewhere l.counts l.levels ≡ zero_elsewhere (drop l.i l.counts) (drop l.i l.levels))
+    (l.i ≤ length l.counts) × (zero_elsewhere l.counts l.levels
+    ≡ zero_elsewhere (drop l.i l.counts) (drop l.i l.levels))
 
 abbrev pub decreases-loop-i : goal.decreases-loop-i
 decreases-loop-i l = length l.counts - l.i

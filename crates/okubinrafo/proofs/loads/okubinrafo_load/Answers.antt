@@ -28,7 +28,8 @@ fine c = ap (λ (l : Load). l.refused) (sym c.load_at-load.ensures) ∙ c.if-ref
 
 pub returns : goal.returns
 returns c =
-    write (fine (goal.at.returns c).Else-refused-ne0) (omega (arith, long (goal.at.returns c).Else-refused-ne0, c.if-answer-lt-LOAD_NUMBERS.false))
+    write (fine (goal.at.returns c).Else-refused-ne0)
+    (omega (arith, long (goal.at.returns c).Else-refused-ne0, c.if-answer-lt-LOAD_NUMBERS.false))
     (c.put_numbers.ensures
     ∙ ap (λ (l : Load). front (load_numbers l) c.args.answer.now) c.load_at-load.ensures)
 
@@ -36,4 +37,6 @@ pub returns-then-refused-ne0 : goal.returns-then-refused-ne0
 returns-then-refused-ne0 c = refuse (ap (λ (l : Load). l.refused) (sym c.load_at-load.ensures)) c.if-refused-ne0.true
 
 pub returns-then-answer-lt-LOAD_NUMBERS : goal.returns-then-answer-lt-LOAD_NUMBERS
-returns-then-answer-lt-LOAD_NUMBERS c = lack (fine (goal.at.returns-then-answer-lt-LOAD_NUMBERS c).Else-refused-ne0) (omega (arith, long (goal.at.returns-then-answer-lt-LOAD_NUMBERS c).Else-refused-ne0, c.if-answer-lt-LOAD_NUMBERS.true))
+returns-then-answer-lt-LOAD_NUMBERS c = lack (fine (goal.at.returns-then-answer-lt-LOAD_NUMBERS c).Else-refused-ne0)
+    (omega (arith, long (goal.at.returns-then-answer-lt-LOAD_NUMBERS c).Else-refused-ne0,
+    c.if-answer-lt-LOAD_NUMBERS.true))

@@ -16,9 +16,11 @@ verdict c =
 
 pub returns-in-Refused : goal.returns-in-Refused
 returns-in-Refused c =
-    judged_refused (verdict (goal.at.returns-in-Refused c).After-verdict_at-judged) _ (sym c.verdict_at-judged.ensures.answer ∙ c.in-Refused.is)
+    judged_refused (verdict (goal.at.returns-in-Refused c).After-verdict_at-judged) _
+    (sym c.verdict_at-judged.ensures.answer ∙ c.in-Refused.is)
 
 pub returns-in-Given : goal.returns-in-Given
 returns-in-Given c =
-    judged_given (verdict (goal.at.returns-in-Given c).After-verdict_at-judged) _ (sym c.verdict_at-judged.ensures.answer ∙ c.in-Given.is)
+    judged_given (verdict (goal.at.returns-in-Given c).After-verdict_at-judged) _
+    (sym c.verdict_at-judged.ensures.answer ∙ c.in-Given.is)
     c.number.ensures c.put_number.ensures

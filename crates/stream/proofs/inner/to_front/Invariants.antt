@@ -5,7 +5,8 @@ use Rattle.stream.proofs.inner.to_front.Given as goal
 
 abbrev pub invariant-loop-i : goal.invariant-loop-i
 invariant-loop-i l =
-    (l.i ≤ l.n) × (length l.bytes ≡ length l.initial.bytes) × (take l.i l.bytes ≡ take l.i (drop l.from l.initial.bytes))
+    (l.i ≤ l.n) × (length l.bytes ≡ length l.initial.bytes)
+    × (take l.i l.bytes ≡ take l.i (drop l.from l.initial.bytes))
     × (drop l.i l.bytes ≡ drop l.i l.initial.bytes)
 
 abbrev pub decreases-loop-i : goal.decreases-loop-i
