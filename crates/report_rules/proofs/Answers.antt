@@ -1,6 +1,6 @@
 -- The answer to limits.csv and a register, by how far each is read. Assumes nothing.
 use mathlib.Core.{Path.◌≡◌, Path.refl, Path.sym, Path.ap, Path.◌∙◌, Bool.true, List.List, List.[], List.◌++◌}
-use Prim.Native.Nat.{ℕ, ◌+◌, ◌≤◌}
+use Prim.Native.Nat.{ℕ, ◌≤◌}
 use native.Mathlib.Omega.{arith}
 use lib.{ListN.length, ListN.length-append, Seq.take-append-le}
 use borrow.Author.Tests.{ne_eqb, le-leb}

@@ -12,7 +12,6 @@ use Rattle.text.specs.declared.number.Number.TheVariants.{Got, Off}
 use Rattle.text.proofs.Digits.{either}
 use Rattle.register.specs.{Cell.cells_of, Row.eight_from, Header.header_of, Header.limits_header}
 use Rattle.register.specs.declared.cell.Table.TheVariants as table
-use Rattle.register.specs.declared.limits_csv.LimitsFile.{LimitsFile}
 use Rattle.register.specs.LimitsFile.{judged_limits, second_limits, headed_limits, limits_of}
 use Rattle.register.proofs.Rows.{header_range}
 use Rattle.report_text.specs.InnerRoom.{LimitsFit}

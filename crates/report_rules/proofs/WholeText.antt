@@ -9,7 +9,7 @@ use borrow.Author.Tests.{leb-true}
 use Rattle.refusal.specs.Range.{all_within}
 use Rattle.refusal.proofs.Laws.{and_left, and_right}
 use Rattle.movement.specs.Limits.{max_days, max_limit}
-use Rattle.text.specs.Sheet.{ended, line, refused_text}
+use Rattle.text.specs.Sheet.{ended, refused_text}
 use Rattle.text.specs.{Line.lines_of, Field.count_of, Field.joined_by, Index.listing, Number.shown, Number.show_number}
 use Rattle.text.specs.Spelled.{bytes}
 use Rattle.text.specs.declared.number.Number.{Number}
