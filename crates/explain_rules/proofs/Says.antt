@@ -111,17 +111,17 @@ module _ (l : LimitsFile) (n : ℕ) (cs : List Made)
   s_is pt g h = ap (λ (c : Group). c.energy) (group_is pt g h) ∙ list_energy pt g (there pt)
 
   -- the lines
-  abbrev amountsOf : ℕ → ℕ → Amounts
-  amountsOf pt g = group_amounts (groups_of p pt b g)
+  abbrev amounts_of : ℕ → ℕ → Amounts
+  amounts_of pt g = group_amounts (groups_of p pt b g)
 
-  some_is : (pt : ℕ) → pt < p → (λ g. stands (amountsOf pt g)) ≡ has_movement (there pt)
+  some_is : (pt : ℕ) → pt < p → (λ g. stands (amounts_of pt g)) ≡ has_movement (there pt)
   unfolding group_amounts
   some_is pt h = fun_ext (λ g. rw (v_is pt g h, u_is pt g h) refl)
 
   each_length : (pt : ℕ) → pt < p → length (lines_at p pt b) ≡ lines_of_point ms pt
   unfolding lines_at
   each_length pt h =
-      point_length pt (amountsOf pt) (all_amounts (groups_of p pt b))
+      point_length pt (amounts_of pt) (all_amounts (groups_of p pt b))
       ∙ ap (λ (q : ℕ → Bool). many q 18 + 1) (some_is pt h)
 
   lines_free : Free 13 (header_line ∷ lines_to p b p)
@@ -146,15 +146,15 @@ module _ (l : LimitsFile) (n : ℕ) (cs : List Made)
       ∙ points_at_rule p b (lines_of_point ms) p pt j h k each_length
 
   group_line_rule : (pt g : ℕ) → pt < p → g < 18 → 0 < computed_in g (there pt) + missing_in g (there pt)
-      → get_or (lines_of (text_after l n cs)) (place_of ms pt g) [] ≡ line (group_fields pt g (amountsOf pt g))
+      → get_or (lines_of (text_after l n cs)) (place_of ms pt g) [] ≡ line (group_fields pt g (amounts_of pt g))
   unfolding lines_at
   group_line_rule pt g h k some =
       let has = has_movement (there pt) in
       let yes : has g ≡ true = lt-ltb 0 (computed_in g (there pt) + missing_in g (there pt)) some in
       at_place pt (many has g) h (omega (arith, many_grows has g 18 (omega arith)))
       ∙ subst (λ (q : ℕ → Bool). q g ≡ true → get_or (lines_at p pt b) (many q g) [] ≡ line
-      (group_fields pt g (amountsOf pt g))) (some_is pt h)
-      (point_group pt (amountsOf pt) (all_amounts (groups_of p pt b)) g k) yes
+      (group_fields pt g (amounts_of pt g))) (some_is pt h)
+      (point_group pt (amounts_of pt) (all_amounts (groups_of p pt b)) g k) yes
 
   all_line : (pt : ℕ) → pt < p
       → get_or (lines_of (text_after l n cs)) (place_of ms pt 18) [] ≡ line (all_fields pt (all_amounts (groups_of p pt b)))
@@ -163,7 +163,7 @@ module _ (l : LimitsFile) (n : ℕ) (cs : List Made)
       at_place pt (many (has_movement (there pt)) 18) h (omega arith)
       ∙ subst (λ (q : ℕ → Bool). get_or (lines_at p pt b) (many q 18) [] ≡ line
       (all_fields pt (all_amounts (groups_of p pt b)))) (some_is pt h)
-      (point_all pt (amountsOf pt) (all_amounts (groups_of p pt b)))
+      (point_all pt (amounts_of pt) (all_amounts (groups_of p pt b)))
 
   -- what they say
   abbrev numbers : ℕ → List ℕ
@@ -171,10 +171,10 @@ module _ (l : LimitsFile) (n : ℕ) (cs : List Made)
 
   group_says : (pt g : ℕ) → pt < p → g < 18
       → GroupSays pt g (computed_in g (there pt)) (missing_in g (there pt)) (energy_of_group pt g (there pt))
-      (get_or (numbers pt) (4 * g + 3) 0) (line (group_fields pt g (amountsOf pt g)))
+      (get_or (numbers pt) (4 * g + 3) 0) (line (group_fields pt g (amounts_of pt g)))
   unfolding group_amounts account_of
   group_says pt g h k =
-      let a = amountsOf pt g in
+      let a = amounts_of pt g in
       record {
         nine = group_nine pt g k a;
         names = names_say pt g k a;
