@@ -126,8 +126,13 @@ sum_occurs n (m ∷ ms) h =
     go true e = e
     go false e = absurd (omega (arith, h m (ltb-false m n e), ap bit (eq-eqb m m refl)))
 
+pub crossings_sum : (g : Picture) (n : ℕ) → crossings g n ≡ sum_to (λ k. bit (crossed_at g k)) n
+unfolding crossings sum_to
+crossings_sum g zero = refl
+crossings_sum g (suc n) = ap (λ (k : ℕ). k + bit (crossed_at g n)) (crossings_sum g n)
+
 pub crossings_le : (g : Picture) (n : ℕ) → crossings g n ≤ n
-unfolding sum_to
+unfolding crossings
 crossings_le g zero = omega arith
 crossings_le g (suc n) = go (crossed_at g n) (crossings_le g n)
   where
@@ -144,3 +149,4 @@ each_listed g n es once =
     let each : (k : ℕ) → k < n → occurs k es ≡ bit (crossed_at g k) = λ k l. once k
     ∙ ap (λ (b : Bool). bit (b && crossed_at g k)) (lt-ltb k n l) in
     sym (sum_occurs n es none) ∙ sum_same (λ k. occurs k es) (λ k. bit (crossed_at g k)) n each
+    ∙ sym (crossings_sum g n)

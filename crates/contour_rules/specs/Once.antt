@@ -98,14 +98,15 @@ unfoldable pub opens : List Contour → ℕ
 opens [] = 0
 opens (c ∷ cs) = cond c.closes 0 1 + opens cs
 
+-- how many crossed edges there are below n
+unfoldable pub crossings : Picture → ℕ → ℕ
+crossings g zero = 0
+crossings g (suc n) = crossings g n + bit (crossed_at g n)
+
 -- f 0 + f 1 + .. up to f (n − 1)
 unfoldable pub sum_to : (ℕ → ℕ) → ℕ → ℕ
 sum_to f zero = 0
 sum_to f (suc n) = sum_to f n + f n
-
--- how many crossed edges there are below n
-abbrev pub crossings : Picture → ℕ → ℕ
-crossings g n = sum_to (λ k. bit (crossed_at g k)) n
 
 -- what is asked of a list of contours; the theorem is that those of `contours_of` have it
 pub record EachOnce (g : Picture) (cs : List Contour) : Type 0 where

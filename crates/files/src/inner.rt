@@ -129,8 +129,7 @@ fn report_in(
     let mut bytes = io::large_buffer();
     let read = feed::read_register(rt, ids, groups, marks, counts, levels, points, &mut bytes);
     answer_read(
-        rt,
-        kind, ids, groups, marks, counts, levels, limits, &bytes, read, out,
+        rt, kind, ids, groups, marks, counts, levels, limits, &bytes, read, out,
     )
 }
 

@@ -2,6 +2,6 @@
 // decides is decided in the libraries below.
 #![tactic(auto)]
 
-pub mod inner;
 mod feed;
+pub mod inner;
 mod sentences;

@@ -46,7 +46,7 @@ level_exactly : (m n : ℕ) → 1000 ≤ m → m < 2 ^ 64 → level_value (level
 level_exactly m n lo hi = (
   λ e. subst (SmallestReaching m) e (level_smallest m lo hi),
   λ s. le_antisymm (not_before_rule m _ n (level_smallest m lo hi) s)
-  (not_before_rule m n _ s (level_smallest m lo hi)),
+      (not_before_rule m n _ s (level_smallest m lo hi)),
 )
 
 not-below : (m : ℕ) → ¬ (m < 1000) → 1000 ≤ m

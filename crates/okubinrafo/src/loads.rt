@@ -68,7 +68,7 @@ pub extern "C" fn okubinrafo_load(
     ensures { Writes
         (book_load points point (book_lent identities.now groups.now marks.now counts.now levels.now) days).refused
         (load_numbers
-            (book_load points point (book_lent identities.now groups.now marks.now counts.now levels.now) days))
+        (book_load points point (book_lent identities.now groups.now marks.now counts.now levels.now) days))
         answer.old result answer.new }
 {
     let load = load::load_at(
@@ -152,11 +152,11 @@ pub extern "C" fn okubinrafo_verdict(
 ) -> u32
     ensures { Writes
         (refusal_number
-            (book_verdict points point (book_lent identities.now groups.now marks.now counts.now levels.now) days
-            limit))
+        (book_verdict points point (book_lent identities.now groups.now marks.now counts.now levels.now) days
+        limit))
         (verdict_numbers
-            (book_verdict points point (book_lent identities.now groups.now marks.now counts.now levels.now) days
-            limit))
+        (book_verdict points point (book_lent identities.now groups.now marks.now counts.now levels.now) days
+        limit))
         answer.old result answer.new }
 {
     let judged = load::verdict_at(

@@ -25,8 +25,10 @@ of-powers s q h = s.requires.2 q h
 pub overflow_mul-result : goal.overflow_mul-result
 overflow_mul-result c =
     record {
-      fits = rw (of-b (goal.at.overflow_mul-result c).Start,
-          of-powers (goal.at.overflow_mul-result c).Start (c.args.n / 1000) (omega arith))
+      fits = rw (
+        of-b (goal.at.overflow_mul-result c).Start,
+        of-powers (goal.at.overflow_mul-result c).Start (c.args.n / 1000) (omega arith),
+      )
           (fits (c.args.n % 1000) (10 ^ (c.args.n / 1000)) (omega arith)
           (pow-le-pow_right (lit< tt) {j = 10} (omega arith)));
     }
@@ -35,20 +37,26 @@ pub overflow_mul-result-else-q-lt3 : goal.overflow_mul-result-else-q-lt3
 overflow_mul-result-else-q-lt3 c =
     record {
       fits =
-          rw (of-b (goal.at.overflow_mul-result-else-q-lt3 c).Start,
-          of-powers (goal.at.overflow_mul-result-else-q-lt3 c).Start (c.args.n / 1000) (omega arith))
+          rw (
+            of-b (goal.at.overflow_mul-result-else-q-lt3 c).Start,
+            of-powers (goal.at.overflow_mul-result-else-q-lt3 c).Start (c.args.n / 1000) (omega arith),
+          )
           (fits (c.args.n % 1000) (10 ^ (c.args.n / 1000) / 1000) (omega arith)
           (thousandth_le (c.args.n / 1000) 10 (omega arith)));
     }
 
 pub returns-then-q-lt3 : goal.returns-then-q-lt3
 unfolding bound
-returns-then-q-lt3 c = rw (of-b (goal.at.returns-then-q-lt3 c).Start,
-    of-powers (goal.at.returns-then-q-lt3 c).Start (c.args.n / 1000) (omega arith))
+returns-then-q-lt3 c = rw (
+  of-b (goal.at.returns-then-q-lt3 c).Start,
+  of-powers (goal.at.returns-then-q-lt3 c).Start (c.args.n / 1000) (omega arith),
+)
 
 pub returns-else-q-lt3 : goal.returns-else-q-lt3
 unfolding bound
 returns-else-q-lt3 c =
-    rw (of-b (goal.at.returns-else-q-lt3 c).Start,
-    of-powers (goal.at.returns-else-q-lt3 c).Start (c.args.n / 1000) (omega arith))
+    rw (
+      of-b (goal.at.returns-else-q-lt3 c).Start,
+      of-powers (goal.at.returns-else-q-lt3 c).Start (c.args.n / 1000) (omega arith),
+    )
     (sym (thousand_out (table_b (c.args.n % 1000)) (c.args.n / 1000) (omega arith)))

@@ -17,8 +17,10 @@ of-powers s = s.requires.2 (s.args.c / 1000) (omega arith)
 
 pub overflow_mul-result : goal.overflow_mul-result
 overflow_mul-result c =
-    record { fits = rw (of-a (goal.at.overflow_mul-result c).Start, of-powers (goal.at.overflow_mul-result c).Start)
-    (lt_of_le_of_lt (product_le c.args.c c.requires.0) (lit< tt)) }
+    record {
+      fits = rw (of-a (goal.at.overflow_mul-result c).Start, of-powers (goal.at.overflow_mul-result c).Start)
+          (lt_of_le_of_lt (product_le c.args.c c.requires.0) (lit< tt));
+    }
 
 pub returns : goal.returns
 returns c = unfold energy_of in rw (of-a (goal.at.returns c).Start, of-powers (goal.at.returns c).Start)

@@ -8,8 +8,10 @@ use Rattle.level.proofs.inner.scaled.Goals as goal
 use Rattle.level.proofs.inner.scaled.Goals.{Start}
 
 pub overflow_mul-rest : goal.overflow_mul-rest
-overflow_mul-rest c = record { fits = rest_fits_lem c.args.s c.args.n c.args.d c.requires.0 (omega arith)
-    (omega arith) }
+overflow_mul-rest c = record {
+  fits = rest_fits_lem c.args.s c.args.n c.args.d c.requires.0 (omega arith)
+      (omega arith);
+}
 
 -- the sum of both parts
 sum : (c : Start)

@@ -8,8 +8,11 @@ use Rattle.movement.proofs.rules.fields_fit.Goals as goal
 pub returns-then-second-ge-SECONDS_A_DAY : goal.returns-then-second-ge-SECONDS_A_DAY
 unfolding fields_fit
 returns-then-second-ge-SECONDS_A_DAY c =
-    simp (lt-ltb _ _ c.if-aircraft-ge-TYPES.false, lt-ltb _ _ c.if-kind-ge-KINDS.false,
-    le-ltb _ _ c.if-second-ge-SECONDS_A_DAY.true)
+    simp (
+      lt-ltb _ _ c.if-aircraft-ge-TYPES.false,
+      lt-ltb _ _ c.if-kind-ge-KINDS.false,
+      le-ltb _ _ c.if-second-ge-SECONDS_A_DAY.true,
+    )
 
 pub returns-then-mass-gt-MAX_MASS : goal.returns-then-mass-gt-MAX_MASS
 unfolding fields_fit

@@ -11,8 +11,10 @@ returns-then-mass-le-MASS_NOT_COUNTED c = simp
 
 pub returns : goal.returns
 unfolding movement_refusal counts
-returns c = simp (settled c.fields_fit.ensures c.if-not-fields_fit.false,
-    lt-ltb _ _ c.if-mass-le-MASS_NOT_COUNTED.false)
+returns c = simp (
+  settled c.fields_fit.ensures c.if-not-fields_fit.false,
+  lt-ltb _ _ c.if-mass-le-MASS_NOT_COUNTED.false,
+)
 
 pub returns-then-not-fields_fit : goal.returns-then-not-fields_fit
 returns-then-not-fields_fit c = unfold movement_refusal in simp (settled c.fields_fit.ensures c.if-not-fields_fit.true)

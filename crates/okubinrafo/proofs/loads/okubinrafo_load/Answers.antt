@@ -38,5 +38,8 @@ returns-then-refused-ne0 c = refuse (ap (λ (l : Load). l.refused) (sym c.load_a
 
 pub returns-then-answer-lt-LOAD_NUMBERS : goal.returns-then-answer-lt-LOAD_NUMBERS
 returns-then-answer-lt-LOAD_NUMBERS c = lack (fine (goal.at.returns-then-answer-lt-LOAD_NUMBERS c).Else-refused-ne0)
-    (omega (arith, long (goal.at.returns-then-answer-lt-LOAD_NUMBERS c).Else-refused-ne0,
-    c.if-answer-lt-LOAD_NUMBERS.true))
+    (omega (
+      arith,
+      long (goal.at.returns-then-answer-lt-LOAD_NUMBERS c).Else-refused-ne0,
+      c.if-answer-lt-LOAD_NUMBERS.true,
+    ))
