@@ -1,0 +1,32 @@
+use mathlib.Core.{Path.refl}
+use native.Mathlib.Omega.{arith}
+use borrow.Author.Rules.{rules}
+use Rattle.book_rules.specs.Columns.{book_of}
+use Rattle.stream.proofs.Turns.{come_none, come_next, come_done}
+use Rattle.report_steps.proofs.LongLines.{longest_register}
+use Rattle.files.proofs.feed.read_register.Goals as goal
+
+pub loop-turn-init : goal.loop-turn-init
+loop-turn-init c =
+    let a = c.args in
+    let b = book_of a.ids.now a.groups.now a.marks.now a.counts.now a.levels.now in
+    (come_none b a.bytes.now c.requires.longest_line_in_bounds, c.requires.levels_value, refl, refl, refl, refl, refl, refl)
+
+pub returns-then-state-ne-READING : goal.returns-then-state-ne-READING
+returns-then-state-ne-READING c =
+    come_done c.loop-turn.invariant.0 c.read_on-turn.ensures.0 (longest_register c.args.points) c.if-state-ne-READING.true
+
+pub loop-turn-smaller : goal.loop-turn-smaller
+loop-turn-smaller c =
+    let d = c.read_on-turn.ensures.0 in
+    omega (arith, d.grows c.if-state-ne-READING.false, (d.waits c.if-state-ne-READING.false).counts)
+
+pub loop-turn-preserved : goal.loop-turn-preserved
+loop-turn-preserved c =
+    let d = c.read_on-turn.ensures in
+    let next = come_next c.loop-turn.invariant.0 d.0 c.if-state-ne-READING.false in
+    (next, d.1, search rules, search rules, search rules, search rules, search rules, search rules)
+
+pub read_on-turn-requires : goal.read_on-turn-requires
+read_on-turn-requires c =
+    record { levels_value = c.loop-turn.invariant.1; waiting = c.loop-turn.invariant.0.waits }
