@@ -19,7 +19,7 @@ use Rattle.contour_rules.specs.Contours.{Contour, bit, contours_of, edges_of, co
 use Rattle.contour_rules.specs.Once.{sum_to}
 use Rattle.contour_rules.proofs.Every.{every_crossing}
 use Rattle.contour_rules.proofs.Sums.{length_counts, length_closed, sum_same, sum_add}
-use Rattle.wkt.specs.{Text.place_text, Calls.network_text, Calls.Prints, Printout.parted, Printout.lineText}
+use Rattle.wkt.specs.{Text.place_text, Calls.network_text, Calls.Prints, Printout.parted, Printout.line_text}
 use Rattle.wkt.specs.Printout.{RowPlace, ColumnPlace}
 use Rattle.wkt.proofs.Printout.{places_printed, text_printed}
 use Rattle.grid.specs.Read.{text_frame, text_levels}
@@ -83,9 +83,9 @@ module _ (levels : List ℕ) (f : Frame) (v : ℕ) where
 
   -- ---- the text of all
 
-  same_lines : (cs : List Contour) → map (lineText levels f v) cs ≡ map (line_of levels f v) (map shown cs)
+  same_lines : (cs : List Contour) → map (line_text levels f v) cs ≡ map (line_of levels f v) (map shown cs)
   same_lines [] = refl
-  same_lines (c ∷ cs) = ap (λ (ts : List (List ℕ)). lineText levels f v c ∷ ts) (same_lines cs)
+  same_lines (c ∷ cs) = ap (λ (ts : List (List ℕ)). line_text levels f v c ∷ ts) (same_lines cs)
 
   spells : 2 ≤ f.columns → network_text levels f v
       ≡ text_from levels f v (map shown (contours_of (lines levels f.columns f.rows v)))

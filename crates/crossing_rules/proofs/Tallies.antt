@@ -12,7 +12,7 @@ use Rattle.contour_rules.specs.{Picture.Picture, Contours.Contour, Contours.cont
 use Rattle.contour_rules.specs.Once.{Sound, AllSound}
 use Rattle.contour_rules.proofs.Every.{every_crossing}
 use Rattle.wkt.specs.declared.Spot.{Spot}
-use Rattle.wkt.specs.{Places.spot_of, Text.show_metres, Text.place_text, Printout.parted, Printout.lineText}
+use Rattle.wkt.specs.{Places.spot_of, Text.show_metres, Text.place_text, Printout.parted, Printout.line_text}
 use Rattle.wkt.specs.Calls.{network_text}
 use Rattle.wkt.proofs.Printout.{text_printed}
 use Rattle.crossing_rules.specs.Points.{line_of}
@@ -82,7 +82,7 @@ module _ (levels : List ℕ) (f : Frame) (v : ℕ) (d k p : ℕ) (low : d < 46) 
         )
 
     in_line_rule : (c : Contour) → 1 ≤ length c.edges
-        → count_of d (lineText levels f v c) + k ≡ p + many k (length (points_in levels f v c))
+        → count_of d (line_text levels f v c) + k ≡ p + many k (length (points_in levels f v c))
     in_line_rule c h = go c.edges h
       where
         go : (es : List ℕ) → 1 ≤ length es
@@ -103,12 +103,12 @@ module _ (levels : List ℕ) (f : Frame) (v : ℕ) (d k p : ℕ) (low : d < 46) 
             )
 
     in_lines : (g : Picture) (c : Contour) (cs : List Contour) → AllSound g (c ∷ cs)
-        → count_of d (parted levels f v (map (lineText levels f v) (c ∷ cs))) + k ≡ weight levels f v k p (c ∷ cs)
+        → count_of d (parted levels f v (map (line_text levels f v) (c ∷ cs))) + k ≡ weight levels f v k p (c ∷ cs)
     unfolding weight
     in_lines g c [] s = omega (arith, in_line_rule c (some_edges g c.closes c.edges s.0))
     in_lines g c (c' ∷ cs) s =
-        let line = lineText levels f v c in
-        let rest = parted levels f v (map (lineText levels f v) (c' ∷ cs)) in
+        let line = line_text levels f v c in
+        let rest = parted levels f v (map (line_text levels f v) (c' ∷ cs)) in
         omega (
           arith,
           count_append d line (bytes ", " ++ rest),
@@ -123,7 +123,7 @@ module _ (levels : List ℕ) (f : Frame) (v : ℕ) (d k p : ℕ) (low : d < 46) 
         (cs : List Contour) → contours_of (lines levels f.columns f.rows v) ≡ c ∷ cs
         → count_of d (network_text levels f v) + k ≡ q + weight levels f v k p (c ∷ cs)
     in_text_rule q begins wide c cs e =
-        let t = parted levels f v (map (lineText levels f v) (c ∷ cs)) in
+        let t = parted levels f v (map (line_text levels f v) (c ∷ cs)) in
         let g = lines levels f.columns f.rows v in
         ap (λ (b : List ℕ). count_of d b + k) ((text_printed levels f v wide).some c cs e)
         ∙ omega (
