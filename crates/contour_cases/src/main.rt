@@ -6,8 +6,8 @@
 
 mod full;
 
-use cases::inner::line_past;
 use cases::fields::{letter, number, numbers};
+use cases::inner::line_past;
 use cases::show::{list, say, told};
 use network::Frame;
 

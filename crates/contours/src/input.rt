@@ -8,14 +8,14 @@ use contours_steps::words::{Given, take_word};
 use refusal::both;
 
 // Reads the program's arguments once: the levels that they spell, in their order, and how many words there are.
-pub(crate) fn gather(asked: &mut [u32]) -> Given
+pub(crate) fn gather(rt: &HostRuntime, asked: &mut [u32]) -> Given
     ensures { Gathered result asked.new }
 {
-    let count = argument_count();
+    let count = argument_count(rt);
     let mut fit = true;
     let mut i = 0;
     while i < count {
-        let good = word_at(asked, i);
+        let good = word_at(rt, asked, i);
         fit = both(fit, good);
         i += 1;
     }
@@ -23,11 +23,11 @@ pub(crate) fn gather(asked: &mut [u32]) -> Given
 }
 
 // The argument at a place, which counts from 0.
-fn word_at(asked: &mut [u32], place: usize) -> bool
+fn word_at(rt: &HostRuntime, asked: &mut [u32], place: usize) -> bool
     requires { place + 1 < 2 ^ 64 }
     ensures { ArgumentTaken asked.old place result asked.new }
 {
     let mut word = [0u8; 16];
-    let n = argument(place + 1, &mut word);
+    let n = argument(rt, place + 1, &mut word);
     take_word(asked, place, &word[..n])
 }

@@ -36,9 +36,9 @@ const HEADER_NUMBERS: usize = 5;
 
 const MAX_POINTS: usize = MAX_SIDE as usize * MAX_SIDE as usize;
 
-fn main() {
+fn main(rt: HostRuntime) {
     let mut sent = 0;
-    let went = run(&mut sent);
+    let went = run(&rt, &mut sent);
     if !went {
         io::write_all(STDERR_FILENO, b"the output could not be written\n");
     }
@@ -46,19 +46,26 @@ fn main() {
 
 // All of it: what is read and given is answered. As each function from here on, it answers whether all was taken, and
 // moves the one count of bytes that went.
-fn run(sent: &mut usize) -> bool
+fn run(rt: &HostRuntime, sent: &mut usize) -> bool
     requires { sent.old ≡ 0 }
     ensures { Run MayWrite result sent.new }
 {
     let mut text = [0u8; MAX_TEXT];
     let mut asked = [0u32; MAX_CONTOUR_LEVELS];
-    let read = channel::whole::read_all(&mut text);
-    let given = input::gather(&mut asked);
-    answer(&text, read, &asked, given, sent)
+    let read = channel::whole::read_all(rt, &mut text);
+    let given = input::gather(rt, &mut asked);
+    answer(rt, &text, read, &asked, given, sent)
 }
 
 // What the reading came to: only a network that was read to its end is judged.
-fn answer(text: &[u8], read: Filled, asked: &[u32], given: Given, sent: &mut usize) -> bool
+fn answer(
+    rt: &HostRuntime,
+    text: &[u8],
+    read: Filled,
+    asked: &[u32],
+    given: Given,
+    sent: &mut usize,
+) -> bool
     requires fills { Fills input read text.now }
     requires text_len { length text.now ≡ max_text }
     requires asked_len { length asked.now ≡ max_contour_levels }
@@ -69,7 +76,7 @@ fn answer(text: &[u8], read: Filled, asked: &[u32], given: Given, sent: &mut usi
     let size = read.size;
     let state = read.state;
     if state == COMPLETE {
-        return judged(&text[..size], asked, given, sent);
+        return judged(rt, &text[..size], asked, given, sent);
     }
     if state == FAILED {
         return failed(&text[..size], asked, given, sent);
@@ -108,7 +115,7 @@ fn overlong(text: &[u8], asked: &[u32], given: Given, sent: &mut usize) -> bool
 }
 
 // The whole network is judged, and then the words.
-fn judged(text: &[u8], asked: &[u32], given: Given, sent: &mut usize) -> bool
+fn judged(rt: &HostRuntime, text: &[u8], asked: &[u32], given: Given, sent: &mut usize) -> bool
     requires read_whole { ReadWhole text.now }
     requires gathered { Gathered given asked.now }
     requires asked_len { length asked.now ≡ max_contour_levels }
@@ -121,7 +128,7 @@ fn judged(text: &[u8], asked: &[u32], given: Given, sent: &mut usize) -> bool
     if why != 0 {
         return refuse_network(text, why, asked, given, sent);
     }
-    with_words(text, &header, &levels, asked, given, sent)
+    with_words(rt, text, &header, &levels, asked, given, sent)
 }
 
 // The network is refused.
@@ -152,6 +159,7 @@ fn refused_line(text: &[u8], why: u32) -> u64
 
 // The words, for a network that is not refused.
 fn with_words(
+    rt: &HostRuntime,
     text: &[u8],
     header: &[u32],
     levels: &[u32],
@@ -173,7 +181,7 @@ fn with_words(
     }
     let went = print::refusal(text, asked, given, why, 0, sent);
     if went {
-        say::words_off(why, given.count);
+        say::words_off(rt, why, given.count);
     }
     went
 }

@@ -113,7 +113,15 @@ fn contours(levels: &[u32], frame: Frame, asked: &[u32], v: u32, sent: &mut usiz
     let mut closed = [0u32; MAX_EDGES];
     let nx = frame.columns as usize;
     let ny = frame.rows as usize;
-    let got = contour::inner::list_contours(levels, nx, ny, v, &mut edges, &mut counts, &mut closed);
+    let got = contour::inner::list_contours(
+        levels,
+        nx,
+        ny,
+        v,
+        &mut edges,
+        &mut counts,
+        &mut closed,
+    );
     fronts(levels, frame, asked, v, &edges, &counts, &closed, got, sent)
 }
 

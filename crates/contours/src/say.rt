@@ -4,17 +4,17 @@ use contours_steps::words::contour_of;
 use said_contours::of_words;
 
 // Whether argument i is a contour level.
-fn fits(i: usize) -> bool {
+fn fits(rt: &HostRuntime, i: usize) -> bool {
     let mut word = [0u8; 16];
-    let n = argument(i, &mut word);
+    let n = argument(rt, i, &mut word);
     contour_of(&word[..n]) != 0
 }
 
 // The first argument that is none, or the last.
-fn first_off(count: usize) -> usize {
+fn first_off(rt: &HostRuntime, count: usize) -> usize {
     let mut i = 0;
     while i < count {
-        if !fits(i + 1) {
+        if !fits(rt, i + 1) {
             return i + 1;
         }
         i += 1;
@@ -23,14 +23,14 @@ fn first_off(count: usize) -> usize {
 }
 
 // Argument i is refused.
-fn word_off(i: usize) {
+fn word_off(rt: &HostRuntime, i: usize) {
     let mut word = io::buffer();
-    let n = argument(i, &mut word);
+    let n = argument(rt, i, &mut word);
     of_words::refused(i, &word[..n]);
 }
 
 // The arguments are refused, of which there are `count`.
-pub(crate) fn words_off(refusal: u32, count: usize) {
+pub(crate) fn words_off(rt: &HostRuntime, refusal: u32, count: usize) {
     if refusal == 14 {
         of_words::too_many(count);
         return;
@@ -39,5 +39,5 @@ pub(crate) fn words_off(refusal: u32, count: usize) {
         of_words::too_few();
         return;
     }
-    word_off(first_off(count));
+    word_off(rt, first_off(rt, count));
 }

@@ -82,7 +82,7 @@ module _ (levels : List ℕ) (f : Frame) (v : ℕ) where
       )
 
 pub start_short : (v : ℕ) → v < 1000000 → length (line_start v) ≤ 8
-start_short v h = omega (arith, length-append (show_thousandths v) (59 ∷ []), thousandths_most v h)
+start_short v h = omega (arith, length-append {A = ℕ}, thousandths_most v h)
 
 pub line_length : (levels : List ℕ) (f : Frame) (v : ℕ)
     → length (level_line levels f v) ≡ length (line_start v) + (length (network_text levels f v) + 2)

@@ -1,5 +1,6 @@
 -- What a person may count on in what the program contours writes. Assumes nothing.
-use Rattle.std.specs.Prelude.{◌≡◌, ℕ, suc, ◌+◌, ◌<◌, ◌≤◌, cond, ◌&&◌, List, [], ◌∷◌, ◌++◌, length, get_or, ◌==◌, ◌≢◌, slice_index, slice_index_or}
+use Rattle.std.specs.Prelude.{◌≡◌, ℕ, suc, ◌+◌, ◌<◌, ◌≤◌, cond, ◌&&◌, List, [], ◌∷◌, ◌++◌, length, get_or, ◌==◌, ◌≢◌}
+use Rattle.std.specs.Prelude.{slice_index, slice_index_or}
 use Rattle.text.specs.Number.{shown, show_thousandths, InThousandths}
 use Rattle.text.specs.Spelled.{bytes}
 use Rattle.text.specs.Line.{lines_of}
@@ -40,7 +41,8 @@ pub record EachWord (text : List ℕ) (words : List (List ℕ)) : Type 0 where
 -- fault, the others with line 0; and nothing is refused exactly if the network is not and there are words, 15,000 at
 -- most, that all spell a level
 pub record Judged (text : List ℕ) (words : List (List ℕ)) : Type 0 where
-  pub off_layout_rule : 1 ≤ fault_line (lines_of text) → written_of text words ≡ refused_line 17 (fault_line (lines_of text))
+  pub off_layout_rule : 1 ≤ fault_line (lines_of text) → written_of text words
+      ≡ refused_line 17 (fault_line (lines_of text))
   pub network : fault_line (lines_of text) ≡ 0 → (text_refusal text ≢ 0)
       → written_of text words ≡ refused_line (text_refusal text) 0
   pub no_word : text_refusal text ≡ 0 → length words ≡ 0 → written_of text words ≡ refused_line 15 0

@@ -1,6 +1,7 @@
 -- The arguments of the program contours: one contour level or more, each with two or three decimals.
 -- Assumes nothing.
-use Rattle.std.specs.Prelude.{◌≡◌, ℕ, ◌+◌, ◌<◌, ◌≤◌, Bool, true, ◌&&◌, List, [], map, length, take, nat_le, slice_index_or, slice_set}
+use Rattle.std.specs.Prelude.{◌≡◌, ℕ, ◌+◌, ◌<◌, ◌≤◌, Bool, true, ◌&&◌, List, [], map, length, take, nat_le}
+use Rattle.std.specs.Prelude.{slice_index_or, slice_set}
 use Rattle.refusal.specs.Refuse.{refuse}
 use Rattle.text.specs.Number.{thousandths_of, is_got, value_of}
 use Rattle.network.specs.Limits.{least_contour, max_contour}

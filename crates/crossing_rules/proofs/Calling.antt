@@ -6,7 +6,7 @@ use native.Mathlib.Omega.{arith}
 use borrow.Author.Tests.{leb-true, eqb-true, eqb-false}
 use lib.{Dec.leb, Dec.eqb, ListN.length, ListN.get_or}
 use Rattle.refusal.specs.Refuse.{refuse}
-use Rattle.room.specs.{Lent.Lent, Room.front, Room.fits_in, Room.then_room}
+use Rattle.room.specs.{Lent.Lent, Lent.LentRoom, Room.front, Room.fits_in, Room.then_room}
 use Rattle.room.proofs.Fronts.{front_at, length_front}
 use Rattle.network.specs.declared.Frame.{Frame}
 use Rattle.network.specs.{Refusals.contour_refusal, Ranges.RightFrame, Ranges.RightLevels, Ranges.RightContour}
@@ -14,7 +14,8 @@ use Rattle.network.proofs.{Refusals.both, Ranges.contour_refused}
 use Rattle.contour_rules.specs.{Picture.Picture, Rule.lines}
 use Rattle.contour_rules.specs.Contours.{Contour, contours_of, edges_of, counts_of, closed_of}
 use Rattle.contour_rules.proofs.{Every.every_crossing, Every.few, Sums.length_counts, Sums.length_closed}
-use Rattle.contour.specs.Answers.{Outcome, Lists, lists_of, answer_of, fits, left_with, outcome, outcome_left, outcome_due}
+use Rattle.contour.specs.Answers.{Outcome, Lists, lists_of, answer_of, fits, left_with, outcome, outcome_left}
+use Rattle.contour.specs.Answers.{outcome_due}
 use Rattle.contour.proofs.Telling.{outcome_told}
 use Rattle.crossing_rules.specs.Calls.{RoomForEach, EveryCrossing}
 use Rattle.crossing_rules.proofs.{Reading.Tells, Reading.tells, Every.one_time}
@@ -96,7 +97,7 @@ module _ (levels : List ℕ) (f : Frame) (v : ℕ) (edges counts closed sizes : 
 
 -- ---- of a call that keeps its contract
 
-module _ (levels : Lent) (f : Frame) (v : ℕ) (edges counts closed sizes : Lent) (r : ℕ)
+module _ (levels : Lent) (f : Frame) (v : ℕ) (edges counts closed sizes : LentRoom) (r : ℕ)
     (h : outcome_left r edges counts closed sizes ≡ outcome_due levels f v edges counts closed sizes) where
   abbrev here : List ℕ
   here = levels.entry.now

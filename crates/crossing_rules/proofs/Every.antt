@@ -12,7 +12,7 @@ use Rattle.contour_rules.specs.Contours.{Contour, bit, edges_of}
 use Rattle.contour_rules.specs.Once.{Follows, sum_to, EachOnce}
 use Rattle.contour_rules.specs.{Rule.lines, EachEdge.edges_at, EachEdge.EachCrossedEdgeOnce}
 use Rattle.contour_rules.specs.EachEdge.{StandsAt as On, StandsOnce as OnOnce}
-use Rattle.contour_rules.proofs.Sums.{sum_same, sum_add, all_listed}
+use Rattle.contour_rules.proofs.Sums.{sum_same, sum_add, each_listed}
 use Rattle.contour_rules.proofs.EachEdge.{is_crossed_rule, said_of_levels}
 use Rattle.crossing_rules.specs.Step.{Step, ComesIn, GoesOut}
 use Rattle.crossing_rules.specs.OneTime.{edge_of, steps_of, steps_made, open_ones, crossed_edges, OneTime}
@@ -176,7 +176,7 @@ module _ (levels : List ℕ) (nx ny v : ℕ) (wide : 2 ≤ nx) (tall : 2 ≤ ny)
     -- ---- all together
 
     all_counted : listed ≡ crossed_edges levels nx ny v
-    all_counted = t.listed_are ∙ all_listed g (edges_in g) (edges_of cs) each.once ∙ counted levels nx ny v wide
+    all_counted = t.listed_are ∙ each_listed g (edges_in g) (edges_of cs) each.once ∙ counted levels nx ny v wide
 
     made : steps_made counts closed contours + open_ones closed contours ≡ crossed_edges levels nx ny v
     made =
@@ -187,7 +187,8 @@ module _ (levels : List ℕ) (nx ny v : ℕ) (wide : 2 ≤ nx) (tall : 2 ≤ ny)
         ∙ t.start ∙ all_counted
       where
         one : (i : ℕ) → i < contours
-            → steps_of (get_or counts i 0) (get_or closed i 0) + cond (eqb (get_or closed i 0) 0) 1 0 ≡ get_or counts i 0
+            → steps_of (get_or counts i 0) (get_or closed i 0) + cond (eqb (get_or closed i 0) 0) 1 0
+            ≡ get_or counts i 0
         one i h = rw (t.mark i (below i h), t.count i (below i h))
             (steps_and_open (length (edges_at cs i)) (contour_at cs i).closes (line i h).some)
 

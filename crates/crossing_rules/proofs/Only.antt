@@ -1,7 +1,7 @@
 -- No other numbers hold every crossing one time: read back, they are the contours of the network. Assumes nothing.
 use mathlib.Core.Path.{◌≡◌, refl, sym, ap, ◌∙◌, subst}
 use mathlib.Core.{Bool.Bool, Bool.true, Bool.false, Bool.◌&&◌, List.List, List.[], List.◌∷◌}
-use mathlib.Core.Logic.{◌⊎◌, inl, inr, ⊎_elim}
+use mathlib.Core.Logic.{inl, inr, ⊎_elim}
 use Prim.Native.Nat.{ℕ, zero, suc, ◌+◌, ◌-◌, ◌≤◌, ◌<◌}
 use native.Mathlib.Omega.{arith}
 use borrow.Author.Tests.{eq-eqb, ne_eqb}
@@ -12,7 +12,7 @@ use Rattle.contour_rules.specs.Contours.{Contour, bit, contours_of, edges_of, co
 use Rattle.contour_rules.specs.Once.{occurs, Follows, Enters, Exits, AllSound}
 use Rattle.contour_rules.specs.Once.{sum_to, EachOnce, Before as ListedBefore}
 use Rattle.contour_rules.specs.EachEdge.{edges_at, CrossedNumber}
-use Rattle.contour_rules.proofs.Sums.{length_counts, all_steps, sum_same, all_listed}
+use Rattle.contour_rules.proofs.Sums.{length_counts, all_steps, sum_same, each_listed}
 use Rattle.contour_rules.proofs.{Waiting.is_or_not, Waiting.clash, Only.only_these}
 use Rattle.contour_rules.proofs.EachEdge.{numbered, is_crossed_rule}
 use Rattle.contour.specs.Told.{contours_told}
@@ -249,7 +249,7 @@ module _ (levels : List ℕ) (nx ny v : ℕ) (wide : 2 ≤ nx) where
       once = once;
       sound = sound;
       ordered = ordered_of cs in_order;
-      steps_made_rule = all_steps g cs sound ∙ all_listed g (edges_in g) (edges_of cs) once;
+      steps_made_rule = all_steps g cs sound ∙ each_listed g (edges_in g) (edges_of cs) once;
     }
 
     -- read back, the numbers are the contours

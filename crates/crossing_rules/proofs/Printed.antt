@@ -8,7 +8,7 @@ use borrow.Author.Tests.{leb-true}
 use lib.Dec.{leb}
 use lib.ListN.{length, get_or, length-map, length-append, get_or-append}
 use lib.Seq.{get_or-append-add}
-use Rattle.room.specs.{Lent.Lent, Room.fits_in, Room.front, Room.leaves, Room.then_room}
+use Rattle.room.specs.{Lent.Lent, Lent.LentRoom, Room.fits_in, Room.front, Room.leaves, Room.then_room}
 use Rattle.room.proofs.Fronts.{front_is, length_front}
 use Rattle.text.specs.{Spelled.bytes, Field.count_of}
 use Rattle.network.specs.declared.Frame.{Frame}
@@ -19,7 +19,7 @@ use Rattle.contour_rules.specs.Contours.{Contour, bit, contours_of, edges_of, co
 use Rattle.contour_rules.specs.Once.{sum_to}
 use Rattle.contour_rules.proofs.Every.{every_crossing}
 use Rattle.contour_rules.proofs.Sums.{length_counts, length_closed, sum_same, sum_add}
-use Rattle.wkt.specs.{Text.place_text, Calls.network_text, Calls.Prints, Printout.parted, Printout.lineText}
+use Rattle.wkt.specs.{Text.place_text, Calls.network_text, Calls.Prints, Printout.parted, Printout.line_text}
 use Rattle.wkt.specs.Printout.{RowPlace, ColumnPlace}
 use Rattle.wkt.proofs.Printout.{places_printed, text_printed}
 use Rattle.grid.specs.Read.{text_frame, text_levels}
@@ -27,7 +27,7 @@ use Rattle.contours_steps.specs.Sheet.{refusal_of}
 use Rattle.contours_steps.proofs.{Drawings.fine_both, Drawings.text_checked, Telling.each_word}
 use Rattle.crossing_rules.specs.Sheet.{LineShows}
 use Rattle.crossing_rules.specs.OneTime.{edge_of, OneTime}
-use Rattle.crossing_rules.specs.Points.{points_of, closed_ones, line_of, textFrom, PlaceOf, Points, Shows, TextHolds}
+use Rattle.crossing_rules.specs.Points.{points_of, closed_ones, line_of, text_from, PlaceOf, Points, Shows, TextHolds}
 use Rattle.crossing_rules.proofs.Sums.{sum_first}
 use Rattle.crossing_rules.proofs.{Reading.contour_at, Reading.Tells, Reading.tells, Every.closes_if}
 use Rattle.crossing_rules.proofs.{Every.one_time, Only.are_the_contours, Calling.answered_if}
@@ -83,16 +83,16 @@ module _ (levels : List ℕ) (f : Frame) (v : ℕ) where
 
   -- ---- the text of all
 
-  same_lines : (cs : List Contour) → map (lineText levels f v) cs ≡ map (line_of levels f v) (map shown cs)
+  same_lines : (cs : List Contour) → map (line_text levels f v) cs ≡ map (line_of levels f v) (map shown cs)
   same_lines [] = refl
-  same_lines (c ∷ cs) = ap (λ (ts : List (List ℕ)). lineText levels f v c ∷ ts) (same_lines cs)
+  same_lines (c ∷ cs) = ap (λ (ts : List (List ℕ)). line_text levels f v c ∷ ts) (same_lines cs)
 
   spells : 2 ≤ f.columns → network_text levels f v
-      ≡ textFrom levels f v (map shown (contours_of (lines levels f.columns f.rows v)))
+      ≡ text_from levels f v (map shown (contours_of (lines levels f.columns f.rows v)))
   spells wide = go (contours_of (lines levels f.columns f.rows v)) refl
     where
       go : (cs : List Contour) → contours_of (lines levels f.columns f.rows v) ≡ cs
-          → network_text levels f v ≡ textFrom levels f v (map shown cs)
+          → network_text levels f v ≡ text_from levels f v (map shown cs)
       go [] e = (text_printed levels f v wide).none e
       go (c ∷ cs) e = (text_printed levels f v wide).some c cs e
           ∙ ap (λ (ts : List (List ℕ)). bytes "MULTILINESTRING (" ++ parted levels f v ts ++ bytes ")")
@@ -194,7 +194,8 @@ module _ (levels : List ℕ) (f : Frame) (v : ℕ) where
     all_shown : lengths (map shown cs) ≡ listed + closed_ones closed contours
     all_shown =
         ap (sum_to (λ i. length (get_or (map shown cs) i []))) (length-map cs shown ∙ sym t.contours_are)
-        ∙ sum_same (λ i. length (get_or (map shown cs) i [])) (λ i. points_of (get_or counts i 0) (get_or closed i 0)) contours
+        ∙ sum_same (λ i. length (get_or (map shown cs) i [])) (λ i. points_of (get_or counts i 0) (get_or closed i 0))
+        contours
         points_at_rule
         ∙ sum_add (λ i. get_or counts i 0) (λ i. get_or closed i 0) contours
         ∙ ap (λ (n : ℕ). n + closed_ones closed contours) t.start
@@ -234,7 +235,7 @@ text_shows levels f v k =
     }
 
 -- of a call that keeps its contract
-module _ (levels : Lent) (f : Frame) (v : ℕ) (text size : Lent) (r : ℕ)
+module _ (levels : Lent) (f : Frame) (v : ℕ) (text size : LentRoom) (r : ℕ)
     (printed : Prints (contour_refusal levels.entry.now f v) (network_text levels.entry.now f v) text size r)
     (answered : r ≡ 0) where
   abbrev here : List ℕ

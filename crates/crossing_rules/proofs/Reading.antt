@@ -5,7 +5,8 @@ use Prim.Native.Nat.{ℕ, zero, suc, ◌+◌, ◌≤◌, ◌<◌}
 use native.Mathlib.Omega.{arith}
 use lib.ListN.{length, get_or, take, drop, length-append, length-drop, take-append-drop, get_or-append}
 use lib.{Dec.eqb, Seq.get_or-append-add, Seq.length-take-le}
-use Rattle.contour_rules.specs.{Contours.Contour, Contours.bit, Contours.edges_of, Contours.counts_of, Contours.closed_of}
+use Rattle.contour_rules.specs.{Contours.Contour, Contours.bit, Contours.edges_of, Contours.counts_of}
+use Rattle.contour_rules.specs.{Contours.closed_of}
 use Rattle.contour_rules.specs.{Once.sum_to, EachEdge.edges_at}
 use Rattle.contour_rules.proofs.Sums.{sum_same}
 use Rattle.contour.specs.Told.{contours_told}

@@ -1,7 +1,7 @@
 -- What a crossed edge leads to is the rule's step, said of the levels. Assumes nothing.
 use mathlib.Core.Path.{◌≡◌, refl, sym, ap, ◌∙◌, subst}
 use mathlib.Core.{Bool.Bool, Bool.true, Bool.false, Bool.◌||◌, List.List}
-use mathlib.Core.Logic.{◌⊎◌, inl, inr, ⊎_elim}
+use mathlib.Core.Logic.{inl, inr, ⊎_elim}
 use Prim.Native.Nat.{ℕ, ◌+◌, ◌-◌, ◌≤◌, ◌<◌}
 use native.Mathlib.Omega.{arith}
 use borrow.Author.Tests.{eqb-true}
@@ -15,7 +15,8 @@ use Rattle.contour_rules.specs.declared.Side.TheVariants.{South, East, North, We
 use Rattle.contour_rules.specs.declared.Ahead.TheVariants.{Square, Outside}
 use Rattle.contour_rules.specs.Picture.{Picture}
 use Rattle.contour_rules.specs.Squares.{WithinSquare, turn, side_edge, corner, exit_of}
-use Rattle.contour_rules.specs.Crossings.{crossed, ahead_of, behind_of, through, is_outside, on_border, edges_in, edge_of}
+use Rattle.contour_rules.specs.Crossings.{crossed, ahead_of, behind_of, through, is_outside, on_border, edges_in}
+use Rattle.contour_rules.specs.Crossings.{edge_of}
 use Rattle.contour_rules.specs.Crossings.{crossed_at, enters_at, next_number, next_at}
 use Rattle.contour_rules.specs.Rule.{lines, Entering, FollowsRule}
 use Rattle.contour_rules.specs.Once.{Follows}

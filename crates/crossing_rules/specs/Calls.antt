@@ -1,7 +1,7 @@
 -- What the call for contours leaves in lent memory holds every crossing one time: RULES, "Network and contours".
 -- Assumes nothing.
 use Rattle.std.specs.Prelude.{◌≡◌, List, ℕ, ◌+◌, ◌-◌, ◌*◌, ◌≤◌, length, get_or}
-use Rattle.room.specs.Lent.{Lent}
+use Rattle.room.specs.Lent.{Lent, LentRoom}
 use Rattle.network.specs.declared.Frame.{Frame}
 use Rattle.network.specs.Ranges.{RightFrame, RightLevels, RightContour}
 use Rattle.crossing_rules.specs.OneTime.{OneTime}
@@ -11,7 +11,7 @@ abbrev pub RoomForEach : Frame → List ℕ → Type 0
 RoomForEach f room = f.rows * (f.columns - 1) + (f.rows - 1) * f.columns ≤ length room
 
 -- the call answered r; its lists at entry and exit
-module _ (levels : Lent) (f : Frame) (v : ℕ) (edges counts closed sizes : Lent) (r : ℕ) where
+module _ (levels : Lent) (f : Frame) (v : ℕ) (edges counts closed sizes : LentRoom) (r : ℕ) where
   -- the numbers in the buffers, of which the first two sizes say how many there are, hold every crossing one time
   abbrev pub Holds : Type 0
   Holds =

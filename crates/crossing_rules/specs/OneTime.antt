@@ -1,7 +1,7 @@
 -- Every crossing, one time, said of the numbers that an answer lists: edges, one contour after the other, for each
 -- contour its count, and 1 if it closes or 0; `listed` edges and `contours` contours. RULES, "Network and contours".
 -- Assumes nothing.
-use Rattle.std.specs.Prelude.{◌≡◌, cond, ◌⊎◌, List, ℕ, ◌+◌, ◌-◌, ◌*◌, ◌≤◌, ◌<◌, leb, eqb, length, get_or}
+use Rattle.std.specs.Prelude.{◌≡◌, cond, ◌⊎◌, List, ℕ, ◌+◌, ◌-◌, ◌*◌, ◌≤◌, ◌<◌, nat_le, ◌==◌, length, get_or}
 use Rattle.contour_rules.specs.{Once.sum_to, EachEdge.CrossedNumber}
 use Rattle.crossing_rules.specs.Step.{Step, ComesIn, GoesOut}
 
@@ -9,7 +9,7 @@ use Rattle.crossing_rules.specs.Step.{Step, ComesIn, GoesOut}
 
 -- 1 where one of two levels is in and the other is not
 abbrev pub one_in : (v a b : ℕ) → ℕ
-one_in v a b = cond (leb v a) (cond (leb v b) 0 1) (cond (leb v b) 1 0)
+one_in v a b = cond (nat_le v a) (cond (nat_le v b) 0 1) (cond (nat_le v b) 1 0)
 
 -- counted along the rows, and along the columns
 abbrev pub crossed_edges : (levels : List ℕ) (nx ny v : ℕ) → ℕ
@@ -37,7 +37,7 @@ steps_made counts closed contours = sum_to (λ i. steps_of (get_or counts i 0) (
 
 -- how many contours are open
 abbrev pub open_ones : (closed : List ℕ) (contours : ℕ) → ℕ
-open_ones closed contours = sum_to (λ i. cond (eqb (get_or closed i 0) 0) 1 0) contours
+open_ones closed contours = sum_to (λ i. cond (get_or closed i 0 == 0) 1 0) contours
 
 module _ (edges counts : List ℕ) (contours : ℕ) where
   -- the number n stands as edge j of contour i

@@ -1,7 +1,7 @@
 -- The text of contours read as lines of points: RULES, "Network and contours" and "Files and the report program". It
 -- has as many points as edges, and one more a closed line. Assumes nothing.
 use Rattle.std.specs.Prelude.{◌≡◌, ◌⊎◌, List, [], ◌∷◌, ◌++◌, map, ℕ, ◌+◌, ◌≤◌, ◌<◌, length, get_or, take}
-use Rattle.room.specs.Lent.{Lent}
+use Rattle.room.specs.Lent.{Lent, LentRoom}
 use Rattle.text.specs.Spelled.{bytes, byte}
 use Rattle.text.specs.Field.{count_of}
 use Rattle.network.specs.declared.Frame.{Frame}
@@ -22,9 +22,9 @@ module _ (levels : List ℕ) (f : Frame) (v : ℕ) where
   abbrev pub line_of : List (List ℕ) → List ℕ
   line_of points = bytes "(" ++ parted levels f v points ++ bytes ")"
 
-  abbrev pub textFrom : List (List (List ℕ)) → List ℕ
-  textFrom [] = bytes "MULTILINESTRING EMPTY"
-  textFrom (l ∷ ls) = bytes "MULTILINESTRING (" ++ parted levels f v (map line_of (l ∷ ls)) ++ bytes ")"
+  abbrev pub text_from : List (List (List ℕ)) → List ℕ
+  text_from [] = bytes "MULTILINESTRING EMPTY"
+  text_from (l ∷ ls) = bytes "MULTILINESTRING (" ++ parted levels f v (map line_of (l ∷ ls)) ++ bytes ")"
 
   -- a text is the printed place of the crossing on edge n, a horizontal one or a vertical one
   pub record OnRow (n : ℕ) (text : List ℕ) : Type 0 where
@@ -41,7 +41,7 @@ module _ (levels : List ℕ) (f : Frame) (v : ℕ) where
   -- a text, and the numbers of the contours that it shows
   pub record Points (edges counts closed : List ℕ) (listed contours : ℕ) (text : List ℕ) : Type 0 where
     pub lines : List (List (List ℕ))
-    pub spelled : text ≡ textFrom lines
+    pub spelled : text ≡ text_from lines
     -- a line for each contour, with as many points as it has edges, and one more if it closes
     pub each_contour : length lines ≡ contours
     pub points : (i : ℕ) → i < contours → length (get_or lines i []) ≡ points_of (get_or counts i 0) (get_or closed i 0)
@@ -70,6 +70,6 @@ pub record Shows (levels : List ℕ) (f : Frame) (v : ℕ) (text : List ℕ) : T
       → Points levels f v edges' counts' closed' listed' contours' text
 
 -- what a call left in lent memory: the size beside the text says how much of it shows every crossing one time
-pub record TextHolds (levels : Lent) (f : Frame) (v : ℕ) (text size : Lent) : Type 0 where
+pub record TextHolds (levels : Lent) (f : Frame) (v : ℕ) (text size : LentRoom) : Type 0 where
   pub there : get_or size.exit.now 0 0 ≤ length text.exit.now
   pub shows : Shows levels.entry.now f v (take (get_or size.exit.now 0 0) text.exit.now)

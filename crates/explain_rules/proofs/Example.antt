@@ -9,6 +9,7 @@ use Rattle.explain_text.specs.Text.{group_amounts, all_amounts, factor_text, gro
 use Rattle.explain_rules.specs.Example.{ExampleHolds}
 
 pub example_holds : ExampleHolds
-unfolding scaled_by sum_to known unknown known_sum unknown_sum general_factor scaled_energy scaled_sum total_of group_period
+unfolding scaled_by sum_to known unknown known_sum unknown_sum general_factor scaled_energy scaled_sum total_of
+    group_period
     shown joined_by ended group_amounts all_amounts factor_text group_line group_lines point_lines
 example_holds = record { lines = refl }

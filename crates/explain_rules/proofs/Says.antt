@@ -25,7 +25,8 @@ use Rattle.report_text.specs.Text.{book_refusal, book_text}
 use Rattle.text.proofs.Sheets.{at_least, least_free, lines_ended}
 use Rattle.report_rules.proofs.WholeText.{last_ended}
 use Rattle.explain_text.specs.declared.amounts.Amounts.{Amounts}
-use Rattle.explain_text.specs.Text.{group_amounts, all_amounts, period_text, factor_text, group_fields, all_fields, stands}
+use Rattle.explain_text.specs.Text.{group_amounts, all_amounts, period_text, factor_text, group_fields, all_fields}
+use Rattle.explain_text.specs.Text.{stands}
 use Rattle.explain_text.specs.Text.{lines_at, lines_to, header_line, points_text, explain_text}
 use Rattle.report_text.proofs.Judging.{point_answered}
 use Rattle.explain_rules.specs.Says.{has_movement, lines_of_point, lines_before, place_of, NineFields, FactorSays}
@@ -157,7 +158,8 @@ module _ (l : LimitsFile) (n : ℕ) (cs : List Made)
       (point_group pt (amounts_of pt) (all_amounts (groups_of p pt b)) g k) yes
 
   all_line : (pt : ℕ) → pt < p
-      → get_or (lines_of (text_after l n cs)) (place_of ms pt 18) [] ≡ line (all_fields pt (all_amounts (groups_of p pt b)))
+      → get_or (lines_of (text_after l n cs)) (place_of ms pt 18) []
+      ≡ line (all_fields pt (all_amounts (groups_of p pt b)))
   unfolding lines_at
   all_line pt h =
       at_place pt (many (has_movement (there pt)) 18) h (omega arith)

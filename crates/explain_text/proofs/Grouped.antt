@@ -39,7 +39,8 @@ pub group_is : (point g : ℕ) (a : Amounts)
 unfolding amounts_text joined_by
 group_is point g a =
     rw (five_is _ _ _ _ _)
-    (four_is (show_number (point + 1)) (type_text g) (kind_text g) (period_text (group_period g)) (line (amount_fields a))
+    (four_is (show_number (point + 1)) (type_text g) (kind_text g) (period_text (group_period g))
+    (line (amount_fields a))
     crlf)
 
 pub all_is_lem : (point : ℕ) (a : Amounts)

@@ -25,7 +25,8 @@ groups_same_lem : (point : ℕ) (a b : ℕ → Amounts) (n : ℕ) → ((g : ℕ)
     → group_lines point a n ≡ group_lines point b n
 unfolding group_lines
 groups_same_lem point a b zero e = refl
-groups_same_lem point a b (suc n) e = rw (groups_same_lem point a b n (λ g h. e g (omega arith)), e n (omega arith)) refl
+groups_same_lem point a b (suc n) e = rw (groups_same_lem point a b n (λ g h. e g (omega arith)), e n (omega arith))
+    refl
 
 point_same : (point : ℕ) (a b : ℕ → Amounts) {x y : Amounts}
     → ((g : ℕ) → g < group_count → a g ≡ b g) → x ≡ y

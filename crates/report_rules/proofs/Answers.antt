@@ -15,7 +15,8 @@ use Rattle.stream.specs.Coming.{Coming}
 use Rattle.stream.proofs.Turns.{of_as}
 use Rattle.report_steps.specs.{Stream.longest_row, Reading.Reading, Reading.registered}
 use Rattle.report_text.specs.Text.{book_text}
-use Rattle.report_rules.specs.Report.{book_rows, Telling, reading_text, register_text, answer_text, answer_of, report_of}
+use Rattle.report_rules.specs.Report.{book_rows, Telling, reading_text, register_text, answer_text, answer_of}
+use Rattle.report_rules.specs.Report.{report_of}
 use Rattle.report_rules.specs.Report.{limits_room, Opened, Answers}
 use Rattle.report_rules.specs.Report.Opened.{all, cut, unread}
 use Rattle.report_rules.specs.Told.{LimitsFrom}
@@ -49,7 +50,8 @@ pub report_accepted : (tell : Telling) (limits register : List ℕ) → (limits_
 unfolding answer_of answer_text
 report_accepted tell limits register z = rw z refl
 
-pub answers_accepted : (tell : Telling) (limits : List ℕ) (came : Coming) (text : List ℕ) → (limits_of limits).refusal ≡ 0
+pub answers_accepted : (tell : Telling) (limits : List ℕ) (came : Coming) (text : List ℕ) → (limits_of limits).refusal
+    ≡ 0
     → Answers (register_text tell (limits_of limits)) came text
     → Answers (answer_of tell limits) came text
 answers_accepted tell limits came text z a =

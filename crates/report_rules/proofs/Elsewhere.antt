@@ -11,7 +11,8 @@ use Rattle.text.specs.declared.number.Number.{Number}
 use Rattle.text.specs.declared.number.Number.TheVariants.{Got, Off}
 use Rattle.text.proofs.Digits.{either}
 use Rattle.movement.specs.Group.{group_of}
-use Rattle.movement.specs.Rules.{fields_fit, counts, movement_refusal, identity_fits, levels_fit, counts_fit, zero_elsewhere}
+use Rattle.movement.specs.Rules.{fields_fit, counts, movement_refusal, identity_fits, levels_fit, counts_fit}
+use Rattle.movement.specs.Rules.{zero_elsewhere}
 use Rattle.book_rules.specs.Columns.{Book, sound, stands}
 use Rattle.book_rules.specs.Calls.{refused_or, enter_refusal, sound_refusal, refusal, after}
 use Rattle.book_rules.specs.Calls.Call.{enter, supply}

@@ -35,7 +35,8 @@ pub record Past (p n : ℕ) (s : Reading) (line : List ℕ) (ls : List (List ℕ
   pub fine : taken_number (row_taken p s.held line) ≡ 0
   pub refusal : (line_read (register_step p) s line).refusal ≡ 0
   pub number : (line_read (register_step p) s line).line ≡ s.line + 1
-  pub told= : Told p n (line_read (register_step p) s line).held (list_of ms (accepted p n ms (row_calls p s.held line)))
+  pub told= : Told p n (line_read (register_step p) s line).held
+      (list_of ms (accepted p n ms (row_calls p s.held line)))
 
 row-past : (p n : ℕ) (s : Reading) (line : List ℕ) (ls : List (List ℕ)) (ms : List Movement)
     → Told p n s.held ms
@@ -47,7 +48,8 @@ row-past p n s line ls ms t two z =
     let r = (line_read (register_step p) s line).refusal in
     let none : r ≡ 0 = either (eqb r 0) (λ yes. eqb-true r 0 yes)
     (λ no. let ne = eqb-false r 0 no in
-    absurd (ne (ap (λ (q : Reading). q.refusal) (sym (stuck (register_step p) (line_read (register_step p) s line) ls ne)) ∙ z))) in
+    absurd (ne (ap (λ (q : Reading). q.refusal)
+    (sym (stuck (register_step p) (line_read (register_step p) s line) ls ne)) ∙ z))) in
     let fine : taken_number (row_taken p s.held line) ≡ 0 = rw row at none in
     record {
       fine = fine;
@@ -74,11 +76,13 @@ rows_read_lem p n s (l ∷ ls) ms t two z e =
     let row = ne_eqb s.line 1 (λ q. absurd (omega arith)) in
     let k = row-past p n s l ls ms t two (rw go at e) in
     let ns = list_of ms (accepted p n ms (row_calls p s.held l)) in
-    let rest = rows_read_lem p n (line_read (register_step p) s l) ls ns k.told= (omega (arith, k.number)) k.refusal (rw go at e) in
+    let rest = rows_read_lem p n (line_read (register_step p) s l) ls ns k.told= (omega (arith, k.number)) k.refusal
+    (rw go at e) in
     record {
       read = each_read (row_read p s.held l k.fine) rest.read;
       each = λ test. rw (go, row)
-          (ap (how_many test) (accepted_then p n ms (row_calls p s.held l) (lines_calls p (line_read (register_step p) s l) ls))
+          (ap (how_many test) (accepted_then p n ms (row_calls p s.held l)
+          (lines_calls p (line_read (register_step p) s l) ls))
           ∙ rest.each test
           ∙ omega (arith, row_flights p n s.held ms l t k.fine test, flights_then test p l ls));
     }
@@ -100,7 +104,8 @@ many_all (m ∷ ms) = omega (arith, many_all ms)
 -- one that is refused nowhere has a header
 headed : (p : ℕ) (b : Book) (register : List ℕ) → (registered p b register).refusal ≡ 0
     → (lines : List (List ℕ)) → lines_of register ≡ lines
-    → ((lines_read (register_step p) (opening b) lines).refusal ≡ 0) × ((lines_read (register_step p) (opening b) lines).line ≡ 1 → ⊥)
+    → ((lines_read (register_step p) (opening b) lines).refusal ≡ 0)
+    × ((lines_read (register_step p) (opening b) lines).line ≡ 1 → ⊥)
 unfolding whole_read closing
 headed p b register z lines e =
     let s = lines_read (register_step p) (opening b) lines in
@@ -141,7 +146,8 @@ from_none test fs = omega arith
 -- the movements standing are those of the rows' calls
 standing_rows_lem : (p : ℕ) (register head : List ℕ) (rows : List (List ℕ)) → lines_of register ≡ head ∷ rows
     → standing_in p register
-    ≡ list_of [] (accepted p book_rows [] (lines_calls p (line_read (register_step p) (opening (empty_book p book_rows)) head) rows))
+    ≡ list_of [] (accepted p book_rows []
+    (lines_calls p (line_read (register_step p) (opening (empty_book p book_rows)) head) rows))
 unfolding movements register_calls
 standing_rows_lem p register head rows e = rw (e, calls_behind p (empty_book p book_rows) head rows) refl
 
@@ -161,7 +167,8 @@ all_stand_lem p register z = go (lines_of register) refl
         → AllRead p book_rows (line_read (register_step p) (opening b) head) rows []
     by_rows head rows e =
         let k = begun p b head rows (headed p b register z (head ∷ rows) e).0 in
-        rows_read_lem p book_rows (line_read (register_step p) (opening b) head) rows [] (rw k.book (told_empty p book_rows))
+        rows_read_lem p book_rows (line_read (register_step p) (opening b) head) rows []
+        (rw k.book (told_empty p book_rows))
         (omega (arith, k.line)) k.refusal k.rest
 
     go : (lines : List (List ℕ)) → lines_of register ≡ lines → AllStand p register

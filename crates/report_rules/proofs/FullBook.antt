@@ -26,7 +26,8 @@ module _ (p : ℕ) (register : List ℕ) (some : 1 ≤ p) (few : p ≤ 8)
   listed : (row : List ℕ) → refusal p (book_in p register) (entering p (layout_of p row)) ≡ list_refusal p book_rows
       (standing_in p register) (made p (entering p (layout_of p row)))
   listed row =
-      ap (λ (b : Book). refusal p b (entering p (layout_of p row))) (register_booked p (empty_book p book_rows) register)
+      ap (λ (b : Book). refusal p b (entering p (layout_of p row)))
+      (register_booked p (empty_book p book_rows) register)
       ∙ history_refusal p book_rows cs (made p (entering p (layout_of p row)))
 
   -- where nothing else refuses it, by whether there is room

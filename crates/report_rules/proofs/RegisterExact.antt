@@ -69,7 +69,8 @@ module _ (p : ℕ) (register : List ℕ) where
         ∙ ap (judged (take i (lines_of front))) (sym line)
         ∙ (text_accepted (register_step p) b front k.accepted).each i h
 
-    last_told_rule : next_refusal p front register ≡ 0 → length (lines_of register) ≡ n + 1 → (read_of p register).refusal ≡ 0
+    last_told_rule : next_refusal p front register ≡ 0 → length (lines_of register) ≡ n + 1
+        → (read_of p register).refusal ≡ 0
     last_told_rule z all =
         fine_accepted (register_step p) b register
         (record {

@@ -131,7 +131,8 @@ module _ (p n : ℕ) (b : Book) (line : List ℕ) (more : n ≡ 1 → ⊥) (s : 
               (λ given. let some = eqb-false l.fields.computed 0 given in
               let one : l.fields.computed ≡ 1 = omega (arith, fits.mark, some) in
               k.supplied on e some
-              ∙ ((o₇.otherwise (λ bad. none (record { with_levels_rule = one; over = λ all. bad (levels_fit_rule all) }))
+              ∙ ((o₇.otherwise (λ bad. none
+              (record { with_levels_rule = one; over = λ all. bad (levels_fit_rule all) }))
               ).otherwise stands.somewhere).otherwise (λ bad. bad anywhere));
         }
 

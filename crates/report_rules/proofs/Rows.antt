@@ -9,7 +9,8 @@ use borrow.Author.Tests.{eq-eqb, ne_eqb, eqb-true, eqb-false, le-ltb}
 use Rattle.text.proofs.Digits.{either}
 use Rattle.movement.specs.Group.{group_of}
 use Rattle.book_rules.specs.{Columns.Book, Columns.sound, Calls.Call, Calls.refusal, Calls.after}
-use Rattle.book_rules.specs.History.{Held, Movement, movement, step, list_of, Made, made, list_refusal, accepted, booked}
+use Rattle.book_rules.specs.History.{Held, Movement, movement, step, list_of, Made, made, list_refusal, accepted}
+use Rattle.book_rules.specs.History.{booked}
 use Rattle.book_rules.specs.History.Held.{none, holds}
 use Rattle.book_rules.proofs.History.{Told, refusal_told, told}
 use Rattle.register.specs.declared.row.Layout.{Layout}
@@ -175,7 +176,8 @@ row_flights p n b ms line t z test = go (row_did p b line z)
         let accepts : list_refusal p n entered (made p (supplying p l)) ≡ 0 =
         sym (refusal_told p n (after p b (entering p l)) entered (made p (supplying p l))
         (told_one p n b ms (entering p l) t in-book)) ∙ fine in
-        ap (λ (cs : List Made). how_many test (list_of ms (accepted p n ms cs))) (calls_given p b line read in-book some)
+        ap (λ (cs : List Made). how_many test (list_of ms (accepted p n ms cs)))
+        (calls_given p b line read in-book some)
         ∙ ap (how_many test) (one_accepted p n ms (made p (entering p l)) (made p (supplying p l) ∷ [])
         (sym listed ∙ in-book)
         ∙ one_accepted p n entered (made p (supplying p l)) [] accepts

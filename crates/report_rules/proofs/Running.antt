@@ -15,7 +15,8 @@ use Rattle.report_rules.specs.Told.AnsweredBy.{ended, begun, broken}
 use Rattle.report_rules.proofs.{Answers.report_refused, Answers.limits_from, Failing.never_an_end}
 
 module _ (tell : Telling) (limits text : List ℕ) where
-  register_by : (came : Coming) → Heard input came → Answers (answer_of tell limits) came text → AnsweredBy tell limits text
+  register_by : (came : Coming) → Heard input came → Answers (answer_of tell limits) came text
+      → AnsweredBy tell limits text
   register_by (whole register) h a = ended register h a
   register_by (stopped register) h a = begun register h a
   register_by (failed register) h a = broken register h (λ z. never_an_end tell limits register text z a)

@@ -12,7 +12,8 @@ use Rattle.level.specs.Level.{level_given, level_value, verdict_of}
 use Rattle.book_rules.specs.{Columns.Book, History.Movement, History.Made, History.empty_book, History.booked}
 use Rattle.load_rules.specs.{Load.book_load, Afresh.CountsEach, Afresh.load_after}
 use Rattle.load_rules.proofs.CountedOnce.{counted_once}
-use Rattle.text.specs.{Line.lines_of, Field.count_of, Field.field_of, Index.listing, Number.show_number, Number.show_level}
+use Rattle.text.specs.{Line.lines_of, Field.count_of, Field.field_of, Index.listing, Number.show_number}
+use Rattle.text.specs.{Number.show_level}
 use Rattle.text.specs.Spelled.{bytes}
 use Rattle.text.proofs.{Fields.Free, Indices.length_listing}
 use Rattle.register.specs.declared.limits_csv.LimitsFile.{LimitsFile}

@@ -6,7 +6,8 @@ use Prim.Native.Nat.{ℕ, ◌+◌, ◌-◌, ◌≤◌, ◌<◌}
 use native.Mathlib.Omega.{arith}
 use lib.{ListN.length, ListN.get_or, ListN.replicate, Dec.eqb}
 use borrow.Author.Tests.{eqb-true, lt-leb, le-leb}
-use Rattle.text.specs.{Line.bare_line, Field.field_of, Index.listing, Number.show_whole, Number.show_level, Spelled.bytes}
+use Rattle.text.specs.{Line.bare_line, Field.field_of, Index.listing, Number.show_whole, Number.show_level}
+use Rattle.text.specs.{Spelled.bytes}
 use Rattle.text.specs.Clock.{show_time}
 use Rattle.register.specs.Cell.{cell_at, got_at, value_at, shown_cell}
 use Rattle.text.proofs.{Digits.got_value, Indices.every_each}

@@ -1,6 +1,7 @@
 -- No flight drops out: what a register that is accepted leaves standing, and what its report says of it: RULES, "Files
 -- and the report program". Assumes nothing.
-use Rattle.std.specs.Prelude.{ℕ, suc, ◌+◌, ◌-◌, ◌≤◌, ◌<◌, ◌≡◌, Bool, true, cond, not, List, [], ◌∷◌, length, get_or, take, drop, replicate, eqb, ltb}
+use Rattle.std.specs.Prelude.{ℕ, suc, ◌+◌, ◌-◌, ◌≤◌, ◌<◌, ◌≡◌, Bool, true, cond, not, List, [], ◌∷◌, length, get_or}
+use Rattle.std.specs.Prelude.{take, drop, replicate, eqb, ltb}
 use Prim.Native.Char.{code}
 use Rattle.level.specs.declared.Level.{Level}
 use Rattle.level.specs.Level.{level_given, level_value}

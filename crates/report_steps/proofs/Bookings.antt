@@ -52,7 +52,8 @@ lines_booked p s [] = refl
 lines_booked p s (l ∷ ls) = go (eqb s.refusal 0) (lines_booked p (line_read (register_step p) s l) ls)
   where
     go : (t : Bool)
-        → (lines_read (register_step p) (line_read (register_step p) s l) ls).held ≡ booked (line_read (register_step p) s l).held (lines_calls p (line_read (register_step p) s l) ls)
+        → (lines_read (register_step p) (line_read (register_step p) s l) ls).held
+        ≡ booked (line_read (register_step p) s l).held (lines_calls p (line_read (register_step p) s l) ls)
         → (cond t (lines_read (register_step p) (line_read (register_step p) s l) ls) s).held
         ≡ booked s.held (cond t (cond (eqb s.line 1) [] (row_calls p s.held l) ++ lines_calls p
         (line_read (register_step p) s l) ls) [])
@@ -71,7 +72,8 @@ pub register_booked : (p : ℕ) (b : Book) (bytes : List ℕ)
     → (registered p b bytes).held ≡ booked b (register_calls p b bytes)
 unfolding whole_read register_calls
 register_booked p b bytes =
-    closing_book (lines_read (register_step p) (opening b) (lines_of bytes)) ∙ lines_booked p (opening b) (lines_of bytes)
+    closing_book (lines_read (register_step p) (opening b) (lines_of bytes))
+    ∙ lines_booked p (opening b) (lines_of bytes)
 
 -- and so, from an empty book, the rows of the movements that its calls leave standing
 pub register_rows : (p n : ℕ) (bytes : List ℕ)

@@ -22,7 +22,7 @@ use Rattle.wkt.specs.Text.{show_metres, show_spot, place_text, bracket, comma, c
 use Rattle.wkt.specs.Text.{multilinestring, text_of, points_of, contours_text}
 use Rattle.wkt.specs.Calls.{network_text, print_refusal}
 use Rattle.wkt.specs.Printout.{Rounds, Offset, Metres, Pair, RowPlace, ColumnPlace, PlacesPrinted}
-use Rattle.wkt.specs.Printout.{parted, lineText, found, TextPrinted}
+use Rattle.wkt.specs.Printout.{parted, line_text, found, TextPrinted}
 use Rattle.wkt.proofs.Nearest.{nearest_is_lem, offset_small, metres_small}
 
 -- ---- numbers
@@ -197,7 +197,7 @@ module _ (levels : List ℕ) (f : Frame) (v : ℕ) where
   closed_points false (e ∷ es) h = refl
 
   line_text_rule : (c : Contour) → 0 < length c.edges
-      → points_text levels f v bracket (points_of c.edges (bit c.closes)) ≡ lineText levels f v c
+      → points_text levels f v bracket (points_of c.edges (bit c.closes)) ≡ line_text levels f v c
   line_text_rule c h = ap (points_text levels f v bracket) (closed_points c.closes c.edges h) ∙ go c.edges h
     where
       go : (es : List ℕ) → 0 < length es
@@ -216,12 +216,12 @@ module _ (levels : List ℕ) (f : Frame) (v : ℕ) where
 
   lines_text_rule : (before : List ℕ) (c : Contour) (cs : List Contour) → Some (c ∷ cs)
       → lines_text levels f v before (map points (c ∷ cs))
-      ≡ before ++ parted levels f v (map (lineText levels f v) (c ∷ cs)) ++ closing
+      ≡ before ++ parted levels f v (map (line_text levels f v) (c ∷ cs)) ++ closing
   unfolding lines_text
   lines_text_rule before c [] s = ap (λ (t : List ℕ). before ++ t ++ closing) (line_text_rule c s.0)
   lines_text_rule before c (d ∷ cs) s =
-      let line = lineText levels f v c in
-      let others = comma ++ parted levels f v (map (lineText levels f v) (d ∷ cs)) in
+      let line = line_text levels f v c in
+      let others = comma ++ parted levels f v (map (line_text levels f v) (d ∷ cs)) in
       rw (line_text_rule c s.0, lines_text_rule comma d cs s.1)
       (sym (append_assoc (before ++ line) others closing) ∙ ap (λ (t : List ℕ). t ++ closing)
       (append_assoc before line others))

@@ -80,8 +80,8 @@ module _ (levels : List ℕ) (f : Frame) (v : ℕ) where
   parted (t ∷ u ∷ ts) = t ++ (bytes ", " ++ parted (u ∷ ts))
 
   -- a line in parentheses; a closed line repeats its first point
-  abbrev pub lineText : Contour → List ℕ
-  lineText c =
+  abbrev pub line_text : Contour → List ℕ
+  line_text c =
       bytes "(" ++ parted (map (place_text levels f v) (c.edges ++ cond c.closes (slice_index c.edges 0 ∷ []) []))
       ++ bytes ")"
 
@@ -93,4 +93,4 @@ module _ (levels : List ℕ) (f : Frame) (v : ℕ) where
     pub none : found ≡ [] → network_text levels f v ≡ bytes "MULTILINESTRING EMPTY"
     -- contours as `MULTILINESTRING (..)`, in their order
     pub some : (c : Contour) (cs : List Contour) → found ≡ c ∷ cs
-        → network_text levels f v ≡ bytes "MULTILINESTRING (" ++ parted (map lineText (c ∷ cs)) ++ bytes ")"
+        → network_text levels f v ≡ bytes "MULTILINESTRING (" ++ parted (map line_text (c ∷ cs)) ++ bytes ")"

@@ -15,9 +15,11 @@ book s = book_lent s.args.ids.now s.args.groups.now s.args.marks.now s.args.coun
 pub put_point-requires : goal.put_point-requires
 put_point-requires c =
     let numbers = answer_only c.account_at.ensures c.requires.days_value
-    (omega (arith, account_long c.args.points c.args.point (book (goal.at.put_point-requires c).Start) c.args.days)) in (
+    (omega (arith, account_long c.args.points c.args.point (book (goal.at.put_point-requires c).Start) c.args.days))
+    in (
       c.requires.point_lt_max_points.0,
-      book_adds_up c.args.points c.args.point (book (goal.at.put_point-requires c).Start) c.args.days c.requires.days_value _ numbers,
+      book_adds_up c.args.points c.args.point (book (goal.at.put_point-requires c).Start) c.args.days
+          c.requires.days_value _ numbers,
       omega (arith, c.requires.point_lt_max_points.1),
     )
 
@@ -26,4 +28,5 @@ returns c =
     let numbers = answer_only c.account_at.ensures c.requires.days_value
     (omega (arith, account_long c.args.points c.args.point (book (goal.at.returns c).Start) c.args.days)) in
     within_is c.put_point.ensures
-    (ap ended (book_lines c.args.points c.args.point (book (goal.at.returns c).Start) c.args.days c.requires.days_value _ numbers))
+    (ap ended (book_lines c.args.points c.args.point (book (goal.at.returns c).Start) c.args.days c.requires.days_value
+    _ numbers))

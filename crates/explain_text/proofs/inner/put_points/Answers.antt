@@ -31,7 +31,8 @@ put_answered-at-requires c =
           c.put_header-at.auto.out,
         ),
       );
-      days_value = point_answered limits.points limits.days (book (goal.at.put_answered-at-requires c).Start) limits.points
+      days_value = point_answered limits.points limits.days (book (goal.at.put_answered-at-requires c).Start)
+          limits.points
           c.loop-point.point c.requires.levels_value few;
     }
 
@@ -51,9 +52,11 @@ loop-point-preserved c =
 
 pub returns : goal.returns
 returns c =
-    let q : c.loop-point.point ≡ c.args.limits.points = omega (arith, c.loop-point.invariant.1, c.loop-point-test.false) in
+    let q : c.loop-point.point ≡ c.args.limits.points = omega
+    (arith, c.loop-point.invariant.1, c.loop-point-test.false) in
     let room = c.requires.limits_fit in
-    points_all c.args.limits (book (goal.at.returns c).Start) c.put_header-at.ensures.wrote c.loop-point.invariant.0.wrote q
+    points_all c.args.limits (book (goal.at.returns c).Start) c.put_header-at.ensures.wrote
+    c.loop-point.invariant.0.wrote q
     (omega (
       arith,
       q,

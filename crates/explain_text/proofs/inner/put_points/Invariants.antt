@@ -9,7 +9,8 @@ use Rattle.explain_text.proofs.inner.put_points.Given as goal
 
 abbrev pub invariant-loop-point : goal.invariant-loop-point
 invariant-loop-point l =
-    WroteWithin (longest_point * l.point) l.initial.out l.initial.at (ended (lines_to l.points (book_of l.ids l.groups l.marks l.counts l.levels) l.point))
+    WroteWithin (longest_point * l.point) l.initial.out l.initial.at
+    (ended (lines_to l.points (book_of l.ids l.groups l.marks l.counts l.levels) l.point))
     l.out l.at
     × (l.point ≤ l.points) × (length l.out ≡ length l.initial.out)
 

@@ -9,7 +9,8 @@ use Rattle.explain_text.proofs.lines.put_groups.Given as goal
 
 abbrev pub invariant-loop-g : goal.invariant-loop-g
 invariant-loop-g l =
-    WroteWithin (longest_line * l.g) l.initial.out l.initial.next (ended (group_lines l.point (group_in l.numbers) l.g)) l.out l.next
+    WroteWithin (longest_line * l.g) l.initial.out l.initial.next
+    (ended (group_lines l.point (group_in l.numbers) l.g)) l.out l.next
     × (l.g ≤ group_count) × (length l.out ≡ length l.initial.out)
 
 abbrev pub decreases-loop-g : goal.decreases-loop-g

@@ -20,13 +20,15 @@ pub returns-then-refused-ne0 : goal.returns-then-refused-ne0
 returns-then-refused-ne0 c =
     let q = ap refusal c.load_at-load.ensures in
     let a = c.args in
-    q ∙ sym (one_refused a.points a.days (book (goal.at.returns-then-refused-ne0 c).Start) c.loop-point.point a.points c.loop-point.invariant.0
+    q ∙ sym (one_refused a.points a.days (book (goal.at.returns-then-refused-ne0 c).Start) c.loop-point.point a.points
+    c.loop-point.invariant.0
     (λ z. c.if-refused-ne0.true (q ∙ z)) c.loop-point-test.true)
 
 pub loop-point-preserved : goal.loop-point-preserved
 loop-point-preserved c =
     let a = c.args in (
-      one_answered a.points a.days (book (goal.at.loop-point-preserved c).Start) c.loop-point.point c.loop-point.invariant.0
+      one_answered a.points a.days (book (goal.at.loop-point-preserved c).Start) c.loop-point.point
+          c.loop-point.invariant.0
           (sym (ap refusal c.load_at-load.ensures) ∙ c.if-refused-ne0.false),
       omega arith,
     )

@@ -20,7 +20,8 @@ pub loop-point-preserved : goal.loop-point-preserved
 loop-point-preserved c =
     let few : c.loop-point.point < c.args.limits.points = c.loop-point-test.true in
     let room : c.loop-point.at + longest_point ≤ length c.put_header-at.new.out =
-    omega (arith, c.loop-point.invariant, few, c.requires, c.put_header-at.ensures.within, c.put_header-at.auto.out) in (
+    omega (arith, c.loop-point.invariant, few, c.requires, c.put_header-at.ensures.within, c.put_header-at.auto.out)
+    in (
       points_more c.loop-point.invariant.0 c.put_point-at.ensures c.load_at-load.ensures room,
       omega arith,
       omega (arith, c.put_point-at.ensures.within, c.loop-point.invariant),
@@ -29,11 +30,19 @@ loop-point-preserved c =
 
 pub returns : goal.returns
 returns c =
-    let q : c.loop-point.point ≡ c.args.limits.points = omega (arith, c.loop-point.invariant, c.loop-point-test.false) in
+    let q : c.loop-point.point ≡ c.args.limits.points = omega
+    (arith, c.loop-point.invariant, c.loop-point-test.false) in
     let a = c.args in
     let b = book_of a.ids.now a.groups.now a.marks.now a.counts.now a.levels.now in
     points_all a.limits b c.put_header-at.ensures.wrote c.loop-point.invariant.0 q
-    (omega (arith, c.loop-point.invariant, c.requires, c.requires.0.few, c.put_header-at.ensures.within, c.put_header-at.auto.out))
+    (omega (
+      arith,
+      c.loop-point.invariant,
+      c.requires,
+      c.requires.0.few,
+      c.put_header-at.ensures.within,
+      c.put_header-at.auto.out,
+    ))
 
 pub loop-point-init : goal.loop-point-init
 loop-point-init c = (points_none, omega arith, omega arith, refl)

@@ -8,7 +8,8 @@ use Rattle.report_text.proofs.inner.put_points.Given as goal
 
 abbrev pub invariant-loop-point : goal.invariant-loop-point
 invariant-loop-point l =
-    Passed l.points l.days l.limit (book_of l.ids l.groups l.marks l.counts l.levels) l.point l.initial.out l.initial.at l.out l.at
+    Passed l.points l.days l.limit (book_of l.ids l.groups l.marks l.counts l.levels) l.point l.initial.out
+    l.initial.at l.out l.at
     × (l.point ≤ l.points) × (l.at ≤ l.initial.at + longest_point * l.point) × (length l.out ≡ length l.initial.out)
 
 abbrev pub decreases-loop-point : goal.decreases-loop-point

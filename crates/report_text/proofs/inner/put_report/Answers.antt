@@ -15,7 +15,8 @@ unfolding book_text
 returns-then-refused-ne0 c =
     let q = c.book_refusal-refused.ensures in
     record {
-      wrote = text_refused c.args.limits (book (goal.at.returns-then-refused-ne0 c).Start) _ q c.if-refused-ne0.true c.put_refused-size.ensures.wrote;
+      wrote = text_refused c.args.limits (book (goal.at.returns-then-refused-ne0 c).Start) _ q c.if-refused-ne0.true
+          c.put_refused-size.ensures.wrote;
       refused = q;
     }
 
@@ -24,6 +25,7 @@ unfolding book_text
 returns c =
     let q = c.book_refusal-refused.ensures in
     record {
-      wrote = text_points c.args.limits (book (goal.at.returns c).Start) q c.if-refused-ne0.false c.put_points-size.ensures;
+      wrote = text_points c.args.limits (book (goal.at.returns c).Start) q c.if-refused-ne0.false
+          c.put_points-size.ensures;
       refused = q;
     }

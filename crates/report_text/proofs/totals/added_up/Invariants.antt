@@ -14,7 +14,8 @@ to f counts g = sum_to (λ k. f (counts_in counts k)) g
 
 abbrev pub invariant-loop-g : goal.invariant-loop-g
 invariant-loop-g l =
-    (l.g ≤ group_count) × (l.computed ≡ to (λ c. c.computed) l.counts l.g) × (l.missing ≡ to (λ c. c.missing) l.counts l.g)
+    (l.g ≤ group_count) × (l.computed ≡ to (λ c. c.computed) l.counts l.g)
+    × (l.missing ≡ to (λ c. c.missing) l.counts l.g)
     × (l.computed ≤ l.g * 2 ^ 32) × (l.missing ≤ l.g * 2 ^ 32)
 
 abbrev pub decreases-loop-g : goal.decreases-loop-g

@@ -3,7 +3,8 @@ use Rattle.contours_steps.proofs.Begun.{counting_none, counting_room, counting_n
 use Rattle.contours_steps.proofs.inner.intake.line_begun.Goals as goal
 
 pub loop-end-preserved : goal.loop-end-preserved
-loop-end-preserved c = counting_next c.line_end-end-in-loop-end.result c.loop-end.invariant (omega arith) c.line_end-end-in-loop-end.ensures
+loop-end-preserved c = counting_next c.line_end-end-in-loop-end.result c.loop-end.invariant (omega arith)
+    c.line_end-end-in-loop-end.ensures
 
 pub line_end-end-requires : goal.line_end-end-requires
 line_end-end-requires c = omega arith

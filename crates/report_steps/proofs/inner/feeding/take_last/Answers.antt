@@ -10,17 +10,25 @@ book s =
     let a = s.args in book_of a.ids.now a.groups.now a.marks.now a.counts.now a.levels.now
 
 pub returns-then-line-eq1 : goal.returns-then-line-eq1
-returns-then-line-eq1 c =
-    (last_headless c.args.line (book (goal.at.returns-then-line-eq1 c).Start) c.args.bytes.now c.if-bytes-eq0.true c.if-line-eq1.true, c.requires.levels_value)
+returns-then-line-eq1 c = (
+  last_headless c.args.line (book (goal.at.returns-then-line-eq1 c).Start) c.args.bytes.now c.if-bytes-eq0.true
+      c.if-line-eq1.true,
+  c.requires.levels_value,
+)
 
 pub returns-then-bytes-eq0 : goal.returns-then-bytes-eq0
-returns-then-bytes-eq0 c =
-    (last_empty c.args.line (book (goal.at.returns-then-bytes-eq0 c).Start) c.args.bytes.now c.if-bytes-eq0.true c.if-line-eq1.false, c.requires.levels_value)
+returns-then-bytes-eq0 c = (
+  last_empty c.args.line (book (goal.at.returns-then-bytes-eq0 c).Start) c.args.bytes.now c.if-bytes-eq0.true
+      c.if-line-eq1.false,
+  c.requires.levels_value,
+)
 
 pub returns-then-refusal-ne0 : goal.returns-then-refusal-ne0
 returns-then-refusal-ne0 c =
-    let k = c.take_line-refusal.ensures in
-    (last_refused k c.requires.unended c.if-bytes-eq0.false c.if-refusal-ne0.true, taken_sound _ c.requires.levels_value k)
+    let k = c.take_line-refusal.ensures in (
+      last_refused k c.requires.unended c.if-bytes-eq0.false c.if-refusal-ne0.true,
+      taken_sound _ c.requires.levels_value k,
+    )
 
 pub returns : goal.returns
 returns c =

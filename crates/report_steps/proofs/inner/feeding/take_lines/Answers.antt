@@ -32,11 +32,22 @@ returns-then-refusal-ne0 c =
 
 pub overflow_add-number : goal.overflow_add-number
 overflow_add-number c =
-    omega (arith, (inside (goal.at.overflow_add-number c).At-loop-end).0, (inside (goal.at.overflow_add-number c).At-loop-end).1, c.loop-end.invariant.0.most, c.requires.bytes_bound)
+    omega (
+      arith,
+      (inside (goal.at.overflow_add-number c).At-loop-end).0,
+      (inside (goal.at.overflow_add-number c).At-loop-end).1,
+      c.loop-end.invariant.0.most,
+      c.requires.bytes_bound,
+    )
 
 pub loop-end-smaller : goal.loop-end-smaller
 loop-end-smaller c =
-    omega (arith, (inside (goal.at.loop-end-smaller c).At-loop-end).0, (inside (goal.at.loop-end-smaller c).At-loop-end).1, c.loop-end-test.true)
+    omega (
+      arith,
+      (inside (goal.at.loop-end-smaller c).At-loop-end).0,
+      (inside (goal.at.loop-end-smaller c).At-loop-end).1,
+      c.loop-end-test.true,
+    )
 
 pub loop-end-preserved : goal.loop-end-preserved
 loop-end-preserved c =
@@ -69,7 +80,8 @@ pub overflow_add-at : goal.overflow_add-at
 overflow_add-at c = omega (arith, (inside (goal.at.overflow_add-at c).At-loop-end).1)
 
 pub line_end-end-requires-in-loop-end : goal.line_end-end-requires-in-loop-end
-line_end-end-requires-in-loop-end c = omega (arith, (inside (goal.at.line_end-end-requires-in-loop-end c).At-loop-end).1)
+line_end-end-requires-in-loop-end c = omega
+    (arith, (inside (goal.at.line_end-end-requires-in-loop-end c).At-loop-end).1)
 
 pub returns : goal.returns
 returns c = (taking_done c.loop-end.invariant.0 (omega arith), c.loop-end.invariant.1)

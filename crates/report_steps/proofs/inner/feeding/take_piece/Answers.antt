@@ -17,7 +17,8 @@ whole n b h = length-take-le n b h
 left-of : (c : After-take_lines-feed) → let a = c.args in
     length (drop c.take_lines-feed.result.at (take a.len a.bytes.now)) ≡ a.len - c.take_lines-feed.result.at
 left-of c =
-    length-drop c.take_lines-feed.result.at (take c.args.len c.args.bytes.now) ∙ rw (whole c.args.len c.args.bytes.now c.requires.len_in_bounds) refl
+    length-drop c.take_lines-feed.result.at (take c.args.len c.args.bytes.now)
+    ∙ rw (whole c.args.len c.args.bytes.now c.requires.len_in_bounds) refl
 
 begins : (c : After-take_lines-feed) → c.take_lines-feed.result.at ≤ c.args.len
 begins c = rw (whole c.args.len c.args.bytes.now c.requires.len_in_bounds) at c.take_lines-feed.ensures.0.within
@@ -39,8 +40,12 @@ returns-then-refusal-ne0 c =
 pub returns-then-left-gt-LONGEST_LINE : goal.returns-then-left-gt-LONGEST_LINE
 returns-then-left-gt-LONGEST_LINE c =
     let k = c.take_lines-feed.ensures in
-    let longest = longest_register c.args.points in
-    (piece_long longest_row _ k.0 longest c.if-refusal-ne0.false (rw (left-of (goal.at.returns-then-left-gt-LONGEST_LINE c).After-take_lines-feed) c.if-left-gt-LONGEST_LINE.true), k.1)
+    let longest = longest_register c.args.points in (
+      piece_long longest_row _ k.0 longest c.if-refusal-ne0.false
+          (rw (left-of (goal.at.returns-then-left-gt-LONGEST_LINE c).After-take_lines-feed)
+          c.if-left-gt-LONGEST_LINE.true),
+      k.1,
+    )
 
 pub to_front-requires : goal.to_front-requires
 to_front-requires c =
@@ -50,9 +55,11 @@ pub returns : goal.returns
 returns c =
     let at = c.take_lines-feed.result.at in
     let k = c.take_lines-feed.ensures in (
-      piece_left longest_row _ k.0 c.if-refusal-ne0.false (rw (left-of (goal.at.returns c).After-take_lines-feed) c.if-left-gt-LONGEST_LINE.false)
+      piece_left longest_row _ k.0 c.if-refusal-ne0.false
+          (rw (left-of (goal.at.returns c).After-take_lines-feed) c.if-left-gt-LONGEST_LINE.false)
           (c.to_front.ensures
-          ∙ sym (waiting c.args.bytes.now at c.args.len (begins (goal.at.returns c).After-take_lines-feed) c.requires.len_in_bounds)),
+          ∙ sym (waiting c.args.bytes.now at c.args.len (begins (goal.at.returns c).After-take_lines-feed)
+          c.requires.len_in_bounds)),
       k.1,
     )
 
