@@ -20,7 +20,9 @@ use Rattle.level.proofs.RootLaws.{root_only_lem}
 use Rattle.contour_rules.specs.Contours.{waiting, follow, without, swept, crossed_to}
 use Rattle.text.specs.Number.{shown}
 use Rattle.wkt.specs.Text.{place_text, points_text, lines_text, text_of}
-use Rattle.worked.specs.Cases.{InPeriod, EnterAnswered, AllHold, contour_cases, cases}
+use Rattle.worked.specs.Cases.{InPeriod, EnterAnswered, CaseHolds, AllHold, contour_cases, cases, hill, hill_frame}
+use Rattle.worked.specs.Cases.{hill_contours, hill_text, inner_text}
+use Rattle.worked.specs.Cases.Case.{contour}
 
 -- a group's period is read from its number
 loaded_as : (t k number : ℕ) → number < 3 → period_number (group_period (6 * t + 3 * k + number)) ≡ number
@@ -101,10 +103,14 @@ of_energy : (c a : ℕ) → table_a (c % 1000) ≡ a → energy_of c ≡ a * 10 
 unfolding energy_of
 of_energy c a e = rw e
 
--- contours and their text, which antt computes
-of_contours : AllHold contour_cases
+-- the hill, whose contours and text antt computes
+of_hill : CaseHolds (contour hill hill_frame 45000 hill_contours hill_text)
 unfolding waiting follow without swept crossed_to shown place_text points_text lines_text text_of
-of_contours = ((refl, refl), ((refl, refl), ((refl, refl), ((refl, refl), ((refl, refl), ((refl, refl), tt))))))
+of_hill = (refl, refl)
+
+of_inner : CaseHolds (contour hill hill_frame 45001 hill_contours inner_text)
+unfolding waiting follow without swept crossed_to shown place_text points_text lines_text text_of
+of_inner = (refl, refl)
 
 -- one case more
 also : {A B : Type 0} → A → B → A × B
@@ -128,4 +134,11 @@ all_hold =
     (also (of_energy 3500 _ a_500)
     (also (of_energy 6500 _ a_500)
     (also (of_energy 7500 _ a_500)
-    (also (of_energy 13000 _ a_0) of_contours)))))))))))))))
+    (also (of_energy 13000 _ a_0)
+    (also of_hill
+    (also of_inner tt)))))))))))))))))
+
+-- further contours and their text, which antt computes
+pub contours_hold : AllHold contour_cases
+unfolding waiting follow without swept crossed_to shown place_text points_text lines_text text_of
+contours_hold = ((refl, refl), ((refl, refl), ((refl, refl), ((refl, refl), tt))))

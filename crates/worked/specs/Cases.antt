@@ -91,11 +91,10 @@ abbrev pub two : (a b c d : ℕ) → List Contour
 two a b c d =
     record { edges = a ∷ b ∷ []; closes = false } ∷ record { edges = c ∷ d ∷ []; closes = false } ∷ []
 
+-- further contours: a point at v itself, and the saddle at three levels
 abbrev pub contour_cases : List Case
 contour_cases =
-    contour hill hill_frame 45000 hill_contours hill_text
-    ∷ contour hill hill_frame 45001 hill_contours inner_text
-    ∷ contour peak hill_frame 45000 hill_contours peak_text
+    contour peak hill_frame 45000 hill_contours peak_text
     ∷ contour saddle saddle_frame 44000 (two 0 3 1 2)
     (bytes "MULTILINESTRING ((60.000 0.000, 100.000 40.000), (40.000 100.000, 0.000 60.000))")
     ∷ contour saddle saddle_frame 45000 (two 0 3 1 2)
@@ -122,4 +121,6 @@ cases =
     ∷ energy 6500 3162277
     ∷ energy 7500 31622770
     ∷ energy 13000 (10 ^ 13)
-    ∷ contour_cases
+    ∷ contour hill hill_frame 45000 hill_contours hill_text
+    ∷ contour hill hill_frame 45001 hill_contours inner_text
+    ∷ []
