@@ -1,8 +1,8 @@
 -- What only the operating system can say: which bytes came and which went. No contract of C's `read` and `write` says
--- it. So nothing proves one of these statements but its own `system-..`, which takes what a call answered and says what
--- that means. No file outside this crate may name a `system-..`: tools/check-channel, run by the gate, refuses it.
+-- it. So nothing proves one of these statements but its own `system_..`, which takes what a call answered and says what
+-- that means. No file outside this crate may name a `system_..`: tools/check-channel, run by the gate, refuses it.
 -- Assumes nothing.
-use Rattle.std.specs.Prelude.{◌≡◌, ℕ, ◌+◌, ◌^◌, ◌≤◌, Bool, true, false, List, [], ◌++◌, length, take, Result, Ok, Err}
+use Rattle.std.specs.Prelude.{◌≡◌, ℕ, ◌+◌, ◌^◌, ◌≤◌, Bool, true, false, List, [], ◌++◌, length, take, ◌≢◌, Result, Ok, Err}
 use Rattle.channel.specs.declared.file.Source.{Source}
 use Rattle.channel.specs.declared.file.Source.TheVariants.{Input}
 
@@ -56,10 +56,10 @@ pub none_went : Sent []
 unfolding Sent
 none_went = tt
 
--- Opening a name for reading answered a source, or one that no read takes
-pub system_opened : (answer : Source) (name : List ℕ) → Descriptor answer (file name)
+-- Opening a name for reading answered a source, or one that no read takes, and never standard input
+pub system_opened : (answer : Source) (name : List ℕ) → answer ≢ Input → Descriptor answer (file name)
 unfolding Descriptor
-system_opened answer name = tt
+system_opened answer name other = tt
 
 -- A read of a source into some room answered n: the first n bytes of the room came behind those before
 pub system_gave : {E : Type 0} (source : Source) (origin : Origin) (n : ℕ) (answer : Result ℕ E) (room old : List ℕ)

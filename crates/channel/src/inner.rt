@@ -1,6 +1,7 @@
 // One read, and one write.
-ghost use Rattle.std.specs.Prelude.{◌+◌, ◌^◌, ◌<◌, length};
+ghost use Rattle.std.specs.Prelude.{◌≡◌, ◌+◌, ◌^◌, ◌<◌, length, IsErr};
 ghost use Rattle.std.specs.Io.{ReadsAtMost};
+ghost use Rattle.channel.specs.declared.file.Source.TheVariants.{Absent};
 ghost use Rattle.channel.specs.System.{Descriptor};
 ghost use Rattle.channel.specs.Input.{Reads, origin_of};
 ghost use Rattle.channel.specs.Output.{Writes};
@@ -11,6 +12,11 @@ use std::io::{Error, ErrorKind, Read, Result};
 
 // The descriptor of standard output.
 const STDOUT_FILENO: i32 = 1;
+
+// A room or a read of so many bytes is of none.
+const NO_ROOM: usize = 0;
+
+const NO_BYTES: usize = 0;
 
 // Reads behind the `taken` bytes that came before, into the front of the room. Without room it fails: then nothing can
 // come, and that is no end, nor a read that failed. Behind an end or a failure the count is used up, and a further read
@@ -27,7 +33,7 @@ pub fn read_from(
     ensures { Reads (origin_of opened name.now) taken.old result taken.new
         room.new }
 {
-    if room.len() == 0 {
+    if room.len() <= NO_ROOM {
         *taken = u64::MAX;
         return Arrived::Failed;
     }
@@ -37,7 +43,7 @@ pub fn read_from(
     }
     match read_once(rt, source, room) {
         Ok(n) => {
-            if n == 0 {
+            if n <= NO_BYTES {
                 *taken = u64::MAX;
                 return Arrived::End;
             }
@@ -51,9 +57,10 @@ pub fn read_from(
     }
 }
 
-// One call of the system that reads.
+// One call of the system that reads. Of a file that couldn't be opened no read is taken.
 fn read_once(rt: &HostRuntime, source: &Source, room: &mut [u8]) -> Result<usize>
-    ensures { ReadsAtMost result room.new }
+    ensures within { ReadsAtMost result room.new }
+    ensures absent { source.now ≡ Absent → IsErr result }
 {
     match source {
         Source::Input => rt.stdin().read(room),

@@ -4,8 +4,8 @@ use Rattle.std.proofs.Math.Seq.{length-take-le}
 use Rattle.channel.specs.System.{system_gave, system_ended, system_failed, system_uncounted}
 use Rattle.channel.proofs.inner.read_from.Goals as goal
 
-pub returns-then-room-eq0 : goal.returns-then-room-eq0
-returns-then-room-eq0 c = record { gave = (refl, λ some. absurd (omega (arith, some))) }
+pub returns-then-room-le-NO_ROOM : goal.returns-then-room-le-NO_ROOM
+returns-then-room-le-NO_ROOM c = record { gave = (refl, λ some. absurd (omega (arith, some))) }
 
 pub returns-then-taken-room : goal.returns-then-taken-room
 returns-then-taken-room c =
@@ -16,18 +16,19 @@ pub returns-in-Err : goal.returns-in-Err
 returns-in-Err c =
     record { gave = (refl, λ some old came. system_failed _ _ _ _ old c.requires c.in-Err.is came.first) }
 
-pub returns-then-n-eq0 : goal.returns-then-n-eq0
-returns-then-n-eq0 c =
+pub returns-then-n-le-NO_BYTES : goal.returns-then-n-le-NO_BYTES
+returns-then-n-le-NO_BYTES c =
     let room = c.read_once.new.room in
     let some : 1 ≤ length room = omega arith in
-    let zero = c.in-Ok.is ∙ ap Ok c.if-n-eq0.true in
+    let none : c.in-Ok.n ≡ 0 = omega arith in
+    let zero = c.in-Ok.is ∙ ap Ok none in
     record { gave = (refl, λ old came. system_ended _ _ _ room old c.requires zero some came.first) }
 
-pub returns-else-n-eq0 : goal.returns-else-n-eq0
-returns-else-n-eq0 c =
+pub returns-else-n-le-NO_BYTES : goal.returns-else-n-le-NO_BYTES
+returns-else-n-le-NO_BYTES c =
     let n = c.in-Ok.n in
     let room = c.read_once.new.room in
-    let fits = c.in-Ok.ensures.0 in
+    let fits = c.in-Ok.ensures.within.0 in
     let some : 1 ≤ n = omega arith in
     record {
       gave = (
