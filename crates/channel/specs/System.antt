@@ -1,4 +1,4 @@
--- What only the operating system can say: which bytes came and which went. No contract of C's `read` and `write` says
+-- What only the operating system can say: which bytes came and which went. No contract of std's reading and writing says
 -- it. So nothing proves one of these statements but its own `system_..`, which takes what a call answered and says what
 -- that means. No file outside this crate may name a `system_..`: tools/check-channel, run by the gate, refuses it.
 -- Assumes nothing.

@@ -111,41 +111,41 @@ module _ (levels : List ℕ) (f : Frame) (v : ℕ) where
 -- ---- the sheet by its lines
 
 module _ (levels : List ℕ) (f : Frame) where
-  abbrev linesIn : List ℕ → List (List ℕ)
-  linesIn vs = map (λ (v : ℕ). show_thousandths v ++ (59 ∷ network_text levels f v)) vs
+  abbrev lines_in : List ℕ → List (List ℕ)
+  lines_in vs = map (λ (v : ℕ). show_thousandths v ++ (59 ∷ network_text levels f v)) vs
 
-  lines_joined : (vs : List ℕ) → level_lines levels f vs ≡ write.text_of (linesIn vs)
+  lines_joined : (vs : List ℕ) → level_lines levels f vs ≡ write.text_of (lines_in vs)
   unfolding level_lines
   lines_joined [] = sym text_none
   lines_joined (v ∷ vs) =
       ap (λ (t : List ℕ). (line_start v ++ (network_text levels f v ++ (13 ∷ 10 ∷ []))) ++ t) (lines_joined vs)
-      ∙ regroup (show_thousandths v) (network_text levels f v) (write.text_of (linesIn vs))
-      ∙ sym (text_cons (show_thousandths v ++ (59 ∷ network_text levels f v)) (linesIn vs))
+      ∙ regroup (show_thousandths v) (network_text levels f v) (write.text_of (lines_in vs))
+      ∙ sym (text_cons (show_thousandths v ++ (59 ∷ network_text levels f v)) (lines_in vs))
     where
       regroup : (a b t : List ℕ)
           → ((a ++ (59 ∷ [])) ++ (b ++ (13 ∷ 10 ∷ []))) ++ t
           ≡ ((a ++ (59 ∷ b)) ++ (13 ∷ 10 ∷ [])) ++ t
       regroup a b t = simp append_assoc
 
-  sheet_joined : (vs : List ℕ) → sheet_of levels f vs ≡ write.text_of (heading_text ∷ linesIn vs)
+  sheet_joined : (vs : List ℕ) → sheet_of levels f vs ≡ write.text_of (heading_text ∷ lines_in vs)
   unfolding sheet_of
   sheet_joined vs =
       ap (λ (t : List ℕ). heading_text ++ (13 ∷ 10 ∷ t)) (lines_joined vs)
-      ∙ sym (text_cons heading_text (linesIn vs))
+      ∙ sym (text_cons heading_text (lines_in vs))
 
-  free_each : (vs : List ℕ) (i : ℕ) → i < length (linesIn vs) → count_of 13 (get_or (linesIn vs) i []) ≡ 0
+  free_each : (vs : List ℕ) (i : ℕ) → i < length (lines_in vs) → count_of 13 (get_or (lines_in vs) i []) ≡ 0
   free_each [] i h = absurd (omega arith)
   free_each (v ∷ vs) zero h = line_free levels f v
   free_each (v ∷ vs) (suc i) h = free_each vs i (omega arith)
 
-  free_all : (vs : List ℕ) (i : ℕ) → i < suc (length (linesIn vs))
-      → count_of 13 (get_or (heading_text ∷ linesIn vs) i []) ≡ 0
+  free_all : (vs : List ℕ) (i : ℕ) → i < suc (length (lines_in vs))
+      → count_of 13 (get_or (heading_text ∷ lines_in vs) i []) ≡ 0
   unfolding count_of
   free_all vs zero h = refl
   free_all vs (suc i) h = free_each vs i (omega arith)
 
-  sheet_lines : (vs : List ℕ) → lines_of (sheet_of levels f vs) ≡ heading_text ∷ linesIn vs
-  sheet_lines vs = ap lines_of (sheet_joined vs) ∙ lines_apart (heading_text ∷ linesIn vs) (free_all vs)
+  sheet_lines : (vs : List ℕ) → lines_of (sheet_of levels f vs) ≡ heading_text ∷ lines_in vs
+  sheet_lines vs = ap lines_of (sheet_joined vs) ∙ lines_apart (heading_text ∷ lines_in vs) (free_all vs)
 
 -- ---- words
 
@@ -183,7 +183,7 @@ each_all (w ∷ words) h =
     ∙ rw (spells_contour w (h 0 (omega arith)), each_all words (λ i l. h (suc i) (omega arith))) refl
 
 lines_at_lem : (levels : List ℕ) (f : Frame) (words : List (List ℕ)) (i : ℕ) → i < length words
-    → get_or (linesIn levels f (levels_in words)) i [] ≡ show_thousandths (word_level (get_or words i [])) ++
+    → get_or (lines_in levels f (levels_in words)) i [] ≡ show_thousandths (word_level (get_or words i [])) ++
     (59 ∷ network_text levels f (word_level (get_or words i [])))
 lines_at_lem levels f [] i l = absurd (omega arith)
 lines_at_lem levels f (w ∷ words) zero l = refl
@@ -195,7 +195,7 @@ each_word text words fine =
     let levels = text_levels text in
     let f = text_frame text in
     let fits = (words_fine words (fine_both text words fine).1).1.0 in
-    let e : lines_of (written_of text words) ≡ heading_text ∷ linesIn levels f (levels_in words) =
+    let e : lines_of (written_of text words) ≡ heading_text ∷ lines_in levels f (levels_in words) =
     rw fine (sheet_lines levels f (levels_in words)) in
     record {
       many = ap length e ∙ omega (

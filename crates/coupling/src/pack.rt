@@ -3,7 +3,7 @@
 ghost use Rattle.std.specs.Prelude.{◌≡◌, ℕ, ◌<◌, ◌≤◌, true, length, slice_index};
 ghost use Rattle.coupling_rules.specs.Limits.{max_flights};
 ghost use Rattle.coupling_rules.specs.Flights.{flights_now, flights_before};
-ghost use Rattle.coupling_rules.specs.Rule.{moment as momentAt};
+ghost use Rattle.coupling_rules.specs.Rule.{moment as moment_at};
 ghost use Rattle.coupling_rules.specs.Refusals.{flights_fit};
 ghost use Rattle.coupling_rules.specs.InnerPacked.{high_of, low_of, packed_after, Filled, Packs};
 
@@ -18,7 +18,7 @@ pub(crate) fn wide(x: u32) -> u64
 
 // The second of a day, numbered through the calendar.
 fn moment(date: u32, time: u32) -> u64
-    ensures { result ≡ momentAt date time }
+    ensures { result ≡ moment_at date time }
 {
     wide(day_number(date)) * (SECONDS_A_DAY as u64) + wide(time)
 }
@@ -39,7 +39,7 @@ fn put_moments(dates: &[u32], times: &[u32], out: &mut [u64])
     requires times_len { length times.now ≡ length dates.now }
     requires dates_in_bounds { length dates.now ≤ length out.old }
     ensures { Filled
-        (λ (i : ℕ). momentAt (slice_index dates.now i) (slice_index times.now i))
+        (λ (i : ℕ). moment_at (slice_index dates.now i) (slice_index times.now i))
         (length dates.now) out.new }
 {
     let mut i = 0;

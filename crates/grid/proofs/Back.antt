@@ -234,16 +234,16 @@ module _ (levels : List ℕ) (f : Frame) (none : network_refusal levels f ≡ 0)
   pub levels_back : text_levels (show_network levels f) ≡ levels
   levels_back = ap (λ l. levels_of (rows_of l)) lines_back ∙ ap levels_of rows_lines ∙ levels_lines
 
-  pub refusal_back : (headers levelRoom : ℕ) → header_size ≤ headers → length levels ≤ levelRoom
-      → read_refusal (show_network levels f) headers levelRoom ≡ 0
+  pub refusal_back : (headers level_room : ℕ) → header_size ≤ headers → length levels ≤ level_room
+      → read_refusal (show_network levels f) headers level_room ≡ 0
   unfolding lines_refusal
-  refusal_back headers levelRoom h l =
+  refusal_back headers level_room h l =
       rw (lines_back, fault_lines, rows_lines, frame_lines, data_lines, levels_lines, fit_lines)
       (checked_on max_network_level levels f _ none
       ∙ rw (
         rows_given f.columns levels wide checks.quiet f.rows held,
         le-leb header_size headers h,
-        le-leb (length levels) levelRoom l,
+        le-leb (length levels) level_room l,
       ))
 
 -- the file that a call of `write_network` leaves, where it does not refuse

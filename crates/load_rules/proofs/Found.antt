@@ -50,13 +50,13 @@ module _ (p : ℕ) (w : Row → ℕ) where
   row_of a = row_held p a.group a.counts a.held
 
   -- over the rows of a list
-  abbrev pub overList : List Movement → ℕ
-  overList [] = 0
-  overList (a ∷ ms) = w (row_of a) + overList ms
+  abbrev pub over_list : List Movement → ℕ
+  over_list [] = 0
+  over_list (a ∷ ms) = w (row_of a) + over_list ms
 
   -- each movement is found at its own identity, and at no other
   over_listed : w nowhere ≡ 0 → (ms : List Movement) → AllGood p ms → Rising ms
-      → sum_to (λ i. w (listed (suc i) p ms)) 99999 ≡ overList ms
+      → sum_to (λ i. w (listed (suc i) p ms)) 99999 ≡ over_list ms
   over_listed zero= [] g r =
       sum_ext _ (λ i. 0) 99999 (λ i h. ap w (listed_none (suc i) p) ∙ zero=) ∙ sum_zero 99999
   over_listed zero= (a ∷ ms) g r =
@@ -79,7 +79,7 @@ module _ (p : ℕ) (w : Row → ℕ) where
 
   -- a book of these movements
   pub over_rows : w nowhere ≡ 0 → (u : ℕ) (ms : List Movement) → AllGood p ms → Rising ms
-      → over_all p (rows_of p u ms) w ≡ overList ms
+      → over_all p (rows_of p u ms) w ≡ over_list ms
   over_rows zero= u ms g r =
       sum_ext _ _ 99999 (λ i h. ap w (rows_found (suc i) p u ms (omega arith) g)) ∙ over_listed zero= ms g r
 
@@ -114,8 +114,8 @@ module _ (p pt g : ℕ) where
           (sym (eqb-true h g e)) ((each_brings pt).computed x g cs ls (eqb-true (get_or cs pt 0) 1 d)))
 
   all_found : (ms : List Movement) → AllGood p ms
-      → Brought pt g ms (overList p (marked_there pt g 1) ms) (overList p (marked_there pt g 0) ms)
-      (overList p (energy_there pt g) ms)
+      → Brought pt g ms (over_list p (marked_there pt g 1) ms) (over_list p (marked_there pt g 0) ms)
+      (over_list p (energy_there pt g) ms)
   all_found [] s = (each_brings pt).nobody g
   all_found (a ∷ ms) s =
       (each_brings pt).joined g _ _ _ _ _ _ (a ∷ []) ms
@@ -124,7 +124,7 @@ module _ (p pt g : ℕ) where
 
 -- those that count there
 counting_found : (p pt : ℕ) (ms : List Movement) → AllGood p ms
-    → length (counting_at pt ms) ≡ overList p (one_there pt) ms
+    → length (counting_at pt ms) ≡ over_list p (one_there pt) ms
 unfolding row_held one_there
 counting_found p pt [] s = ap length (counting_none pt)
 counting_found p pt (a ∷ ms) s = go (eqb (get_or a.counts pt 0) 1) refl a.held (counting_found p pt ms s.1)
@@ -140,9 +140,9 @@ counting_found p pt (a ∷ ms) s = go (eqb (get_or a.counts pt 0) 1) refl a.held
         ap length (counting_left_out pt a ms (omega (arith, eqb-false there 1 e))) ∙ omega arith
 
     go : (c : Bool) → eqb there 1 ≡ c → (held : Held)
-        → length (counting_at pt ms) ≡ overList p (one_there pt) ms
+        → length (counting_at pt ms) ≡ over_list p (one_there pt) ms
         → length (counting_at pt (a ∷ ms)) ≡ one_there pt (row_held p a.group a.counts held)
-        + overList p (one_there pt) ms
+        + over_list p (one_there pt) ms
     go c e none i = rw e (omega (arith, length_all c e))
     go c e (holds ls) i = rw e (omega (arith, length_all c e))
 
@@ -178,7 +178,7 @@ module _ (p pt : ℕ) (b : Book) (ok : (sound p b ≡ true) × (pt < p)) where
       let r = book_read p b ok.0 in
       ap (book_shares p pt) (read_rows r) ∙ shares_rows p pt r.unused r.list r.good ok.1
 
-  by_look_up : (w : Row → ℕ) → w nowhere ≡ 0 → overList p w all ≡ over_all p b w
+  by_look_up : (w : Row → ℕ) → w nowhere ≡ 0 → over_list p w all ≡ over_all p b w
   unfolding all
   by_look_up w zero= =
       let r = book_read p b ok.0 in

@@ -88,29 +88,29 @@ row_length g m c l = go (eqb c 0) refl
 
 module _ (p pt : ℕ) (b : Book) where
   -- what row i has at the point
-  abbrev countAt : ℕ → ℕ
-  countAt i = get_or b.counts (i * p + pt) 0
+  abbrev count_at : ℕ → ℕ
+  count_at i = get_or b.counts (i * p + pt) 0
 
   rows_any : (k : ℕ) → any_computed (shares_to p pt b k) ≡ false
-      ↔ ((i : ℕ) → i < k → ¬ (countAt i ≡ 0) → get_or b.marks i 0 ≡ 0)
+      ↔ ((i : ℕ) → i < k → ¬ (count_at i ≡ 0) → get_or b.marks i 0 ≡ 0)
   unfolding shares_to any_computed
   rows_any zero = (λ e i h. absurd (omega arith), λ f. refl)
   rows_any (suc k) =
       rw any_append
       (Iff.trans (neither _ _) (Iff.trans
-      (Iff.and (rows_any k) (row_any (get_or b.groups k 0) (get_or b.marks k 0) (countAt k)
+      (Iff.and (rows_any k) (row_any (get_or b.groups k 0) (get_or b.marks k 0) (count_at k)
       (get_or b.levels (k * p + pt) 0)))
-      (below_suc {P = λ i. ¬ (countAt i ≡ 0) → get_or b.marks i 0 ≡ 0} k)))
+      (below_suc {P = λ i. ¬ (count_at i ≡ 0) → get_or b.marks i 0 ≡ 0} k)))
 
-  rows_length : (k : ℕ) → length (shares_to p pt b k) ≡ 0 ↔ ((i : ℕ) → i < k → countAt i ≡ 0)
+  rows_length : (k : ℕ) → length (shares_to p pt b k) ≡ 0 ↔ ((i : ℕ) → i < k → count_at i ≡ 0)
   unfolding shares_to
   rows_length zero = (λ e i h. absurd (omega arith), λ f. refl)
   rows_length (suc k) =
       rw length-append
       (Iff.trans no_sum (Iff.trans
-      (Iff.and (rows_length k) (row_length (get_or b.groups k 0) (get_or b.marks k 0) (countAt k)
+      (Iff.and (rows_length k) (row_length (get_or b.groups k 0) (get_or b.marks k 0) (count_at k)
       (get_or b.levels (k * p + pt) 0)))
-      (below_suc {P = λ i. countAt i ≡ 0} k)))
+      (below_suc {P = λ i. count_at i ≡ 0} k)))
     where
       no_sum : {x y : ℕ} → x + y ≡ 0 ↔ (x ≡ 0) × (y ≡ 0)
       no_sum = (λ e. (omega arith, omega arith), λ h. omega arith)
@@ -123,7 +123,7 @@ module _ (p pt : ℕ) (b : Book) where
       let ss = shares_to p pt b n in
       let a = both (not (any_computed ss)) (ltb 0 (length ss)) (Iff.trans (opposite (any_computed ss)) (rows_any n))
       (Iff.trans (less 0 (length ss)) (Iff.trans (above (length ss)) (Iff.not (rows_length n)))) in
-      let most : (i : ℕ) → i < n → countAt i ≤ 1 =
+      let most : (i : ℕ) → i < n → count_at i ≤ 1 =
       λ i h. (((sound_exactly p b).only ok.0).row i h).count pt ok.1 in (
         λ e. record { stand = (a.0 e).1; none_marked = λ i h c. (a.0 e).0 i h (λ z. omega arith) },
         λ r. a.1 (λ i h c. r.none_marked i h (omega (arith, most i h, c)), r.stand),

@@ -35,8 +35,8 @@ pub record Writes {A : Type 0} (why : ℕ) (answer room : List A) (r : ℕ) (roo
   pub left : room' ≡ leaves (then_room why (fits_in answer room)) answer room
 
 -- and one that answers two lists
-pub record WritesTwo {A B : Type 0} (why : ℕ) (a : List A) (b : List B) (roomA : List A) (roomB : List B) (r : ℕ)
-    (roomA' : List A) (roomB' : List B) : Type 0 where
-  pub number : r ≡ then_room why (fits_in a roomA && fits_in b roomB)
-  pub left_first : roomA' ≡ leaves (then_room why (fits_in a roomA && fits_in b roomB)) a roomA
-  pub left_second : roomB' ≡ leaves (then_room why (fits_in a roomA && fits_in b roomB)) b roomB
+pub record WritesTwo {A B : Type 0} (why : ℕ) (a : List A) (b : List B) (room_a : List A) (room_b : List B) (r : ℕ)
+    (room_a' : List A) (room_b' : List B) : Type 0 where
+  pub number : r ≡ then_room why (fits_in a room_a && fits_in b room_b)
+  pub left_first : room_a' ≡ leaves (then_room why (fits_in a room_a && fits_in b room_b)) a room_a
+  pub left_second : room_b' ≡ leaves (then_room why (fits_in a room_a && fits_in b room_b)) b room_b

@@ -1,5 +1,5 @@
 -- `channel::inner::read_from` meets its contract: the one place that says what a read gave. Assumes nothing.
-use Rattle.std.proofs.Common.{◌≤◌, refl, ap, ◌∙◌, arith, length, take, length-append, Ok}
+use Rattle.std.proofs.Common.{◌≡◌, ◌≤◌, refl, ap, ◌∙◌, arith, length, take, length-append, Ok}
 use Rattle.std.proofs.Math.Seq.{length-take-le}
 use Rattle.channel.specs.System.{system_gave, system_ended, system_failed, system_uncounted}
 use Rattle.channel.proofs.inner.read_from.Goals as goal
