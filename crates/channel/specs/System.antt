@@ -4,7 +4,7 @@
 -- Assumes nothing.
 use Rattle.std.specs.Prelude.{◌≡◌, ℕ, ◌+◌, ◌^◌, ◌≤◌, Bool, true, false, List, [], ◌++◌, length, take, ◌≢◌, Result, Ok, Err}
 use Rattle.channel.specs.declared.file.Source.{Source}
-use Rattle.channel.specs.declared.file.Source.TheVariants.{Input}
+use Rattle.channel.specs.declared.file.Source.TheVariants.{Input, Absent}
 
 -- where bytes come from: standard input, or the file of a name
 pub data Origin : Type 0 where
@@ -61,19 +61,19 @@ pub system_opened : (answer : Source) (name : List ℕ) → answer ≢ Input →
 unfolding Descriptor
 system_opened answer name other = tt
 
--- A read of a source into some room answered n: the first n bytes of the room came behind those before
+-- A read of a source that is there, into some room, answered n: the first n bytes of the room came behind those before
 pub system_gave : {E : Type 0} (source : Source) (origin : Origin) (n : ℕ) (answer : Result ℕ E) (room old : List ℕ)
-    → Descriptor source origin → answer ≡ Ok n → n ≤ length room
+    → Descriptor source origin → source ≢ Absent → answer ≡ Ok n → n ≤ length room
     → First origin old → First origin (old ++ take n room)
 unfolding First
-system_gave source origin n answer room old d e h f = tt
+system_gave source origin n answer room old d there e h f = tt
 
 -- It answered 0, though there was room: there are no more
 pub system_ended : {E : Type 0} (source : Source) (origin : Origin) (answer : Result ℕ E) (room old : List ℕ)
-    → Descriptor source origin → answer ≡ Ok 0 → 1 ≤ length room
+    → Descriptor source origin → source ≢ Absent → answer ≡ Ok 0 → 1 ≤ length room
     → First origin old → Whole origin old
 unfolding Whole
-system_ended source origin answer room old d e h f = tt
+system_ended source origin answer room old d there e h f = tt
 
 -- It failed
 pub system_failed : {E : Type 0} (source : Source) (origin : Origin) (why : E) (answer : Result ℕ E) (old : List ℕ)
