@@ -1,12 +1,20 @@
 -- Laws on tests and refusals that every crate uses: what a test that passed says of its parts, and what a branch on
 -- a test says of the test. Assumes nothing.
-use mathlib.Core.Path.{◌≡◌, refl, sym, ◌∙◌}
+use mathlib.Core.Path.{◌≡◌, refl, sym, ap, ◌∙◌}
 use mathlib.Core.Bool.{Bool, true, false, ◌&&◌, false≢true}
 use mathlib.Core.List.{List, [], ◌∷◌}
 use Prim.Native.Nat.{ℕ, ◌<◌}
 use native.Mathlib.Omega.{arith}
 use lib.ListN.{length}
+use Rattle.std.specs.Prelude.{Result, Ok, Err, is_ok}
 use Rattle.refusal.specs.Refuse.{refuse}
+use Rattle.refusal.specs.Refusal.{number_of, told}
+use Rattle.refusal.specs.declared.Refusal.{Refusal}
+use Rattle.refusal.specs.declared.Refusal.TheVariants.{OutOfRange, TooLight, WrongIdentity, AlreadyStands}
+use Rattle.refusal.specs.declared.Refusal.TheVariants.{DoesNotStand, NoUnusedRow, WrongLevels, NoLevelsHeld}
+use Rattle.refusal.specs.declared.Refusal.TheVariants.{NotSound, NoneComputed, WrongDays, WrongNetwork}
+use Rattle.refusal.specs.declared.Refusal.TheVariants.{WrongNetworkLevel, TooLittleRoom, WrongLevelAsked, OffLayout}
+use Rattle.refusal.specs.declared.Refusal.TheVariants.{NetworkOffLayout, WrongFlights, LevelElsewhere}
 
 pub and_left : (a b : Bool) → (a && b) ≡ true → a ≡ true
 and_left true b e = refl
@@ -30,3 +38,37 @@ settled e h = sym e ∙ h
 pub nil_of_lem : {A : Type 0} (xs : List A) → length xs ≡ 0 → xs ≡ []
 nil_of_lem [] e = refl
 nil_of_lem (x ∷ xs) e = absurd (omega arith)
+
+-- every refusal has a number over 0
+pub numbered : (why : Refusal) → 0 < number_of why
+numbered OutOfRange = omega arith
+numbered TooLight = omega arith
+numbered WrongIdentity = omega arith
+numbered AlreadyStands = omega arith
+numbered DoesNotStand = omega arith
+numbered NoUnusedRow = omega arith
+numbered WrongLevels = omega arith
+numbered NoLevelsHeld = omega arith
+numbered NotSound = omega arith
+numbered NoneComputed = omega arith
+numbered WrongDays = omega arith
+numbered WrongNetwork = omega arith
+numbered WrongNetworkLevel = omega arith
+numbered TooLittleRoom = omega arith
+numbered WrongLevelAsked = omega arith
+numbered OffLayout = omega arith
+numbered NetworkOffLayout = omega arith
+numbered WrongFlights = omega arith
+numbered LevelElsewhere = omega arith
+
+-- so 0 is told exactly of an answer
+pub told_ok : {A : Type 0} (r : Result A Refusal) → told r ≡ 0 → is_ok r ≡ true
+told_ok (Ok answer) e = refl
+told_ok (Err why) e = absurd (let low = numbered why in omega arith)
+
+pub ok_told : {A : Type 0} (r : Result A Refusal) → is_ok r ≡ true → told r ≡ 0
+ok_told (Ok answer) e = refl
+ok_told (Err why) e = absurd (false≢true e)
+
+pub err_told : {A : Type 0} (r : Result A Refusal) (why : Refusal) → r ≡ Err why → told r ≡ number_of why
+err_told r why e = ap told e

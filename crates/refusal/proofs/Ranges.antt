@@ -1,12 +1,14 @@
 -- Laws of `all_within`: for the loop that reads a list from its front, and for the values of a list that passed.
 -- Assumes nothing.
-use mathlib.Core.{Path.◌≡◌, Path.refl, Path.ap, Path.◌∙◌, Bool.Bool, Bool.true, Bool.◌&&◌}
+use mathlib.Core.{Path.◌≡◌, Path.refl, Path.sym, Path.ap, Path.◌∙◌, Bool.Bool, Bool.true, Bool.false, Bool.false≢true, Bool.◌&&◌, Logic.⊎_elim}
 use mathlib.Core.List.{List, [], ◌∷◌}
 use Prim.Native.Nat.{ℕ, zero, suc, ◌+◌, ◌≤◌, ◌<◌}
 use native.Mathlib.{Numerals.add-one, Omega.arith}
 use lib.{Dec.leb, ListN.length, ListN.drop, ListN.get_or, ListN.drop_of_length-le, Seq.drop-cons}
 use borrow.Author.Tests.{leb-true, le-leb}
 use Rattle.refusal.specs.Range.{all_within}
+use Rattle.std.specs.Prelude.{IsTrue, ◌↔◌, EachIndex, slice_index}
+use Rattle.std.proofs.lemmas.Bool.{cases_Bool}
 use Rattle.refusal.proofs.Laws.{and_left, and_right}
 
 -- one value more is read
@@ -38,3 +40,10 @@ unfolding all_within
 within_each top [] h = refl
 within_each top (x ∷ xs) h =
     rw (le-leb x top (h 0 (omega arith))) (within_each top xs (λ i b. h (suc i) (omega arith)))
+
+-- so it passes exactly where each value is in range
+pub within_exactly : (top : ℕ) (xs : List ℕ) (b : Bool) → IsTrue b ↔ EachIndex xs (λ i. slice_index xs i ≤ top)
+    → b ≡ all_within top xs
+within_exactly top xs true e = sym (within_each top xs (e.0 refl))
+within_exactly top xs false e =
+    ⊎_elim (λ h. absurd (false≢true (e.1 (λ i b. within_at top xs i h)))) sym (cases_Bool (all_within top xs))

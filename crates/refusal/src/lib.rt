@@ -4,27 +4,81 @@
 
 ghost use Rattle.std.specs.Prelude.{◌≡◌, ◌&&◌};
 ghost use Rattle.refusal.specs.Range.{all_within};
+ghost use Rattle.refusal.specs.Refusal.{number_of, told};
+
+// Why a call refuses.
+#[derive(Clone, Copy, PartialEq, Eq)]
+pub enum Refusal {
+    OutOfRange,
+    TooLight,
+    WrongIdentity,
+    AlreadyStands,
+    DoesNotStand,
+    NoUnusedRow,
+    WrongLevels,
+    NoLevelsHeld,
+    NotSound,
+    NoneComputed,
+    WrongDays,
+    WrongNetwork,
+    WrongNetworkLevel,
+    TooLittleRoom,
+    WrongLevelAsked,
+    OffLayout,
+    NetworkOffLayout,
+    WrongFlights,
+    LevelElsewhere,
+}
+
+impl Refusal {
+    // The rules' number.
+    pub fn number(self) -> u32
+        ensures { result ≡ number_of self }
+    {
+        match self {
+            Refusal::OutOfRange => 1,
+            Refusal::TooLight => 2,
+            Refusal::WrongIdentity => 3,
+            Refusal::AlreadyStands => 4,
+            Refusal::DoesNotStand => 5,
+            Refusal::NoUnusedRow => 6,
+            Refusal::WrongLevels => 7,
+            Refusal::NoLevelsHeld => 8,
+            Refusal::NotSound => 9,
+            Refusal::NoneComputed => 10,
+            Refusal::WrongDays => 11,
+            Refusal::WrongNetwork => 12,
+            Refusal::WrongNetworkLevel => 13,
+            Refusal::TooLittleRoom => 14,
+            Refusal::WrongLevelAsked => 15,
+            Refusal::OffLayout => 16,
+            Refusal::NetworkOffLayout => 17,
+            Refusal::WrongFlights => 18,
+            Refusal::LevelElsewhere => 19,
+        }
+    }
+}
+
+// What a call tells: the number of its refusal, or 0.
+pub fn told<T: Drop>(answer: Result<T, Refusal>) -> u32
+    ensures { result ≡ told answer }
+{
+    match answer {
+        Ok(_) => 0,
+        Err(why) => why.number(),
+    }
+}
 
 // Whether both hold.
 pub fn both(a: bool, b: bool) -> bool
     ensures { result ≡ (a && b) }
 {
-    if a {
-        return b;
-    }
-    false
+    a && b
 }
 
 // Whether no value is over `top`.
 pub fn all_within(values: &[u32], top: u32) -> bool
     ensures { result ≡ all_within top values.now }
 {
-    let mut i = 0;
-    while i < values.len() {
-        if top < values[i] {
-            return false;
-        }
-        i += 1;
-    }
-    true
+    values.iter().all(|value| *value <= top)
 }
