@@ -13,35 +13,18 @@ use crate::limits::{MAX_YEAR, MIN_YEAR};
 fn leap_day(y: u32) -> u32
     ensures { result ≡ leap_day y }
 {
-    if y % 400 == 0 {
-        return 1;
-    }
-    if y % 100 == 0 {
-        return 0;
-    }
-    if y % 4 == 0 { 1 } else { 0 }
+    u32::from(y % 400 == 0 || y % 100 != 0 && y % 4 == 0)
 }
 
 // The days of month m of year y.
 fn month_length(y: u32, m: u32) -> u32
     ensures { result ≡ month_length y m }
 {
-    if m == 2 {
-        return 28 + leap_day(y);
+    match m {
+        2 => 28 + leap_day(y),
+        4 | 6 | 9 | 11 => 30,
+        _ => 31,
     }
-    if m == 4 {
-        return 30;
-    }
-    if m == 6 {
-        return 30;
-    }
-    if m == 9 {
-        return 30;
-    }
-    if m == 11 {
-        return 30;
-    }
-    31
 }
 
 // Whether a number is a date.
@@ -51,22 +34,9 @@ pub fn date_exists(date: u32) -> bool
     let y = date / 10000;
     let m = date / 100 % 100;
     let d = date % 100;
-    if y < MIN_YEAR {
-        return false;
-    }
-    if MAX_YEAR < y {
-        return false;
-    }
-    if m < 1 {
-        return false;
-    }
-    if 12 < m {
-        return false;
-    }
-    if d < 1 {
-        return false;
-    }
-    d <= month_length(y, m)
+    (MIN_YEAR..=MAX_YEAR).contains(&y)
+        && (1..=12).contains(&m)
+        && (1..=month_length(y, m)).contains(&d)
 }
 
 // The days of all years before y: the leap days are counted, not walked.
@@ -84,10 +54,8 @@ pub fn day_number(date: u32) -> u32
     let y = date / 10000;
     let m = date / 100 % 100;
     let mut days = before_year(y);
-    let mut k = 1;
-    while k < m {
+    for k in 1..m {
         days += month_length(y, k);
-        k += 1;
     }
     days + date % 100
 }

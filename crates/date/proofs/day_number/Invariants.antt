@@ -6,8 +6,4 @@ use Rattle.date.specs.Calendar.{first_months, before_year}
 use Rattle.date.proofs.day_number.Given as goal
 
 abbrev pub invariant-loop-k : goal.invariant-loop-k
-invariant-loop-k l =
-    (1 ≤ l.k) × ((l.k ≤ max l.m 1) × (l.days ≡ before_year l.y + first_months l.y (l.k - 1)))
-
-abbrev pub decreases-loop-k : goal.decreases-loop-k
-decreases-loop-k l = l.m - l.k
+invariant-loop-k l = (l.k ≤ max l.m 1) × (l.days ≡ before_year l.y + first_months l.y (l.k - 1))

@@ -1,22 +1,15 @@
--- `date::leap_day` meets its contract: the tests are the definition's, in its order. Assumes nothing.
-use borrow.Author.Tests.{eq-eqb, ne_eqb}
+-- `date::leap_day` meets its contract: each way through the test. Assumes nothing.
+use Rattle.std.proofs.Common.{arith}
+use Rattle.std.proofs.lemmas.Bool.Decides.{nat_tests}
 use Rattle.date.specs.Calendar.{leap_day}
 use Rattle.date.proofs.leap_day.Goals as goal
+use Rattle.date.proofs.leap_day.Goals.{then-y-eq0, else-y-eq0+then-y-ne0, else-y-eq0+else-y-ne0}
 
-pub returns-then-y-eq0 : goal.returns-then-y-eq0
+pub returns : goal.returns
 unfolding leap_day
-returns-then-y-eq0 c = simp (eq-eqb _ _ c.if-y-eq0.true)
-
-pub returns-then-y-eq0-2 : goal.returns-then-y-eq0-2
-unfolding leap_day
-returns-then-y-eq0-2 c = simp (ne_eqb _ _ c.if-y-eq0.false, eq-eqb _ _ c.if-y-eq0-2.true)
-
-pub returns-then-y-eq0-3 : goal.returns-then-y-eq0-3
-unfolding leap_day
-returns-then-y-eq0-3 c =
-    simp (ne_eqb _ _ c.if-y-eq0.false, ne_eqb _ _ c.if-y-eq0-2.false, eq-eqb _ _ c.if-y-eq0-3.true)
-
-pub returns-else-y-eq0-3 : goal.returns-else-y-eq0-3
-unfolding leap_day
-returns-else-y-eq0-3 c =
-    simp (ne_eqb _ _ c.if-y-eq0.false, ne_eqb _ _ c.if-y-eq0-2.false, ne_eqb _ _ c.if-y-eq0-3.false)
+returns c =
+    elim c.if-y-eq0.branch [
+      | then-y-eq0 w ↦ grind (arith, nat_tests)
+      | else-y-eq0+then-y-ne0 w ↦ grind (arith, nat_tests)
+      | else-y-eq0+else-y-ne0 w ↦ grind (arith, nat_tests)
+    ]
