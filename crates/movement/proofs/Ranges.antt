@@ -2,12 +2,13 @@
 use Rattle.std.specs.Prelude.{ℕ, zero, suc, ◌*◌, ◌%◌, ◌<◌, ◌≤◌}
 use mathlib.Core.{Path.◌≡◌, Path.refl, Bool.Bool, Bool.true, Bool.false, Bool.cond, Bool.◌&&◌}
 use mathlib.Core.Logic.Iff
-use mathlib.Core.{List.List, List.[], List.◌∷◌, Logic.◌↔◌}
+use mathlib.Core.{List.List, Logic.◌↔◌}
 use native.Mathlib.Omega.{arith}
 use lib.{ListN.length, ListN.get_or, Dec.eqb, Dec.leb, Dec.ltb}
 use borrow.Author.Tests.{ltb-true, ltb-false, leb-true, lt-ltb, le-leb}
 use Rattle.refusal.specs.Range.{all_within}
 use Rattle.refusal.proofs.Laws.{and_left, and_right}
+use Rattle.refusal.proofs.Ranges.{within_at, within_each}
 use Rattle.movement.specs.declared.period.Period.TheVariants.{Day, Evening, Night}
 use Rattle.movement.specs.Aircraft.{aircraft_numbered, mass_fits}
 use Rattle.movement.specs.Period.{period_of, period_number, period_numbered, weight_of}
@@ -69,17 +70,7 @@ identity_exactly x = both (leb 1 x) (leb x 99999) (most 1 x) (most x 99999)
 
 all_exactly : (top : ℕ) (ls : List ℕ)
     → all_within top ls ≡ true ↔ ((i : ℕ) → i < length ls → get_or ls i 0 ≤ top)
-unfolding all_within
-all_exactly top [] = (λ e i h. absurd (omega arith), λ f. refl)
-all_exactly top (x ∷ ls) = (
-  λ e i h. each i (leb-true x top (and_left _ _ e)) ((all_exactly top ls).0 (and_right (leb x top) _ e)) h,
-  λ f. rw (le-leb x top (f 0 (omega arith))) ((all_exactly top ls).1 (λ i h. f (suc i) (omega arith))),
-)
-  where
-    each : (i : ℕ) → x ≤ top → ((j : ℕ) → j < length ls → get_or ls j 0 ≤ top) → i < length (x ∷ ls)
-        → get_or (x ∷ ls) i 0 ≤ top
-    each zero l f h = l
-    each (suc i) l f h = f i (omega arith)
+all_exactly top ls = (λ e i h. within_at top ls i e, within_each top ls)
 
 -- one value a point, each in range
 one_a_point_rule : (points top : ℕ) (vs : List ℕ) → (eqb (length vs) points && all_within top vs) ≡ true

@@ -4,7 +4,7 @@ ghost use Rattle.movement.specs.Aircraft.{aircraft_number, aircraft_numbered, ma
 
 use crate::limits::SMALL_BELOW;
 
-#[derive(Clone, Copy)]
+#[derive(Clone, Copy, PartialEq, Eq)]
 pub enum Aircraft {
     Large,
     Small,
@@ -15,13 +15,11 @@ impl Aircraft {
     pub(crate) fn numbered(n: u32) -> Aircraft
         ensures { result ≡ aircraft_numbered n }
     {
-        if n == 0 {
-            return Aircraft::Large;
+        match n {
+            0 => Aircraft::Large,
+            1 => Aircraft::Small,
+            _ => Aircraft::Helicopter,
         }
-        if n == 1 {
-            return Aircraft::Small;
-        }
-        Aircraft::Helicopter
     }
 
     pub(crate) fn number(self) -> u32
@@ -39,9 +37,8 @@ impl Aircraft {
         ensures { result ≡ mass_fits self mass }
     {
         match self {
-            Aircraft::Large => true,
             Aircraft::Small => mass < SMALL_BELOW,
-            Aircraft::Helicopter => true,
+            Aircraft::Large | Aircraft::Helicopter => true,
         }
     }
 }

@@ -2,7 +2,7 @@
 ghost use Rattle.std.specs.Prelude.{◌≡◌};
 ghost use Rattle.movement.specs.Kind.{kind_number, kind_numbered};
 
-#[derive(Clone, Copy)]
+#[derive(Clone, Copy, PartialEq, Eq)]
 pub enum Kind {
     Start,
     Landing,
@@ -12,10 +12,10 @@ impl Kind {
     pub(crate) fn numbered(n: u32) -> Kind
         ensures { result ≡ kind_numbered n }
     {
-        if n == 0 {
-            return Kind::Start;
+        match n {
+            0 => Kind::Start,
+            _ => Kind::Landing,
         }
-        Kind::Landing
     }
 
     pub(crate) fn number(self) -> u32

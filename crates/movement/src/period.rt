@@ -2,7 +2,7 @@
 ghost use Rattle.std.specs.Prelude.{◌≡◌};
 ghost use Rattle.movement.specs.Period.{period_of, period_number};
 
-#[derive(Clone, Copy)]
+#[derive(Clone, Copy, PartialEq, Eq)]
 pub enum Period {
     Day,
     Evening,
@@ -21,16 +21,11 @@ impl Period {
     pub(crate) fn at(second: u32) -> Period
         ensures { result ≡ period_of second }
     {
-        if second < Period::DAY_FROM {
-            return Period::Night;
+        match second {
+            Period::DAY_FROM..Period::EVENING_FROM => Period::Day,
+            Period::EVENING_FROM..Period::NIGHT_FROM => Period::Evening,
+            _ => Period::Night,
         }
-        if second < Period::EVENING_FROM {
-            return Period::Day;
-        }
-        if second < Period::NIGHT_FROM {
-            return Period::Evening;
-        }
-        Period::Night
     }
 
     pub(crate) fn number(self) -> u32

@@ -1,6 +1,7 @@
 // Rules 1, 2, 3, 7 and 19 of RULES, "Refusal numbers", and what is given of a movement point by point.
 ghost use Rattle.std.specs.Prelude.{◌≡◌, ◌&&◌, ◌||◌, length, ◌==◌, nat_lt};
 ghost use Rattle.refusal.specs.Range.{all_within};
+ghost use Rattle.refusal.specs.Refusal.{told};
 ghost use Rattle.movement.specs.Rules.{fields_fit, movement_refusal, identity_fits, levels_fit};
 ghost use Rattle.movement.specs.Rules.{counts_fit, zero_elsewhere};
 
@@ -8,57 +9,44 @@ use crate::aircraft::Aircraft;
 use crate::limits::{
     KINDS, MASS_NOT_COUNTED, MAX_COUNT, MAX_IDENTITY, MAX_LEVEL, MAX_MASS, SECONDS_A_DAY, TYPES,
 };
+use refusal::Refusal;
 
 // Whether type, kind, time and mass are in range and go together (rule 1).
 pub fn fields_fit(aircraft: u32, kind: u32, second: u32, mass: u32) -> bool
     ensures { result ≡ fields_fit aircraft kind second mass }
 {
-    if TYPES <= aircraft {
-        return false;
-    }
-    if KINDS <= kind {
-        return false;
-    }
-    if SECONDS_A_DAY <= second {
-        return false;
-    }
-    if MAX_MASS < mass {
-        return false;
-    }
-    Aircraft::numbered(aircraft).takes(mass)
+    aircraft < TYPES
+        && kind < KINDS
+        && second < SECONDS_A_DAY
+        && mass <= MAX_MASS
+        && Aircraft::numbered(aircraft).takes(mass)
 }
 
-// The rule that refuses a movement, 1 before 2, or 0.
-pub fn movement_refusal(aircraft: u32, kind: u32, second: u32, mass: u32) -> u32
-    ensures { result ≡ movement_refusal aircraft kind second mass }
+// The rule that refuses a movement, 1 before 2.
+pub fn movement_refusal(aircraft: u32, kind: u32, second: u32, mass: u32) -> Result<(), Refusal>
+    ensures { told result ≡ movement_refusal aircraft kind second mass }
 {
     if !fields_fit(aircraft, kind, second, mass) {
-        return 1;
+        return Err(Refusal::OutOfRange);
     }
     if mass <= MASS_NOT_COUNTED {
-        return 2;
+        return Err(Refusal::TooLight);
     }
-    0
+    Ok(())
 }
 
 // Whether an identity is in range (rule 3).
 pub fn identity_fits(identity: u32) -> bool
     ensures { result ≡ identity_fits identity }
 {
-    if identity < 1 {
-        return false;
-    }
-    identity <= MAX_IDENTITY
+    (1..=MAX_IDENTITY).contains(&identity)
 }
 
 // Whether there is one value for each point, none over `top`.
 fn one_a_point(values: &[u32], points: usize, top: u32) -> bool
     ensures { result ≡ (length values.now == points && all_within top values.now) }
 {
-    if values.len() != points {
-        return false;
-    }
-    refusal::all_within(values, top)
+    values.len() == points && refusal::all_within(values, top)
 }
 
 // Whether there is one level for each point, and each is in range (rule 7).
@@ -79,25 +67,15 @@ pub fn counts_fit(given: &[u32], points: usize) -> bool
 fn may_hold(count: u32, level: u32) -> bool
     ensures { result ≡ (nat_lt 0 count || level == 0) }
 {
-    if 0 < count {
-        return true;
-    }
-    level == 0
+    0 < count || level == 0
 }
 
 // Whether every level is zero where the movement doesn't count (rule 19).
 pub fn zero_elsewhere(counts: &[u32], levels: &[u32]) -> bool
     ensures { result ≡ zero_elsewhere counts.now levels.now }
 {
-    let mut i = 0;
-    while i < counts.len() {
-        if levels.len() <= i {
-            return true;
-        }
-        if !may_hold(counts[i], levels[i]) {
-            return false;
-        }
-        i += 1;
-    }
-    true
+    counts
+        .iter()
+        .zip(levels)
+        .all(|(count, level)| may_hold(*count, *level))
 }
