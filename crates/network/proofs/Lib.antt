@@ -1,4 +1,3 @@
-pub mod Place
 pub mod Numbers
 pub mod Refusals
 pub mod Astride

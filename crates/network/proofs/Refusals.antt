@@ -1,10 +1,10 @@
 -- What a network that is not refused is. Assumes nothing.
-use mathlib.Core.{Path.◌≡◌, Path.refl, Bool.Bool, Bool.true, Bool.false, Bool.◌&&◌, Bool.cond, List.List}
+use mathlib.Core.{Path.◌≡◌, Path.refl, Path.sym, Path.◌∙◌, Bool.Bool, Bool.true, Bool.false, Bool.◌&&◌, Bool.cond, List.List}
 use Rattle.std.specs.Prelude.{ℕ, ◌≤◌, leb}
 use native.Mathlib.Omega.{arith}
 use borrow.Author.Tests.{leb-true, eqb-true}
-use Rattle.refusal.specs.{Range.all_within, Refuse.first}
-use Rattle.refusal.proofs.{Laws.and_left, Laws.and_right, Ranges.within_at}
+use Rattle.refusal.specs.{Range.all_within, Refuse.first, Refusal.number_of, declared.Refusal.Refusal}
+use Rattle.refusal.proofs.{Laws.and_left, Laws.and_right, Laws.numbered, Ranges.within_at}
 use Rattle.network.specs.declared.Frame.{Frame}
 use Rattle.network.specs.Limits.{least_side, max_side, least_spacing, max_spacing, max_origin}
 use Rattle.network.specs.Limits.{max_network_level, least_contour, max_contour}
@@ -93,6 +93,12 @@ module _ (max : ℕ) (levels : List ℕ) (f : Frame) where
       go true true e = absurd (e refl)
       go true false e = refl
       go false b e = refl
+
+  -- so a call that hands a network's refusal on answers as the check of the call does
+  pub checked_err : (rest : ℕ) (why : Refusal) → number_of why ≡ checked max levels f 0
+      → number_of why ≡ checked max levels f rest
+  checked_err rest why e =
+      e ∙ sym (checked_off rest (λ h. let low = numbered why in omega arith))
 
   -- the same with a contour level: its refusal, and then the rest
   pub contour_then : (v rest : ℕ)

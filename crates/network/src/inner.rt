@@ -1,7 +1,7 @@
 // The points and edges of a network that has passed its check.
 ghost use Rattle.std.specs.Prelude.{◌≡◌, ◌<◌};
 ghost use Rattle.network.specs.Edges.{Sides, Sized, level_at, edges, edge_at, number_of, WithinEdge};
-ghost use Rattle.network.specs.Crossed.{inside_of, unlike, crossed_edge, crossed_at, distance};
+ghost use Rattle.network.specs.Crossed.{inside_of, crossed_edge, crossed_at, distance};
 
 use crate::Edge;
 
@@ -22,12 +22,6 @@ pub fn inside(levels: &[u32], nx: usize, ny: usize, v: u32, row: usize, col: usi
     v <= level(levels, nx, ny, row, col)
 }
 
-fn differ(a: bool, b: bool) -> bool
-    ensures { result ≡ unlike a b }
-{
-    if a { !b } else { b }
-}
-
 // Whether one end of the edge is in and the other out.
 pub fn crossed_edge(levels: &[u32], nx: usize, ny: usize, v: u32, e: Edge) -> bool
     requires { Sized levels.now nx ny × WithinEdge nx ny e }
@@ -37,12 +31,12 @@ pub fn crossed_edge(levels: &[u32], nx: usize, ny: usize, v: u32, e: Edge) -> bo
         Edge::Horizontal(row, col) => {
             let west = inside(levels, nx, ny, v, row, col);
             let east = inside(levels, nx, ny, v, row, col + 1);
-            differ(west, east)
+            west != east
         }
         Edge::Vertical(row, col) => {
             let south = inside(levels, nx, ny, v, row, col);
             let north = inside(levels, nx, ny, v, row + 1, col);
-            differ(south, north)
+            south != north
         }
     }
 }
@@ -91,8 +85,5 @@ pub fn crossed_at(levels: &[u32], nx: usize, ny: usize, v: u32, n: usize) -> boo
 pub fn apart(a: u32, b: u32) -> u32
     ensures { result ≡ distance a b }
 {
-    if a < b {
-        return b - a;
-    }
-    a - b
+    a.abs_diff(b)
 }

@@ -3,11 +3,13 @@
 #![tactic(auto)]
 
 ghost use Rattle.std.specs.Prelude.{◌≡◌, ◌&&◌};
+ghost use Rattle.refusal.specs.Refusal.{told};
 ghost use Rattle.network.specs.Refusals.{between, sided, placed, filled, checked, contour_checked};
 
 use crate::limits::{
     LEAST_CONTOUR, LEAST_SIDE, LEAST_SPACING, MAX_CONTOUR, MAX_ORIGIN, MAX_SIDE, MAX_SPACING,
 };
+use refusal::Refusal;
 
 pub mod inner;
 pub mod limits;
@@ -33,76 +35,60 @@ pub enum Edge {
 fn lies_between(low: u32, x: u32, high: u32) -> bool
     ensures { result ≡ between low x high }
 {
-    if low <= x {
-        return x <= high;
-    }
-    false
+    (low..=high).contains(&x)
 }
 
 // Whether each side has 2 to 256 points.
 pub fn is_sided(frame: Frame) -> bool
     ensures { result ≡ sided frame }
 {
-    if lies_between(LEAST_SIDE, frame.columns, MAX_SIDE) {
-        return lies_between(LEAST_SIDE, frame.rows, MAX_SIDE);
-    }
-    false
+    lies_between(LEAST_SIDE, frame.columns, MAX_SIDE)
+        && lies_between(LEAST_SIDE, frame.rows, MAX_SIDE)
 }
 
 // Whether the spacing and the south-west point are in their ranges.
 pub fn is_placed(frame: Frame) -> bool
     ensures { result ≡ placed frame }
 {
-    if lies_between(LEAST_SPACING, frame.spacing, MAX_SPACING) {
-        if frame.west <= MAX_ORIGIN {
-            return frame.south <= MAX_ORIGIN;
-        }
-    }
-    false
+    lies_between(LEAST_SPACING, frame.spacing, MAX_SPACING)
+        && frame.west <= MAX_ORIGIN
+        && frame.south <= MAX_ORIGIN
 }
 
 // Whether there are as many levels as points.
 fn is_filled(levels: &[u32], frame: Frame) -> bool
     ensures { result ≡ filled levels.now frame }
 {
-    (levels.len() as u64) == (frame.rows as u64) * (frame.columns as u64)
+    levels.len() as u64 == frame.rows as u64 * frame.columns as u64
 }
 
 // Whether nothing of the network is 12.
 fn is_whole(levels: &[u32], frame: Frame) -> bool
     ensures { result ≡ (sided frame && placed frame && filled levels.now frame) }
 {
-    if is_sided(frame) {
-        if is_placed(frame) {
-            return is_filled(levels, frame);
-        }
-    }
-    false
+    is_sided(frame) && is_placed(frame) && is_filled(levels, frame)
 }
 
-// The refusal of a network whose levels go up to `max`, 12 or 13, or 0.
-pub fn refusal(levels: &[u32], frame: Frame, max: u32) -> u32
-    ensures { result ≡ checked max levels.now frame 0 }
+// Refuses a network that isn't whole, or whose levels don't all lie up to `max`.
+pub fn refusal(levels: &[u32], frame: Frame, max: u32) -> Result<(), Refusal>
+    ensures { told result ≡ checked max levels.now frame 0 }
 {
-    if is_whole(levels, frame) {
-        if refusal::all_within(levels, max) {
-            return 0;
-        }
-        return 13;
+    if !is_whole(levels, frame) {
+        return Err(Refusal::WrongNetwork);
     }
-    12
+    if !refusal::all_within(levels, max) {
+        return Err(Refusal::WrongNetworkLevel);
+    }
+    Ok(())
 }
 
-// The refusal of such a network with a contour level, 12, 13 or 15, or 0.
-pub fn contour_refusal(levels: &[u32], frame: Frame, v: u32, max: u32) -> u32
-    ensures { result ≡ contour_checked max levels.now frame v 0 }
+// Refuses such a network, or a contour level out of its range.
+pub fn contour_refusal(levels: &[u32], frame: Frame, v: u32, max: u32) -> Result<(), Refusal>
+    ensures { told result ≡ contour_checked max levels.now frame v 0 }
 {
-    let why = refusal(levels, frame, max);
-    if why == 0 {
-        if lies_between(LEAST_CONTOUR, v, MAX_CONTOUR) {
-            return 0;
-        }
-        return 15;
+    refusal(levels, frame, max)?;
+    if lies_between(LEAST_CONTOUR, v, MAX_CONTOUR) {
+        return Ok(());
     }
-    why
+    Err(Refusal::WrongLevelAsked)
 }

@@ -1,9 +1,0 @@
--- `network::lies_between` meets its contract. Assumes nothing.
-use borrow.Author.Tests.{le-leb, lt-leb}
-use Rattle.network.proofs.lies_between.Goals as goal
-
-pub returns-then-low-x : goal.returns-then-low-x
-returns-then-low-x c = rw (le-leb _ _ c.if-low-x.true)
-
-pub returns : goal.returns
-returns c = rw (lt-leb _ _ c.if-low-x.false)
