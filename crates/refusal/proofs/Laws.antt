@@ -5,10 +5,10 @@ use mathlib.Core.Bool.{Bool, true, false, ◌&&◌, false≢true}
 use mathlib.Core.List.{List, [], ◌∷◌}
 use Prim.Native.Nat.{ℕ, ◌<◌}
 use native.Mathlib.Omega.{arith}
-use lib.ListN.{length}
+use lib.ListN.{length, get_or}
 use Rattle.std.specs.Prelude.{Result, Ok, Err, is_ok}
 use Rattle.refusal.specs.Refuse.{refuse}
-use Rattle.refusal.specs.Refusal.{number_of, told}
+use Rattle.refusal.specs.Refusal.{number_of, told, Answers}
 use Rattle.refusal.specs.declared.Refusal.{Refusal}
 use Rattle.refusal.specs.declared.Refusal.TheVariants.{OutOfRange, TooLight, WrongIdentity, AlreadyStands}
 use Rattle.refusal.specs.declared.Refusal.TheVariants.{DoesNotStand, NoUnusedRow, WrongLevels, NoLevelsHeld}
@@ -72,3 +72,46 @@ ok_told (Err why) e = absurd (false≢true e)
 
 pub err_told : {A : Type 0} (r : Result A Refusal) (why : Refusal) → r ≡ Err why → told r ≡ number_of why
 err_told r why e = ap told e
+
+-- no two refusals have one number
+abbrev named : List Refusal
+named =
+    OutOfRange ∷ OutOfRange ∷ TooLight ∷ WrongIdentity ∷ AlreadyStands ∷ DoesNotStand ∷ NoUnusedRow ∷ WrongLevels ∷
+    NoLevelsHeld ∷ NotSound ∷ NoneComputed ∷ WrongDays ∷ WrongNetwork ∷ WrongNetworkLevel ∷ TooLittleRoom ∷
+    WrongLevelAsked ∷ OffLayout ∷ NetworkOffLayout ∷ WrongFlights ∷ LevelElsewhere ∷ []
+
+named_at : (why : Refusal) → get_or named (number_of why) OutOfRange ≡ why
+named_at OutOfRange = refl
+named_at TooLight = refl
+named_at WrongIdentity = refl
+named_at AlreadyStands = refl
+named_at DoesNotStand = refl
+named_at NoUnusedRow = refl
+named_at WrongLevels = refl
+named_at NoLevelsHeld = refl
+named_at NotSound = refl
+named_at NoneComputed = refl
+named_at WrongDays = refl
+named_at WrongNetwork = refl
+named_at WrongNetworkLevel = refl
+named_at TooLittleRoom = refl
+named_at WrongLevelAsked = refl
+named_at OffLayout = refl
+named_at NetworkOffLayout = refl
+named_at WrongFlights = refl
+named_at LevelElsewhere = refl
+
+pub same_number : (a b : Refusal) → number_of a ≡ number_of b → a ≡ b
+same_number a b e = sym (named_at a) ∙ ap (λ n. get_or named n OutOfRange) e ∙ named_at b
+
+-- a call that doesn't refuse answers, and two outcomes of one call are equal
+pub answered : {A : Type 0} {refusal : ℕ} {x : A} (r : Result A Refusal) → Answers refusal x r → refusal ≡ 0 → r ≡ Ok x
+answered (Ok y) a e = ap Ok a.answer
+answered (Err why) a e = absurd (let low = numbered why in omega (arith, a.number))
+
+pub one_answer : {A : Type 0} {refusal : ℕ} {x : A} (r s : Result A Refusal) → Answers refusal x r
+    → Answers refusal x s → r ≡ s
+one_answer (Ok y) (Ok z) a b = ap Ok (a.answer ∙ sym b.answer)
+one_answer (Ok y) (Err why) a b = absurd (let low = numbered why in omega (arith, a.number, b.number))
+one_answer (Err why) (Ok z) a b = absurd (let low = numbered why in omega (arith, a.number, b.number))
+one_answer (Err why) (Err more) a b = ap Err (same_number why more (a.number ∙ sym b.number))

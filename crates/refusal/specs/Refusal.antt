@@ -1,6 +1,6 @@
 -- The refusals by name, and what a call tells: RULES, "Refusal numbers".
 -- Assumes nothing.
-use Rattle.std.specs.Prelude.{ℕ, Result, Ok, Err}
+use Rattle.std.specs.Prelude.{◌≡◌, ℕ, Result, Ok, Err, IfOk}
 use Rattle.refusal.specs.declared.Refusal.{Refusal}
 use Rattle.refusal.specs.declared.Refusal.TheVariants.{OutOfRange, TooLight, WrongIdentity, AlreadyStands}
 use Rattle.refusal.specs.declared.Refusal.TheVariants.{DoesNotStand, NoUnusedRow, WrongLevels, NoLevelsHeld}
@@ -34,3 +34,8 @@ number_of LevelElsewhere = 19
 abbrev pub told : {A : Type 0} → Result A Refusal → ℕ
 told (Ok answer) = 0
 told (Err why) = number_of why
+
+-- a call answers x, or refuses by the number `refusal`, which is 0 where it doesn't refuse
+pub record Answers {A : Type 0} (refusal : ℕ) (x : A) (r : Result A Refusal) : Type 0 where
+  pub number : told r ≡ refusal
+  pub answer : IfOk r (λ y. y ≡ x)
