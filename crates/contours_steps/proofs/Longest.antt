@@ -8,7 +8,7 @@ use lib.{Dec.eqb, ListN.length, ListN.get_or, ListN.length-append}
 use Rattle.refusal.specs.Range.{all_within}
 use Rattle.text.specs.{Number.whole_of, Number.digits_of, Number.decimal_of, Number.thousandths_of}
 use Rattle.text.specs.{Number.shown, Field.count_of, Field.joined_by, Line.lines_of, Same.same_text, Spelled.bytes}
-use Rattle.text.specs.declared.number.Number.TheVariants.{Got}
+use Rattle.std.specs.Prelude.{Some}
 use Rattle.text.proofs.{Digits.either, Fields.count_append}
 use Rattle.network.specs.declared.Frame.{Frame}
 use Rattle.network.specs.{Limits.max_network_level, Refusals.sided, Refusals.placed, Refusals.filled}
@@ -161,19 +161,19 @@ unfolding text
 text-lines = lines_apart lines free
 
 -- the header, and the line that names no data
-columns_is : number_at ncols 0 lines ≡ Got 256
+columns_is : number_at ncols 0 lines ≡ Some 256
 columns_is = number_back_lem ncols 256 (omega arith)
 
-height_is_lem : number_at nrows 1 lines ≡ Got 256
+height_is_lem : number_at nrows 1 lines ≡ Some 256
 height_is_lem = number_back_lem nrows 256 (omega arith)
 
-west_is : number_at xllcenter 2 lines ≡ Got 900000
+west_is : number_at xllcenter 2 lines ≡ Some 900000
 west_is = number_back_lem xllcenter 900000 (omega arith)
 
-south_is : number_at yllcenter 3 lines ≡ Got 900000
+south_is : number_at yllcenter 3 lines ≡ Some 900000
 south_is = number_back_lem yllcenter 900000 (omega arith)
 
-spacing_is : number_at cellsize 4 lines ≡ Got 500
+spacing_is : number_at cellsize 4 lines ≡ Some 500
 spacing_is = number_back_lem cellsize 500 (omega arith)
 
 names_on : names (sixth lines) ≡ true

@@ -8,8 +8,7 @@ use lib.{Dec.eqb, Dec.leb, ListN.length, ListN.get_or, ListN.drop, ListN.length-
 use Rattle.refusal.proofs.Laws.{and_left, and_right}
 use Rattle.text.specs.Number.{whole_of, thousandths_of, digits_of, is_got, value_of, show_whole}
 use Rattle.text.specs.{Line.onto, Line.lines_of, Same.same_text}
-use Rattle.text.specs.declared.number.Number.{Number}
-use Rattle.text.specs.declared.number.Number.TheVariants.{Off}
+use Rattle.std.specs.Prelude.{Option, None}
 use Rattle.text.proofs.{Digits.either, Digits.got_value, Shown.shown_width, Sames.same_equal}
 use Rattle.text.proofs.Thousandths.{thousandths_exact, spelled_most}
 use Rattle.network.specs.Refusals.{sided, placed}
@@ -60,7 +59,7 @@ total_front (l ∷ ls) (suc n) = total_front ls n
 
 -- ---- how long each text on its layout can be
 
-got_passed : (b : Bool) (n : Number) → is_got (cond b n Off) ≡ true → b ≡ true
+got_passed : (b : Bool) (n : Option ℕ) → is_got (cond b n None) ≡ true → b ≡ true
 got_passed true n h = refl
 got_passed false n h = let z : ◌≡◌ {A = ℕ} 0 1 = cc in absurd (omega arith)
 

@@ -3,7 +3,6 @@ ghost use Rattle.std.specs.Prelude.{◌≡◌, if◌then◌else◌};
 ghost use Rattle.contours_steps.specs.Words.{is_contour, word_level, given_refusal, WordTaken};
 
 use network::limits::{LEAST_CONTOUR, MAX_CONTOUR};
-use text::number::Number;
 
 // The most levels that there is room for.
 pub const MAX_CONTOUR_LEVELS: usize = 15_000;
@@ -13,7 +12,7 @@ pub fn contour_of(word: &[u8]) -> u32
     ensures { result ≡ (if is_contour word.now then word_level word.now else 0) }
 {
     match text::number::thousandths(word) {
-        Number::Got(v) => {
+        Some(v) => {
             if v < LEAST_CONTOUR {
                 return 0;
             }
@@ -22,7 +21,7 @@ pub fn contour_of(word: &[u8]) -> u32
             }
             v
         }
-        Number::Off => 0,
+        None => 0,
     }
 }
 

@@ -6,27 +6,26 @@ use borrow.Author.Tests.{eqb-true}
 use lib.{ListN.length, ListN.get_or, ListN.take, ListN.drop, ListN.length-drop, Seq.length-take-le, Dec.eqb}
 use Rattle.refusal.proofs.Laws.{and_left, and_right}
 use Rattle.text.specs.Number.{show_digits}
-use Rattle.text.specs.declared.number.Number.{Number}
-use Rattle.text.specs.declared.number.Number.TheVariants.{Got, Off}
+use Rattle.std.specs.Prelude.{Option, Some, None}
 use Rattle.text.proofs.{Digits.passed, Shown.digits_back_lem, Exact.digits-text, Clocks.three-parts}
 use Rattle.flights.specs.Date.{digits_at, dated, date_of, show_date}
 use Rattle.flights.specs.Spelled.{digit}
 
 -- digits at a place that were read have their text, and make a number of so many digits
-pub part_text_lem : (s : List ℕ) (at count n : ℕ) → at + count ≤ length s → digits_at s at count ≡ Got n
+pub part_text_lem : (s : List ℕ) (at count n : ℕ) → at + count ≤ length s → digits_at s at count ≡ Some n
     → (take count (drop at s) ≡ show_digits count n) × (n < 10 ^ count)
 part_text_lem s at count n h e =
     digits-text count (take count (drop at s)) n
     (length-take-le count (drop at s) (rw (length-drop at s) (omega arith))) e
 
 -- a date that was put together had all its parts
-dated_got : (a b c : Number) (n : ℕ) → dated a b c ≡ Got n
-    → (y : ℕ) × (m : ℕ) × (d : ℕ) × (a ≡ Got y) × (b ≡ Got m) × (c ≡ Got d)
+dated_got : (a b c : Option ℕ) (n : ℕ) → dated a b c ≡ Some n
+    → (y : ℕ) × (m : ℕ) × (d : ℕ) × (a ≡ Some y) × (b ≡ Some m) × (c ≡ Some d)
     × (n ≡ y * 10000 + m * 100 + d)
-dated_got Off b c n e = let z : ◌≡◌ {A = ℕ} 0 1 = cc in absurd (omega arith)
-dated_got (Got y) Off c n e = let z : ◌≡◌ {A = ℕ} 0 1 = cc in absurd (omega arith)
-dated_got (Got y) (Got m) Off n e = let z : ◌≡◌ {A = ℕ} 0 1 = cc in absurd (omega arith)
-dated_got (Got y) (Got m) (Got d) n e = let q : y * 10000 + m * 100 + d ≡ n = cc in (y, m, d, refl, refl, refl, sym q)
+dated_got None b c n e = let z : ◌≡◌ {A = ℕ} 0 1 = cc in absurd (omega arith)
+dated_got (Some y) None c n e = let z : ◌≡◌ {A = ℕ} 0 1 = cc in absurd (omega arith)
+dated_got (Some y) (Some m) None n e = let z : ◌≡◌ {A = ℕ} 0 1 = cc in absurd (omega arith)
+dated_got (Some y) (Some m) (Some d) n e = let q : y * 10000 + m * 100 + d ≡ n = cc in (y, m, d, refl, refl, refl, sym q)
 
 date_text_lem : (s : List ℕ) (y m d : ℕ) → length s ≡ 10 → get_or s 4 0 ≡ 45 → get_or s 7 0 ≡ 45
     → take 4 (drop 0 s) ≡ show_digits 4 y → take 2 (drop 5 s) ≡ show_digits 2 m
@@ -35,7 +34,7 @@ date_text_lem : (s : List ℕ) (y m d : ℕ) → length s ≡ 10 → get_or s 4 
 date_text_lem s y m d l one two ty tm td = three-parts 4 2 2 s l ∙ rw (ty, tm, td, one, two)
 
 -- a text that reads as a date is that date's text
-pub date_exact : (s : List ℕ) (n : ℕ) → date_of s ≡ Got n → (s ≡ show_date n) × (n < 100000000)
+pub date_exact : (s : List ℕ) (n : ℕ) → date_of s ≡ Some n → (s ≡ show_date n) × (n < 100000000)
 unfolding date_of
 date_exact s n e =
     let a = eqb (length s) 10 in
@@ -56,7 +55,7 @@ date_exact s n e =
     (rw (y, m, d) (date_text_lem s q.0 q.1 q.2 l one two ty.0 tm.0 td.0), omega arith)
 
 -- a date reads back
-pub date_back : (n : ℕ) → n < 100000000 → date_of (show_date n) ≡ Got n
+pub date_back : (n : ℕ) → n < 100000000 → date_of (show_date n) ≡ Some n
 unfolding date_of
 date_back n h =
     let w : n / 10000 * 10000 + n / 100 % 100 * 100 + n % 100 ≡ n = omega arith in

@@ -9,7 +9,7 @@ use lib.{Seq.ext_get_or, Dec.eqb, Dec.ltb}
 use Rattle.refusal.proofs.Laws.{and_left, and_right}
 use Rattle.date.specs.Calendar.{date_exists}
 use Rattle.text.specs.{Line.bare_line, Field.count_of, Index.every, Index.listing, Number.is_got, Number.value_of}
-use Rattle.text.specs.declared.number.Number.TheVariants.{Got}
+use Rattle.std.specs.Prelude.{Some}
 use Rattle.text.proofs.Digits.{either, got_value, whole_small}
 use Rattle.text.proofs.Indices.{every_each, every_all, listing_at, length_listing}
 use Rattle.text.proofs.{Exact.whole_exact, Shown.whole_back, Clocks.time_exact, Clocks.time_back}
@@ -89,10 +89,10 @@ module _ (columns : ℕ) (s : List ℕ) (layout : (columns ≡ 8) ⊎ (columns �
 -- a row on its layout spells its values
 module _ (columns : ℕ) (row : List ℕ) (l : Laid columns (bare_line row)) where
   read_at : (k : ℕ) → k < columns
-      → cell_at (bare_line row) k ≡ Got (get_or (values_of columns (bare_line row)) k 0)
+      → cell_at (bare_line row) k ≡ Some (get_or (values_of columns (bare_line row)) k 0)
   read_at k h =
       got_value (cell_at (bare_line row) k) (every_each (got_at (bare_line row)) k columns h l.got)
-      ∙ ap Got (sym (value_at_rule columns (bare_line row) l.layout k h))
+      ∙ ap Some (sym (value_at_rule columns (bare_line row) l.layout k h))
 
   pub laid_spells : Spells columns row (values_of columns (bare_line row))
   unfolding cell_of
@@ -133,7 +133,7 @@ module _ (columns : ℕ) (row values : List ℕ) (w : Spells columns row values)
   most : columns ≤ 9
   most = ⊎_elim (λ e. omega arith) (λ e. omega arith) w.layout
 
-  cell : (k : ℕ) → k < columns → cell_at (bare_line row) k ≡ Got (get_or values k 0)
+  cell : (k : ℕ) → k < columns → cell_at (bare_line row) k ≡ Some (get_or values k 0)
   unfolding cell_of
   cell zero h = rw w.number (whole_back (get_or values 0 0) w.number<)
   cell (suc zero) h =

@@ -5,7 +5,7 @@ use mathlib.Core.{Path.◌≡◌, Path.ap, List.List, Bool.and-false, Logic.⊎_
 use native.Mathlib.Omega.{arith}
 use lib.{ListN.length, Dec.eqb}
 use Rattle.text.specs.{Field.count_of, Field.field_of, Line.bare_line}
-use Rattle.text.specs.declared.number.Number.TheVariants.{Got}
+use Rattle.std.specs.Prelude.{Some}
 use Rattle.text.proofs.Digits.{either, got_value, whole_small}
 use Rattle.text.proofs.{Exact.whole_exact, Shown.shown_width, Sames.same_length}
 use Rattle.text.proofs.{Fields.widest, Fields.line_within, Indices.every_each}
@@ -35,7 +35,7 @@ mark_within (blank e z) = omega (arith, ap length e)
 mark_within (marked e z) = omega (arith, ap length e)
 
 -- a field that was read is no longer
-cell_within : (k : ℕ) (t : List ℕ) (v : ℕ) → cell_of k t ≡ Got v → length t ≤ width k
+cell_within : (k : ℕ) (t : List ℕ) (v : ℕ) → cell_of k t ≡ Some v → length t ≤ width k
 unfolding cell_of width
 cell_within zero t v e = omega (arith, ap length (whole_exact t v e), shown_width 7 6 v (whole_small t v e))
 cell_within (suc zero) t v e = omega (arith, ap length (date_exact t v e).0)

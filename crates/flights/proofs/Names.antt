@@ -8,7 +8,7 @@ use borrow.Author.Tests.{le-leb, lt-leb, leb-true, ltb-true, ltb-false}
 use lib.{ListN.length, ListN.get_or, ListN.drop, ListN.drop_of_length-le, Seq.drop-cons, Dec.leb, Dec.ltb}
 use Rattle.refusal.proofs.Laws.{and_left, and_right}
 use Rattle.text.specs.Number.{is_digit}
-use Rattle.text.specs.declared.number.Number.TheVariants.{Got, Off}
+use Rattle.std.specs.Prelude.{Some, None}
 use Rattle.text.proofs.Digits.{digit_yes, digit_low, digit_high, either, passed}
 use Rattle.flights.specs.Name.{is_capital, in_name, code_of, name_of}
 use Rattle.flights.specs.Spelled.{NameByte, Named}
@@ -34,11 +34,11 @@ module _ (s : List ℕ) (v i : ℕ) (h : i < length s) where
   unfolding code_of
   code_step e = rw (add-one, drop-cons s i 0 h, e)
 
-  pub code_stop : in_name (get_or s i 0) ≡ false → code_of v (drop i s) ≡ Off
+  pub code_stop : in_name (get_or s i 0) ≡ false → code_of v (drop i s) ≡ None
   unfolding code_of
   code_stop e = rw (drop-cons s i 0 h, e)
 
-pub code_end : (s : List ℕ) (v i : ℕ) → length s ≤ i → code_of v (drop i s) ≡ Got v
+pub code_end : (s : List ℕ) (v i : ℕ) → length s ≤ i → code_of v (drop i s) ≡ Some v
 unfolding code_of
 code_end s v i h = rw (drop_of_length-le s h)
 
@@ -73,17 +73,17 @@ byte_range : (c : ℕ) → in_name c ≡ true → (48 ≤ c) × (c ≤ 90)
 byte_range c e = ⊎_elim (λ d. (d.0, omega (arith, d.1))) (λ d. (omega (arith, d.0), d.1)) (name_byte c e)
 
 -- a byte that was read, and what is left
-code_cons : (v c n : ℕ) (s : List ℕ) → code_of v (c ∷ s) ≡ Got n
-    → (in_name c ≡ true) × (code_of (v * 256 + c) s ≡ Got n)
+code_cons : (v c n : ℕ) (s : List ℕ) → code_of v (c ∷ s) ≡ Some n
+    → (in_name c ≡ true) × (code_of (v * 256 + c) s ≡ Some n)
 unfolding code_of
 code_cons v c n s e = passed (in_name c) (code_of (v * 256 + c) s) n e
 
-code_nil : (v n : ℕ) → code_of v [] ≡ Got n → n ≡ v
+code_nil : (v n : ℕ) → code_of v [] ≡ Some n → n ≡ v
 unfolding code_of
 code_nil v n e = let q : v ≡ n = cc in sym q
 
-pub name_few : (s : List ℕ) (n : ℕ) → name_of s ≡ Got n
-    → (1 ≤ length s) × (length s ≤ 4) × (code_of 0 s ≡ Got n)
+pub name_few : (s : List ℕ) (n : ℕ) → name_of s ≡ Some n
+    → (1 ≤ length s) × (length s ≤ 4) × (code_of 0 s ≡ Some n)
 unfolding name_of
 name_few s n e =
     let p = passed (leb 1 (length s) && leb (length s) 4) (code_of 0 s) n e in (
@@ -93,14 +93,14 @@ name_few s n e =
     )
 
 -- a number of bytes is the number of those before them, and lies between two powers of 256
-code_below : (s : List ℕ) (v k n : ℕ) → v < 256 ^ k → code_of v s ≡ Got n → n < 256 ^ (k + length s)
+code_below : (s : List ℕ) (v k n : ℕ) → v < 256 ^ k → code_of v s ≡ Some n → n < 256 ^ (k + length s)
 code_below [] v k n h e = rw (add-zero k) (omega (arith, code_nil v n e))
 code_below (c ∷ s) v k n h e =
     let p = code_cons v c n s e in
     let q : k + suc (length s) ≡ k + 1 + length s = omega arith in
     rw q (code_below s (v * 256 + c) (k + 1) n (code_grows v k c h (omega (arith, byte_range c p.0))) p.1)
 
-code_least : (s : List ℕ) (v k n : ℕ) → 256 ^ k ≤ v → code_of v s ≡ Got n → 256 ^ (k + length s) ≤ n
+code_least : (s : List ℕ) (v k n : ℕ) → 256 ^ k ≤ v → code_of v s ≡ Some n → 256 ^ (k + length s) ≤ n
 code_least [] v k n h e = rw (add-zero k) (omega (arith, code_nil v n e))
 code_least (c ∷ s) v k n h e =
     let p = code_cons v c n s e in
@@ -108,13 +108,13 @@ code_least (c ∷ s) v k n h e =
     rw q (code_least s (v * 256 + c) (suc k) n (rw (pow-suc 256 k) (omega arith)) p.1)
 
 -- a name's number fits in 32 bits
-pub name_below : (s : List ℕ) (n : ℕ) → name_of s ≡ Got n → n < 4294967296
+pub name_below : (s : List ℕ) (n : ℕ) → name_of s ≡ Some n → n < 4294967296
 name_below s n e =
     let f = name_few s n e in
     let p : 256 ^ (0 + length s) ≤ 256 ^ 4 = pow-le-pow_right (omega arith) {j = 4} (omega (arith, f.1)) in
     omega (arith, code_below s 0 0 n (omega arith) f.2)
 
-name_least : (s : List ℕ) (n : ℕ) → name_of s ≡ Got n → 256 ^ (length s - 1) ≤ n
+name_least : (s : List ℕ) (n : ℕ) → name_of s ≡ Some n → 256 ^ (length s - 1) ≤ n
 name_least [] n e = absurd (omega (arith, (name_few [] n e).0))
 name_least (c ∷ s) n e =
     let p = code_cons 0 c n s (name_few (c ∷ s) n e).2 in
@@ -122,7 +122,7 @@ name_least (c ∷ s) n e =
     rw q (code_least s (0 * 256 + c) 0 n (omega (arith, byte_range c p.0)) p.1)
 
 -- names of one number are as long, and then the same byte by byte
-not_longer : (s t : List ℕ) (n : ℕ) → name_of s ≡ Got n → name_of t ≡ Got n → length t ≤ length s
+not_longer : (s t : List ℕ) (n : ℕ) → name_of s ≡ Some n → name_of t ≡ Some n → length t ≤ length s
 not_longer s t n e f =
     either (ltb (length s) (length t))
     (λ yes. let less = ltb-true (length s) (length t) yes in
@@ -131,7 +131,7 @@ not_longer s t n e f =
     absurd (omega (arith, code_below s 0 0 n (omega arith) (name_few s n e).2, name_least t n f)))
     (λ no. ltb-false (length s) (length t) no)
 
-same_code : (s t : List ℕ) (v w n : ℕ) → length s ≡ length t → code_of v s ≡ Got n → code_of w t ≡ Got n
+same_code : (s t : List ℕ) (v w n : ℕ) → length s ≡ length t → code_of v s ≡ Some n → code_of w t ≡ Some n
     → (v ≡ w) × (s ≡ t)
 same_code [] [] v w n l e f = (omega (arith, code_nil v n e, code_nil w n f), refl)
 same_code [] (d ∷ t) v w n l e f = absurd (omega arith)
@@ -147,16 +147,16 @@ same_code (c ∷ s) (d ∷ t) v w n l e f =
     let rest = r.1 in
     (omega arith, cc)
 
-pub names_apart : (s t : List ℕ) (n : ℕ) → name_of s ≡ Got n → name_of t ≡ Got n → s ≡ t
+pub names_apart : (s t : List ℕ) (n : ℕ) → name_of s ≡ Some n → name_of t ≡ Some n → s ≡ t
 names_apart s t n e f =
     let l : length s ≡ length t = omega (arith, not_longer s t n e f, not_longer t s n f e) in
     (same_code s t 0 0 n l (name_few s n e).2 (name_few t n f).2).1
 
 -- a name is read exactly if it is spelled so
-pub name_named : (s : List ℕ) (n : ℕ) → name_of s ≡ Got n → Named s n
+pub name_named : (s : List ℕ) (n : ℕ) → name_of s ≡ Some n → Named s n
 name_named s n e = let f = name_few s n e in go s f.0 f.1 f.2
   where
-    go : (s : List ℕ) → 1 ≤ length s → length s ≤ 4 → code_of 0 s ≡ Got n → Named s n
+    go : (s : List ℕ) → 1 ≤ length s → length s ≤ 4 → code_of 0 s ≡ Some n → Named s n
     go [] lo hi e = absurd (omega arith)
     go (a ∷ []) lo hi e =
         let p = code_cons 0 a n [] e in
@@ -180,7 +180,7 @@ name_named s n e = let f = name_few s n e in go s f.0 f.1 f.2
         (omega (arith, code_nil _ n t.1))
     go (a ∷ b ∷ c ∷ d ∷ f ∷ s) lo hi e = absurd (omega arith)
 
-pub named_name : (s : List ℕ) (n : ℕ) → Named s n → name_of s ≡ Got n
+pub named_name : (s : List ℕ) (n : ℕ) → Named s n → name_of s ≡ Some n
 unfolding name_of code_of
 named_name s n (one a x p q) =
     let w : 0 * 256 + a ≡ n = omega arith in rw (p, byte_name a x, w)

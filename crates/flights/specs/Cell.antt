@@ -6,8 +6,7 @@ use Rattle.text.specs.Letter.{letter_of}
 use Rattle.text.specs.Field.{field_of}
 use Rattle.text.specs.Same.{same_text}
 use Rattle.text.specs.Spelled.{bytes, byte}
-use Rattle.text.specs.declared.number.Number.{Number}
-use Rattle.text.specs.declared.number.Number.TheVariants.{Got, Off}
+use Rattle.std.specs.Prelude.{Option, Some, None}
 use Rattle.flights.specs.Column.{in_column}
 use Rattle.flights.specs.Date.{date_of}
 use Rattle.flights.specs.Name.{name_of}
@@ -20,11 +19,11 @@ abbrev pub kind_letters : List ℕ
 kind_letters = bytes "SL"
 
 -- a circuit is C, 1; any other movement leaves it blank, 0
-unfoldable pub circuit_of : List ℕ → Number
-circuit_of t = cond (length t == 0) (Got 0) (cond (same_text t (bytes "C")) (Got 1) Off)
+unfoldable pub circuit_of : List ℕ → Option ℕ
+circuit_of t = cond (length t == 0) (Some 0) (cond (same_text t (bytes "C")) (Some 1) None)
 
 -- what a field of column k reads as
-unfoldable pub cell_of : ℕ → List ℕ → Number
+unfoldable pub cell_of : ℕ → List ℕ → Option ℕ
 cell_of k t =
     in_column
     (record {
@@ -42,7 +41,7 @@ cell_of k t =
     t
 
 -- the cell in column k of a line
-abbrev pub cell_at : List ℕ → ℕ → Number
+abbrev pub cell_at : List ℕ → ℕ → Option ℕ
 cell_at s k = cell_of k (field_of (byte ",") k s)
 
 abbrev pub got_at : List ℕ → ℕ → Bool

@@ -2,7 +2,7 @@
 use Rattle.std.specs.Prelude.{◌≡◌, ℕ, true, false, ◌↔◌, List, [], ◌∷◌, replicate, ◌≢◌, slice_index}
 use Rattle.date.specs.Calendar.{date_exists}
 use Rattle.text.specs.Spelled.{bytes}
-use Rattle.text.specs.declared.number.Number.TheVariants.{Got}
+use Rattle.std.specs.Prelude.{Some}
 use Rattle.flights.specs.Name.{name_of}
 use Rattle.flights.specs.Row.{flight_of}
 use Rattle.flights.specs.Header.{header_refusal}
@@ -38,11 +38,11 @@ pub record HeadersAre : Type 0 where
 
 -- A name is read as its number, and two names of one number are one name
 pub record NamesAre : Type 0 where
-  pub read : (text : List ℕ) (number : ℕ) → name_of text ≡ Got number ↔ Named text number
+  pub read : (text : List ℕ) (number : ℕ) → name_of text ≡ Some number ↔ Named text number
   pub apart : (a b : List ℕ) (number : ℕ) → Named a number → Named b number → a ≡ b
   -- 0x4548424B and 0x3036
-  pub airport : name_of (bytes "EHBK") ≡ Got 1162363467
-  pub runway : name_of (bytes "06") ≡ Got 12342
+  pub airport : name_of (bytes "EHBK") ≡ Some 1162363467
+  pub runway : name_of (bytes "06") ≡ Some 12342
 
 -- The rows that the rules show, and dates that don't exist
 pub record ShownRows : Type 0 where

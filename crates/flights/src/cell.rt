@@ -7,24 +7,24 @@ use crate::day::date;
 use crate::name::name;
 use text::clock::time;
 use text::inner::letter;
-use text::number::{Number, whole};
+use text::number::whole;
 use text::same::same_text;
 
 // C for a circuit, or nothing.
-fn circuit(t: &[u8]) -> Number
+fn circuit(t: &[u8]) -> Option<u32>
     ensures { result ≡ circuit_of t.now }
 {
     if t.len() == 0 {
-        return Number::Got(0);
+        return Some(0);
     }
     if same_text(t, b"C") {
-        return Number::Got(1);
+        return Some(1);
     }
-    Number::Off
+    None
 }
 
 // What stands in column `k` of a row.
-pub fn cell(k: usize, t: &[u8]) -> Number
+pub fn cell(k: usize, t: &[u8]) -> Option<u32>
     ensures { result ≡ cell_of k t.now }
 {
     if k == NUMBER {

@@ -3,10 +3,9 @@ ghost use Rattle.std.specs.Prelude.{◌≡◌, ◌+◌, ◌≤◌, length};
 ghost use Rattle.flights.specs.Date.{digits_at, date_of};
 
 use text::inner::digits;
-use text::number::Number;
 
 // So many digits at a place.
-fn digits_at(s: &[u8], at: usize, count: usize) -> Number
+fn digits_at(s: &[u8], at: usize, count: usize) -> Option<u32>
     requires { (at + count ≤ length s.now) × (count ≤ 7) }
     ensures { result ≡ digits_at s.now at count }
 {
@@ -14,26 +13,26 @@ fn digits_at(s: &[u8], at: usize, count: usize) -> Number
 }
 
 // A date as one number, whether it exists or not.
-pub(crate) fn date(s: &[u8]) -> Number
+pub(crate) fn date(s: &[u8]) -> Option<u32>
     ensures { result ≡ date_of s.now }
 {
     if s.len() != 10 {
-        return Number::Off;
+        return None;
     }
     if s[4] != b'-' {
-        return Number::Off;
+        return None;
     }
     if s[7] != b'-' {
-        return Number::Off;
+        return None;
     }
-    let Number::Got(year) = digits_at(s, 0, 4) else {
-        return Number::Off;
+    let Some(year) = digits_at(s, 0, 4) else {
+        return None;
     };
-    let Number::Got(month) = digits_at(s, 5, 2) else {
-        return Number::Off;
+    let Some(month) = digits_at(s, 5, 2) else {
+        return None;
     };
-    let Number::Got(day) = digits_at(s, 8, 2) else {
-        return Number::Off;
+    let Some(day) = digits_at(s, 8, 2) else {
+        return None;
     };
-    Number::Got(year * 10000 + month * 100 + day)
+    Some(year * 10000 + month * 100 + day)
 }

@@ -11,7 +11,6 @@ use crate::column::DATE;
 use date::date_exists;
 use text::inner::field_end;
 use text::line::bare_length;
-use text::number::Number;
 use text::same::same_text;
 
 pub mod cell;
@@ -70,7 +69,7 @@ fn read_row(s: &[u8], count: usize) -> Flight
     let mut k = 0;
     loop {
         let end = field_end(s, at, b',');
-        let Number::Got(v) = cell(k, &s[at..end]) else {
+        let Some(v) = cell(k, &s[at..end]) else {
             return refused(16);
         };
         values[k] = v;

@@ -2,8 +2,6 @@
 ghost use Rattle.std.specs.Prelude.{◌≡◌};
 ghost use Rattle.flights.specs.Name.{in_name, name_of};
 
-use text::number::Number;
-
 // Whether a byte is a digit or a capital letter.
 fn in_name(c: u8) -> bool
     ensures { result ≡ in_name c }
@@ -21,24 +19,24 @@ fn in_name(c: u8) -> bool
 }
 
 // A name of one to four such bytes, as one number.
-pub(crate) fn name(s: &[u8]) -> Number
+pub(crate) fn name(s: &[u8]) -> Option<u32>
     ensures { result ≡ name_of s.now }
 {
     if s.len() == 0 {
-        return Number::Off;
+        return None;
     }
     if 4 < s.len() {
-        return Number::Off;
+        return None;
     }
     let mut value: u32 = 0;
     let mut i = 0;
     while i < s.len() {
         let c = s[i];
         if !in_name(c) {
-            return Number::Off;
+            return None;
         }
         value = value * 256 + c as u32;
         i += 1;
     }
-    Number::Got(value)
+    Some(value)
 }

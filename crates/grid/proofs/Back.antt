@@ -6,7 +6,7 @@ use borrow.Author.Tests.{eq-eqb, eqb-true, eqb-false, le-leb}
 use lib.{Dec.eqb, ListN.length, ListN.get_or, ListN.take, ListN.drop, ListN.length-drop, ListN.length-map}
 use lib.Seq.{take-add, take_all, take_at, length-take-le}
 use Rattle.text.specs.{Number.show_thousandths, Field.count_of, Line.lines_of}
-use Rattle.text.specs.declared.number.Number.TheVariants.{Got}
+use Rattle.std.specs.Prelude.{Some}
 use Rattle.text.proofs.Digits.{either}
 use Rattle.refusal.proofs.Laws.{and_left, and_right}
 use Rattle.room.specs.Room.{front}
@@ -168,19 +168,19 @@ module _ (levels : List ℕ) (f : Frame) (none : network_refusal levels f ≡ 0)
   lines_back = lines_apart (network_lines levels f) free
 
   -- the header's numbers
-  columns_back : number_at ncols 0 lines ≡ Got f.columns
+  columns_back : number_at ncols 0 lines ≡ Some f.columns
   columns_back = number_back_lem ncols f.columns (omega (arith, small.columns_most))
 
-  height_back : number_at nrows 1 lines ≡ Got f.rows
+  height_back : number_at nrows 1 lines ≡ Some f.rows
   height_back = number_back_lem nrows f.rows (omega (arith, small.rows_most))
 
-  west_back : number_at xllcenter 2 lines ≡ Got f.west
+  west_back : number_at xllcenter 2 lines ≡ Some f.west
   west_back = number_back_lem xllcenter f.west (omega (arith, small.west_most))
 
-  south_back : number_at yllcenter 3 lines ≡ Got f.south
+  south_back : number_at yllcenter 3 lines ≡ Some f.south
   south_back = number_back_lem yllcenter f.south (omega (arith, small.south_most))
 
-  spacing_back : number_at cellsize 4 lines ≡ Got f.spacing
+  spacing_back : number_at cellsize 4 lines ≡ Some f.spacing
   spacing_back = number_back_lem cellsize f.spacing (omega (arith, small.spacing_most))
 
   -- no line names the no-data value, and the rows follow

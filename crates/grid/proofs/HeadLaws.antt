@@ -7,7 +7,7 @@ use borrow.Author.Tests.{ltb-true, ltb-false, ne_eqb}
 use lib.{Dec.ltb, ListN.length, ListN.get_or, ListN.take, ListN.drop, ListN.length-drop, ListN.get_or-eq_default}
 use lib.Seq.{take_all, take-nil, length-take-le, get_or-drop, drop-drop}
 use Rattle.text.specs.{Line.lines_of, Number.is_got}
-use Rattle.text.specs.declared.number.Number.TheVariants.{Got, Off}
+use Rattle.std.specs.Prelude.{Some, None}
 use Rattle.text.proofs.{Digits.either, Sames.same_length}
 use Rattle.grid.specs.File.{begins, number_after, number_at, head_on, first_off, names_well, spelled_in}
 use Rattle.grid.specs.InnerSteps.{lines_at, line_from, LineAt, key_read}
@@ -43,7 +43,7 @@ seen_none s = record { on = refl; inside = omega arith; rest = refl }
 
 -- header line k read: its number, and the lines seen with it
 pub record KeyStep (s key : List ℕ) (k n next : ℕ) : Type 0 where
-  pub number : number_at key k (lines_of s) ≡ Got n
+  pub number : number_at key k (lines_of s) ≡ Some n
   pub seen : Seen s (k + 1) next
 
 module _ (s : List ℕ) (at : ℕ) (key : List ℕ) {r : Keyed} (k : ℕ) (seen : Seen s k at)
@@ -54,7 +54,7 @@ module _ (s : List ℕ) (at : ℕ) (key : List ℕ) {r : Keyed} (k : ℕ) (seen 
     unfolding first_off
     key_step {n} {next} e =
         let got : key_read s at key (keyed.Got n next) = rw e at read in
-        let number : number_at key k (lines_of s) ≡ Got n =
+        let number : number_at key k (lines_of s) ≡ Some n =
         ap (number_after key) (sym (line_of s at k seen.rest)) ∙ got.0 in
         record {
           number = number;
@@ -70,7 +70,7 @@ module _ (s : List ℕ) (at : ℕ) (key : List ℕ) {r : Keyed} (k : ℕ) (seen 
     unfolding first_off
     key_stop e =
         let got : key_read s at key keyed.Off = rw e at read in
-        let number : number_at key k (lines_of s) ≡ Off =
+        let number : number_at key k (lines_of s) ≡ None =
         ap (number_after key) (sym (line_of s at k seen.rest)) ∙ got in
         seen.on ∙ ap (first_off (k + 1)) here ∙ rw number
 

@@ -6,8 +6,8 @@ use native.Mathlib.Omega.{arith}
 use borrow.Author.Tests.{ltb-true, ltb-false, le-leb, lt-leb}
 use lib.{Dec.eqb, Dec.ltb, ListN.length, ListN.take, ListN.drop, ListN.length-drop, Seq.drop-drop}
 use Rattle.text.specs.{Field.up_to, Field.after, Line.onto, Number.thousandths_of, Number.is_got, Same.same_text}
-use Rattle.text.specs.declared.number.Number.TheVariants as number
-use Rattle.text.specs.declared.number.Number.TheVariants.{Got}
+use Rattle.std.specs.Prelude.{Some, None}
+use Rattle.std.specs.Prelude.{Some}
 use Rattle.network.specs.Limits.{max_network_level}
 use Rattle.text.proofs.{Digits.either, Fields.up_take, Fields.up_length, Fields.after-drop}
 use Rattle.grid.specs.Row.{all, values_of, is_value, is_row}
@@ -98,17 +98,17 @@ module _ (nodata t : List ℕ) where
   unfolding value_refusal
   none_here e = rw e (either (is_got (thousandths_of t)) (λ y. rw y) (λ n. rw n))
 
-  pub level_here : (v : ℕ) → same_text t nodata ≡ false → thousandths_of t ≡ Got v → v ≤ max_network_level
+  pub level_here : (v : ℕ) → same_text t nodata ≡ false → thousandths_of t ≡ Some v → v ≤ max_network_level
       → value_refusal nodata t ≡ 0
   unfolding value_refusal
   level_here v e l h = rw (e, l, le-leb v max_network_level h)
 
-  pub high_here : (v : ℕ) → same_text t nodata ≡ false → thousandths_of t ≡ Got v → max_network_level < v
+  pub high_here : (v : ℕ) → same_text t nodata ≡ false → thousandths_of t ≡ Some v → max_network_level < v
       → value_refusal nodata t ≡ 13
   unfolding value_refusal
   high_here v e l h = rw (e, l, lt-leb v max_network_level h)
 
-  pub neither_here : same_text t nodata ≡ false → thousandths_of t ≡ number.Off → value_refusal nodata t ≡ 17
+  pub neither_here : same_text t nodata ≡ false → thousandths_of t ≡ None → value_refusal nodata t ≡ 17
   unfolding value_refusal
   neither_here e l = rw (e, l)
 

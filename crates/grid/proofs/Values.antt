@@ -10,7 +10,7 @@ use Rattle.text.specs.Number.{whole_of, decimal_of, thousandths_of, is_got, show
 use Rattle.text.specs.Number.{show_thousandths}
 use Rattle.text.specs.Number.{InThousandths}
 use Rattle.text.specs.{Field.count_of, Field.joined_by, Line.onto, Line.lines_of, Same.same_text}
-use Rattle.text.specs.declared.number.Number.TheVariants.{Got, Off}
+use Rattle.std.specs.Prelude.{Some, None}
 use Rattle.text.proofs.Digits.{either, whole_small, got_value}
 use Rattle.text.proofs.{Shown.whole_back, Shown.decimal_back, Shown.shown_least, Exact.whole_exact}
 use Rattle.text.proofs.Thousandths.{thousandths_back, thousandths_exact, three_same}
@@ -80,7 +80,7 @@ row_free (v ∷ w ∷ vs) =
 
 -- ---- levels that were written
 
-unnamed_off : thousandths_of unnamed ≡ Off
+unnamed_off : thousandths_of unnamed ≡ None
 unfolding thousandths_of decimal_of
 unnamed_off = refl
 
@@ -88,13 +88,13 @@ pub level_given_lem : (v : ℕ) → v ≤ max_network_level → given unnamed (s
 level_given_lem v h =
     either (same_text (show_thousandths v) unnamed)
     (λ yes. let same = same_equal (show_thousandths v) unnamed yes in
-    let z : Off ≡ Got v = sym unnamed_off ∙ ap thousandths_of (sym same) ∙ thousandths_back v (omega arith) in
+    let z : None ≡ Some v = sym unnamed_off ∙ ap thousandths_of (sym same) ∙ thousandths_back v (omega arith) in
     let k : ◌≡◌ {A = ℕ} 0 1 = cc in absurd (omega arith))
     (λ other. rw other)
 
 -- a value that is given reads as its level, and spells it
 value_got : (nodata t : List ℕ) → is_value nodata t ≡ true → given nodata t ≡ true
-    → thousandths_of t ≡ Got (level_in t)
+    → thousandths_of t ≡ Some (level_in t)
 value_got nodata t v g =
     let other = not-true (same_text t nodata) g in
     got_value (thousandths_of t) (or-false (is_got (thousandths_of t)) (rw other at v))
@@ -140,23 +140,23 @@ pub begins_self : (word t : List ℕ) → begins word (word ++ t) ≡ true
 unfolding begins
 begins_self word t = rw (take-append_seam word t) (same_self word)
 
-pub number_back_lem : (key : List ℕ) (n : ℕ) → n < 10000000 → number_after key (key_line key n) ≡ Got n
+pub number_back_lem : (key : List ℕ) (n : ℕ) → n < 10000000 → number_after key (key_line key n) ≡ Some n
 unfolding number_after
 number_back_lem key n h = rw (begins_self key (show_whole n), drop-append_seam key (show_whole n)) (whole_back n h)
 
 -- a header line that gives a number is its key and that number, of seven digits at most
-pub key_line_lem : (key l : List ℕ) (n : ℕ) → number_after key l ≡ Got n → (n < 10000000) × (l ≡ key_line key n)
+pub key_line_lem : (key l : List ℕ) (n : ℕ) → number_after key l ≡ Some n → (n < 10000000) × (l ≡ key_line key n)
 unfolding number_after begins
 key_line_lem key l n e =
     either (same_text (take (length key) l) key)
-    (λ yes. let number : whole_of (drop (length key) l) ≡ Got n = rw yes at e in
+    (λ yes. let number : whole_of (drop (length key) l) ≡ Some n = rw yes at e in
     let w = whole_exact (drop (length key) l) n number in
     let k = same_equal (take (length key) l) key yes in (
       whole_small (drop (length key) l) n number,
       sym (take-append-drop (length key) l) ∙ ap (λ (a : List ℕ). a ++ drop (length key) l) k
           ∙ ap (λ (b : List ℕ). key ++ b) w,
     ))
-    (λ other. let z : Off ≡ Got n = rw other at e in let k : ◌≡◌ {A = ℕ} 0 1 = cc in absurd (omega arith))
+    (λ other. let z : None ≡ Some n = rw other at e in let k : ◌≡◌ {A = ℕ} 0 1 = cc in absurd (omega arith))
 
 pub key_free : (key : List ℕ) (n : ℕ) → count_of 13 key ≡ 0 → count_of 13 (key_line key n) ≡ 0
 key_free key n e = count_append 13 key (show_whole n) ∙ omega (arith, e, shown_free 13 (omega arith) 7 n)

@@ -5,8 +5,7 @@ use Rattle.std.specs.Prelude.{slice_index, slice_index_or}
 use Rattle.text.specs.Number.{whole_of, thousandths_of, is_got, value_of}
 use Rattle.text.specs.Same.{same_text}
 use Rattle.text.specs.Spelled.{bytes, byte}
-use Rattle.text.specs.declared.number.Number.{Number}
-use Rattle.text.specs.declared.number.Number.TheVariants.{Off}
+use Rattle.std.specs.Prelude.{Option, None}
 use Rattle.network.specs.declared.Frame.{Frame}
 use Rattle.grid.specs.Row.{all, is_row, has_values}
 
@@ -38,10 +37,10 @@ unfoldable pub begins : List ℕ → List ℕ → Bool
 begins word line = same_text (take (length word) line) word
 
 -- the whole number after a key and its space
-unfoldable pub number_after : List ℕ → List ℕ → Number
-number_after key line = cond (begins key line) (whole_of (drop (length key) line)) Off
+unfoldable pub number_after : List ℕ → List ℕ → Option ℕ
+number_after key line = cond (begins key line) (whole_of (drop (length key) line)) None
 
-abbrev pub number_at : List ℕ → ℕ → List (List ℕ) → Number
+abbrev pub number_at : List ℕ → ℕ → List (List ℕ) → Option ℕ
 number_at key i lines = number_after key (slice_index_or lines i [])
 
 -- which of the first five lines are on their layout, and the frame that they give

@@ -5,7 +5,7 @@ use Rattle.std.specs.Prelude.{length, take, drop, nat_le, slice_index, slice_ind
 use Rattle.text.specs.Number.{show_thousandths}
 use Rattle.text.specs.Line.{lines_of}
 use Rattle.text.specs.Spelled.{crlf}
-use Rattle.text.specs.declared.number.Number.TheVariants as number
+use Rattle.std.specs.Prelude.{Some, None}
 use Rattle.refusal.specs.Refuse.{refuse}
 use Rattle.network.specs.Limits.{max_network_level, max_origin}
 use Rattle.network.specs.Refusals.{sided, placed}
@@ -49,8 +49,8 @@ pub record LineAt (s : List ℕ) (at : ℕ) (l : Line) : Type 0 where
 
 -- the number of the header line at `at`
 abbrev pub key_read : (s : List ℕ) (at : ℕ) (key : List ℕ) → Keyed → Type 0
-key_read s at key (keyed.Got n next) = (number_after key (line_from s at) ≡ number.Got n) × Passed s at next
-key_read s at key keyed.Off = number_after key (line_from s at) ≡ number.Off
+key_read s at key (keyed.Got n next) = (number_after key (line_from s at) ≡ Some n) × Passed s at next
+key_read s at key keyed.Off = number_after key (line_from s at) ≡ None
 
 -- the five header lines
 abbrev pub head_read : List ℕ → Head → Type 0

@@ -5,7 +5,7 @@ ghost use Rattle.grid.specs.InnerSteps.{LineAt, key_read, head_read, no_data_rea
 
 use network::Frame;
 use text::inner::line_end;
-use text::number::{Number, thousandths, whole};
+use text::number::{thousandths, whole};
 use text::same::same_text;
 
 // Where a line ends, and where the next one starts.
@@ -39,14 +39,14 @@ fn is_begun(line: &[u8], word: &[u8]) -> bool
 }
 
 // The whole number after a key.
-fn key_number(line: &[u8], key: &[u8]) -> Number
+fn key_number(line: &[u8], key: &[u8]) -> Option<u32>
     ensures { result ≡ number_after key.now line.now }
 {
     if is_begun(line, key) {
         let n = key.len();
         return whole(&line[n..]);
     }
-    Number::Off
+    None
 }
 
 // What a header line reads as: its number, and the place past the line.
@@ -64,8 +64,8 @@ fn key_line(s: &[u8], at: usize, key: &[u8]) -> Keyed
     let line = line_at(s, at);
     let end = line.end;
     match key_number(&s[at..end], key) {
-        Number::Got(n) => Keyed::Got(n, line.next),
-        Number::Off => Keyed::Off,
+        Some(n) => Keyed::Got(n, line.next),
+        None => Keyed::Off,
     }
 }
 
@@ -112,10 +112,10 @@ fn is_number(s: &[u8]) -> bool
     ensures { result ≡ is_number s.now }
 {
     match whole(s) {
-        Number::Got(_) => true,
-        Number::Off => match thousandths(s) {
-            Number::Got(_) => true,
-            Number::Off => false,
+        Some(_) => true,
+        None => match thousandths(s) {
+            Some(_) => true,
+            None => false,
         },
     }
 }

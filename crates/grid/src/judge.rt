@@ -8,7 +8,7 @@ use network::Frame;
 use network::limits::MAX_NETWORK_LEVEL;
 use refusal::both;
 use text::inner::field_end;
-use text::number::{Number, thousandths};
+use text::number::thousandths;
 use text::same::same_text;
 
 // The refusal of one value: 17 where it is none, 13 for no data or too high a level, or 0.
@@ -19,13 +19,13 @@ fn value_refusal(s: &[u8], nodata: &[u8]) -> u32
         return 13;
     }
     match thousandths(s) {
-        Number::Got(v) => {
+        Some(v) => {
             if v <= MAX_NETWORK_LEVEL {
                 return 0;
             }
             13
         }
-        Number::Off => 17,
+        None => 17,
     }
 }
 

@@ -8,15 +8,15 @@ ghost use Rattle.grid.specs.InnerSteps.{lines_at, Rows};
 use crate::head::line_at;
 use network::Frame;
 use text::inner::field_end;
-use text::number::{Number, thousandths};
+use text::number::thousandths;
 
 // The level of a value, and 0 where it is none.
 fn level_in(s: &[u8]) -> u32
     ensures { result ≡ level_in s.now }
 {
     match thousandths(s) {
-        Number::Got(v) => v,
-        Number::Off => 0,
+        Some(v) => v,
+        None => 0,
     }
 }
 

@@ -6,7 +6,7 @@ use native.Mathlib.Omega.{arith}
 use lib.ListN.{length, get_or}
 use Rattle.text.specs.{Field.count_of, Field.field_of, Number.thousandths_of, Number.is_got, Number.value_of}
 use Rattle.text.specs.{Same.same_text}
-use Rattle.text.specs.declared.number.Number.TheVariants.{Got}
+use Rattle.std.specs.Prelude.{Some}
 use Rattle.text.proofs.{Digits.either, Digits.got_value, Thousandths.thousandths_read, Thousandths.thousandths_exact}
 use Rattle.grid.specs.{Row.all, Row.values_of, Row.is_value, Row.is_row, File.number_after}
 use Rattle.grid.proofs.{ValueLaws.all_cons, ValueLaws.all_none, Values.number_back_lem, Values.key_line_lem}
@@ -14,7 +14,7 @@ use Rattle.text.proofs.Sames.{same_equal, same_self}
 use Rattle.grid_rules.specs.Refused.{Keyed, Level, RowOn}
 use Rattle.grid_rules.proofs.Places.{all-at, value_field, value_count}
 
-got_is : {n : ℕ} (x : _) → x ≡ Got n → is_got x ≡ true
+got_is : {n : ℕ} (x : _) → x ≡ Some n → is_got x ≡ true
 got_is x e = rw e refl
 
 -- ---- header lines

@@ -4,7 +4,7 @@ use mathlib.Core.{Path.◌≡◌, Path.refl, Path.sym, Path.subst, List.List, Li
 use native.Mathlib.Omega.{arith}
 use lib.{ListN.length, ListN.get_or, ListN.drop, ListN.length-drop, Seq.get_or-drop}
 use Rattle.text.specs.{Line.lines_of, Field.count_of, Field.field_of, Number.decimal_of}
-use Rattle.text.specs.declared.number.Number.TheVariants.{Got}
+use Rattle.std.specs.Prelude.{Some}
 use Rattle.text.proofs.Thousandths.{three_read}
 use Rattle.grid.specs.Row.{all, values_of, has_three, row_three}
 use Rattle.grid.specs.File.{names, sixth}
@@ -33,7 +33,7 @@ module _ (text : List ℕ) (headers room : ℕ) (read : read_refusal text header
       (λ e. omega (arith, read, e)) (λ e. omega (arith, read, e)) (5 + k) c (omega arith)
       (omega (arith, length-drop 5 (lines_of text))) in_row in
       let t = field_of 32 c (line text (5 + k)) in
-      let got : decimal_of 3 t ≡ Got given.number =
+      let got : decimal_of 3 t ≡ Some given.number =
       three_read t _ given.number (omega (arith, given.most)) given.is is in
       rw (at, value_field (line text (5 + k)) c, got) refl
 

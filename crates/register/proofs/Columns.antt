@@ -8,7 +8,7 @@ use borrow.Author.Tests.{le-leb, lt-leb, eq-eqb, ne_eqb, leb-true, eqb-true, eqb
 use lib.{ListN.length, Dec.leb, Dec.eqb}
 use Rattle.refusal.proofs.Laws.{and_left, and_right}
 use Rattle.text.specs.{Number.level_of, Number.show_level, Field.count_of}
-use Rattle.text.specs.declared.number.Number.TheVariants.{Got}
+use Rattle.std.specs.Prelude.{Some}
 use Rattle.text.proofs.Digits.{either, whole_small}
 use Rattle.text.proofs.Shown.{whole_back, level_back, shown_width, level_most, level_least}
 use Rattle.text.proofs.{Exact.whole_exact, Exact.level_exact, Exact.level_small, Free.shown_free, Free.level_free}
@@ -62,7 +62,7 @@ unfolding level_or_blank
 level_filled t h = rw (ne_eqb (length t) 0 h)
 
 -- the text of a value reads back, has no comma, and at most eight bytes
-pub shown_back_lem : (k v : ℕ) → v < top_of k → row_cell k (shown_cell k v) ≡ Got v
+pub shown_back_lem : (k v : ℕ) → v < top_of k → row_cell k (shown_cell k v) ≡ Some v
 unfolding row_cell shown_cell top_of
 shown_back_lem zero v h = whole_back v h
 shown_back_lem (suc zero) v h = type_back v h
@@ -103,17 +103,17 @@ module _ (mark k v : ℕ) (h : v < top_of k) where
   pub text_most : length (cell_text mark k v) ≤ 8
   text_most = blank_or (λ t. length t ≤ 8) (omega arith) (shown_most k v h)
 
-  pub text_back : (mark ≡ 0 → 5 ≤ k → v ≡ 0) → row_cell k (cell_text mark k v) ≡ Got v
+  pub text_back : (mark ≡ 0 → 5 ≤ k → v ≡ 0) → row_cell k (cell_text mark k v) ≡ Some v
   unfolding cell_text level_or_blank
   text_back zeros =
       either (leb 5 k && eqb mark 0)
       (λ yes. let five = leb-true 5 k (and_left (leb 5 k) (eqb mark 0) yes) in
       let none = eqb-true mark 0 (and_right (leb 5 k) (eqb mark 0) yes) in
-      rw yes (cell_level k five [] ∙ ap Got (sym (zeros none five))))
+      rw yes (cell_level k five [] ∙ ap Some (sym (zeros none five))))
       (λ no. rw no (shown_back_lem k v h))
 
 -- a field that was read is the text of its value, and the value has a text
-pub cell_exact : (k : ℕ) (t : List ℕ) (v : ℕ) → row_cell k t ≡ Got v → blank_cell k t ≡ false
+pub cell_exact : (k : ℕ) (t : List ℕ) (v : ℕ) → row_cell k t ≡ Some v → blank_cell k t ≡ false
     → (t ≡ shown_cell k v) × (v < top_of k)
 unfolding row_cell shown_cell top_of
 cell_exact zero t v e b = (whole_exact t v e, whole_small t v e)
@@ -127,12 +127,12 @@ cell_exact (suc (suc (suc (suc (suc i))))) t v e b =
     (level_exact t v q, level_small t v q)
 
 -- a level that is left blank is zero
-blank_zero : (t : List ℕ) → length t ≡ 0 → level_or_blank t ≡ Got 0
+blank_zero : (t : List ℕ) → length t ≡ 0 → level_or_blank t ≡ Some 0
 unfolding level_or_blank
 blank_zero t l = rw (eq-eqb (length t) 0 l)
 
-pub cell_blank : (k : ℕ) (t : List ℕ) (v : ℕ) → 5 ≤ k → row_cell k t ≡ Got v → length t ≡ 0 → v ≡ 0
+pub cell_blank : (k : ℕ) (t : List ℕ) (v : ℕ) → 5 ≤ k → row_cell k t ≡ Some v → length t ≡ 0 → v ≡ 0
 cell_blank k t v h e l =
-    let q : Got 0 ≡ Got v = sym (blank_zero t l) ∙ sym (cell_level k h t) ∙ e in
+    let q : Some 0 ≡ Some v = sym (blank_zero t l) ∙ sym (cell_level k h t) ∙ e in
     let z : 0 ≡ v = cc in
     sym z

@@ -7,8 +7,7 @@ use lib.ListN.{length-drop}
 use lib.{Seq.get_or-take, Seq.take-add, Seq.drop_at, Seq.length-take-le, Dec.leb, Dec.eqb}
 use Rattle.refusal.proofs.Laws.{and_left, and_right}
 use Rattle.text.specs.{Field.count_of, Field.field_of, Index.every, Line.first_line, Line.lines_of}
-use Rattle.text.specs.declared.number.Number.{Number}
-use Rattle.text.specs.declared.number.Number.TheVariants.{Got, Off}
+use Rattle.std.specs.Prelude.{Option, Some, None}
 use Rattle.text.proofs.Digits.{either, whole_small, got_value}
 use Rattle.text.proofs.{Exact.whole_exact, Exact.level_exact, Exact.level_small, Fields.widest, Fields.line_within}
 use Rattle.text.proofs.{Indices.every_each, Lines.lines_first_lem, Lines.lines_next, Lines.lines_rest, Lines.lines-one}
@@ -51,7 +50,7 @@ width : ℕ → ℕ
 width zero = 7
 width (suc k) = 6
 
-cell_within : (k : ℕ) (t : List ℕ) (v : ℕ) → limits_cell k t ≡ Got v → length t ≤ width k
+cell_within : (k : ℕ) (t : List ℕ) (v : ℕ) → limits_cell k t ≡ Some v → length t ≤ width k
 unfolding limits_cell width
 cell_within zero t v e = omega (arith, ap length (whole_exact t v e), shown_width 7 6 v (whole_small t v e))
 cell_within (suc k) t v e = omega (arith, ap length (level_exact t v e), level_most v (level_small t v e))
@@ -114,15 +113,15 @@ second_front n t m few wide fits =
     ))
 
 -- a header has at most 28 bytes
-header_off_lem : (s : List ℕ) → 28 < length s → header_of limits_header 4 s ≡ Off
+header_off_lem : (s : List ℕ) → 28 < length s → header_of limits_header 4 s ≡ None
 unfolding header_of
 header_off_lem s h = rw (lt-ltb 4 (length s) (omega arith), lt-leb (length s) 28 h)
 
-header_most_lem : (s : List ℕ) (n : ℕ) → header_of limits_header 4 s ≡ Got n → length s ≤ 28
+header_most_lem : (s : List ℕ) (n : ℕ) → header_of limits_header 4 s ≡ Some n → length s ≤ 28
 header_most_lem s n e =
     either (leb (length s) 28)
     (λ yes. leb-true (length s) 28 yes)
-    (λ no. let x : Off ≡ Got n = sym (header_off_lem s (leb-false (length s) 28 no)) ∙ e in
+    (λ no. let x : None ≡ Some n = sym (header_off_lem s (leb-false (length s) 28 no)) ∙ e in
     let z : ◌≡◌ {A = ℕ} 0 1 = cc in absurd (omega arith))
 
 -- limits.csv by its first line and what follows
@@ -133,11 +132,11 @@ opened s h =
     let t = drop (length (first_line s) + 2) s in
     rw (lines_first_lem s, lines_next s 0 h ∙ lines_first_lem t, lines_rest s h)
 
-headed_same : (r : Number) (a b : List ℕ) (j k : ℕ)
-    → ((n : ℕ) → r ≡ Got n → second_limits n a j ≡ second_limits n b k)
+headed_same : (r : Option ℕ) (a b : List ℕ) (j k : ℕ)
+    → ((n : ℕ) → r ≡ Some n → second_limits n a j ≡ second_limits n b k)
     → headed_limits r a j ≡ headed_limits r b k
-headed_same Off a b j k h = refl
-headed_same (Got n) a b j k h = h n refl
+headed_same None a b j k h = refl
+headed_same (Some n) a b j k h = h n refl
 
 drop-take : (a b : ℕ) (s : List ℕ) → a ≤ length s → drop a (take (a + b) s) ≡ take b (drop a s)
 drop-take a b s h = ap (drop a) (take-add a b s) ∙ drop_at (take a s) (take b (drop a s)) a (length-take-le a s h)

@@ -6,7 +6,7 @@ use borrow.Author.Tests.{eqb-true}
 use lib.{ListN.length, Dec.leb, Dec.eqb}
 use Rattle.refusal.proofs.Laws.{and_right}
 use Rattle.text.specs.{Field.count_of, Field.field_of, Line.bare_line}
-use Rattle.text.specs.declared.number.Number.TheVariants.{Got}
+use Rattle.std.specs.Prelude.{Some}
 use Rattle.text.proofs.{Digits.either, Digits.got_value, Fields.widest, Fields.line_within}
 use Rattle.text.proofs.{Indices.every_each, Shown.shown_width, Shown.level_most}
 use Rattle.register.specs.Cell.{row_cell, cell_at, got_at, value_at, shown_cell, cells_of}
@@ -34,7 +34,7 @@ shown_within (suc (suc (suc (suc zero)))) v h = omega arith
 shown_within (suc (suc (suc (suc (suc i))))) v h = level_most v h
 
 -- a field that was read is no longer
-cell_within : (k : ℕ) (t : List ℕ) (v : ℕ) → row_cell k t ≡ Got v → length t ≤ width k
+cell_within : (k : ℕ) (t : List ℕ) (v : ℕ) → row_cell k t ≡ Some v → length t ≤ width k
 cell_within k t v e =
     either (blank_cell k t)
     (λ yes. let z = eqb-true (length t) 0 (and_right (leb 5 k) (eqb (length t) 0) yes) in omega arith)

@@ -9,7 +9,7 @@ use Rattle.refusal.specs.Range.{all_within}
 use Rattle.refusal.proofs.{Laws.and_left, Laws.and_right, Ranges.within_at}
 use Rattle.text.specs.{Number.is_got, Number.value_of, Field.count_of, Field.field_of, Index.many, Index.listing}
 use Rattle.room.specs.Room.{front}
-use Rattle.text.specs.declared.number.Number.TheVariants.{Got}
+use Rattle.std.specs.Prelude.{Some}
 use Rattle.text.proofs.{Digits.either, Fields.Free, Fields.join_field, Fields.join_count_all}
 use Rattle.text.proofs.Indices.{every_all, many_no, many_all, listing_at, listing_of, length_listing}
 use Rattle.text.proofs.{Lines.bare_back, Shown.level_least}
@@ -54,7 +54,7 @@ module _ (n : ℕ) (f : Fields) (levels : List ℕ) (fine : Fine n f levels) whe
   zero_blank k z h = column_level f levels k h ∙ (let w = within_at 0 levels (k - 5) (fine.zeros z) in omega arith)
 
   cell_text_rule : (k : ℕ) → k < 5 + length levels
-      → cell_at Register (show_line f levels) k ≡ Got (get_or (columns f levels) k 0)
+      → cell_at Register (show_line f levels) k ≡ Some (get_or (columns f levels) k 0)
   cell_text_rule k h =
       ap (row_cell k) (field_text_rule k h)
       ∙ text_back f.computed k (get_or (columns f levels) k 0) ((fine_writable fine).below k h) (zero_blank k)

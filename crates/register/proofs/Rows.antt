@@ -7,7 +7,7 @@ use lib.{ListN.length, ListN.take, Dec.leb, Dec.ltb, Dec.eqb}
 use Rattle.refusal.specs.{Refuse.refuse, Range.all_within}
 use Rattle.refusal.proofs.Laws.{and_left, and_right, refuse_none}
 use Rattle.text.specs.{Field.count_of, Same.same_text}
-use Rattle.text.specs.declared.number.Number.TheVariants.{Got}
+use Rattle.std.specs.Prelude.{Some}
 use Rattle.text.proofs.Digits.{either, passed}
 use Rattle.register.specs.{Cell.cells_of, Row.points_fit, Row.layout_of, Row.fault_of, Row.row_refusal}
 use Rattle.register.specs.Header.{header_of}
@@ -37,7 +37,7 @@ layout_points n s e =
     (λ no. let z : ◌≡◌ {A = ℕ} 16 0 = rw no at e in absurd (omega arith))
 
 -- a header has 1 to 8 points
-pub header_range : (full : List ℕ) (lead : ℕ) (s : List ℕ) (n : ℕ) → header_of full lead s ≡ Got n
+pub header_range : (full : List ℕ) (lead : ℕ) (s : List ℕ) (n : ℕ) → header_of full lead s ≡ Some n
     → (1 ≤ n) × (n ≤ 8) × (lead < length s)
 unfolding header_of
 header_range full lead s n e =
@@ -46,7 +46,7 @@ header_range full lead s n e =
     let b = a && leb (length s) (length full) in
     let d = b && eqb (m % 3) 0 in
     let f = d && leb (m / 3) 8 in
-    let p = passed (f && same_text s (take (length s) full)) (Got (m / 3)) n e in
+    let p = passed (f && same_text s (take (length s) full)) (Some (m / 3)) n e in
     let all = and_left f (same_text s (take (length s) full)) p.0 in
     let three = and_left d (leb (m / 3) 8) all in
     let more = ltb-true lead (length s)

@@ -6,8 +6,7 @@ use Rattle.text.specs.Number.{whole_of, level_of, is_got, value_of, show_whole, 
 use Rattle.text.specs.Field.{count_of, field_of}
 use Rattle.text.specs.Index.{every, many, listing}
 use Rattle.text.specs.Spelled.{byte}
-use Rattle.text.specs.declared.number.Number.{Number}
-use Rattle.text.specs.declared.number.Number.TheVariants.{Got}
+use Rattle.std.specs.Prelude.{Option, Some}
 use Rattle.text.specs.Clock.{time_of, show_time}
 use Rattle.text.specs.Letter.{letter_of, show_letter}
 use Rattle.register.specs.Letter.{type_letters, kind_letters}
@@ -17,11 +16,11 @@ use Rattle.register.specs.declared.cell.Table.TheVariants.{Register, LimitsFile}
 use Rattle.register.specs.declared.cell.Cells.{Cells}
 
 -- a level that may be left blank; its value is then zero
-unfoldable pub level_or_blank : List ℕ → Number
-level_or_blank t = cond (length t == 0) (Got 0) (level_of t)
+unfoldable pub level_or_blank : List ℕ → Option ℕ
+level_or_blank t = cond (length t == 0) (Some 0) (level_of t)
 
 -- what a field of column k of a register's row reads as, and one of limits.csv: the days, and past them limits
-unfoldable pub row_cell : ℕ → List ℕ → Number
+unfoldable pub row_cell : ℕ → List ℕ → Option ℕ
 row_cell k t =
     in_column
     (record {
@@ -35,16 +34,16 @@ row_cell k t =
     k
     t
 
-unfoldable pub limits_cell : ℕ → List ℕ → Number
+unfoldable pub limits_cell : ℕ → List ℕ → Option ℕ
 limits_cell zero t = whole_of t
 limits_cell (suc i) t = level_of t
 
-abbrev pub cell_of : Table → ℕ → List ℕ → Number
+abbrev pub cell_of : Table → ℕ → List ℕ → Option ℕ
 cell_of Register k t = row_cell k t
 cell_of LimitsFile k t = limits_cell k t
 
 -- the cell in column k of a line
-abbrev pub cell_at : Table → List ℕ → ℕ → Number
+abbrev pub cell_at : Table → List ℕ → ℕ → Option ℕ
 cell_at table s k = cell_of table k (field_of (byte ",") k s)
 
 abbrev pub got_at : Table → List ℕ → ℕ → Bool

@@ -4,8 +4,7 @@ use Rattle.std.specs.Prelude.{ℕ, ◌-◌, ◌/◌, ◌%◌, cond, ◌&&◌, Li
 use Rattle.movement.specs.Limits.{max_points}
 use Rattle.text.specs.Same.{same_text}
 use Rattle.text.specs.Spelled.{bytes}
-use Rattle.text.specs.declared.number.Number.{Number}
-use Rattle.text.specs.declared.number.Number.TheVariants.{Got, Off}
+use Rattle.std.specs.Prelude.{Option, Some, None}
 
 abbrev pub register_header : List ℕ
 register_header = bytes "id,type,mtow,kind,time,l1,l2,l3,l4,l5,l6,l7,l8"
@@ -21,9 +20,9 @@ abbrev pub limits_lead : ℕ
 limits_lead = length (bytes "days")
 
 -- the points of a line that is `full` up to one of its points; `lead` bytes stand before the points, three for each
-unfoldable pub header_of : (full : List ℕ) (lead : ℕ) (s : List ℕ) → Number
+unfoldable pub header_of : (full : List ℕ) (lead : ℕ) (s : List ℕ) → Option ℕ
 header_of full lead s =
     cond (nat_lt lead (length s) && nat_le (length s) (length full) && (length s - lead) % 3 == 0
     && nat_le ((length s - lead) / 3) max_points && same_text s (take (length s) full))
-    (Got ((length s - lead) / 3))
-    Off
+    (Some ((length s - lead) / 3))
+    None

@@ -3,8 +3,7 @@ use Rattle.std.specs.Prelude.{ℕ, ◌+◌, cond, ◌&&◌, List, [], length, re
 use Rattle.refusal.specs.Range.{all_within}
 use Rattle.movement.specs.Limits.{max_points, max_days, max_limit}
 use Rattle.text.specs.Line.{lines_of}
-use Rattle.text.specs.declared.number.Number.{Number}
-use Rattle.text.specs.declared.number.Number.TheVariants.{Got, Off}
+use Rattle.std.specs.Prelude.{Option, Some, None}
 use Rattle.register.specs.Cell.{cells_of}
 use Rattle.register.specs.Row.{eight_from}
 use Rattle.register.specs.Header.{header_of, limits_header, limits_lead}
@@ -32,9 +31,9 @@ second_limits n second lines =
     (cond (nat_le lines 2) (judged_limits n (cells_of table.LimitsFile (1 + n) second).values) (refused_limits 16 3))
     (refused_limits 16 2)
 
-abbrev pub headed_limits : Number → List ℕ → ℕ → LimitsFile
-headed_limits Off second lines = refused_limits 16 1
-headed_limits (Got n) second lines = second_limits n second lines
+abbrev pub headed_limits : Option ℕ → List ℕ → ℕ → LimitsFile
+headed_limits None second lines = refused_limits 16 1
+headed_limits (Some n) second lines = second_limits n second lines
 
 -- the text of two lines, of which a missing one counts as empty
 unfoldable pub limits_of : List ℕ → LimitsFile

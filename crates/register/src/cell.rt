@@ -7,7 +7,7 @@ ghost use Rattle.register.specs.InnerCell.{blank_cell};
 use crate::column::{IDENTITY, KIND, LEVELS, MASS, MAX_COLUMNS, TIME, TYPE};
 use text::clock::time;
 use text::inner::{field_end, letter};
-use text::number::{Number, level, whole};
+use text::number::{level, whole};
 
 // Whose columns: those of a register or of limits.csv.
 #[derive(Clone, Copy)]
@@ -25,17 +25,17 @@ pub struct Cells {
 }
 
 // A level, or nothing.
-fn level_or_blank(t: &[u8]) -> Number
+fn level_or_blank(t: &[u8]) -> Option<u32>
     ensures { result ≡ level_or_blank t.now }
 {
     if t.len() == 0 {
-        return Number::Got(0);
+        return Some(0);
     }
     level(t)
 }
 
 // What stands in column `k` of a register's row.
-fn row_cell(k: usize, t: &[u8]) -> Number
+fn row_cell(k: usize, t: &[u8]) -> Option<u32>
     ensures { result ≡ row_cell k t.now }
 {
     if k == IDENTITY {
@@ -57,7 +57,7 @@ fn row_cell(k: usize, t: &[u8]) -> Number
 }
 
 // What stands in column `k` of either.
-fn cell(table: Table, k: usize, t: &[u8]) -> Number
+fn cell(table: Table, k: usize, t: &[u8]) -> Option<u32>
     ensures { result ≡ cell_of table k t.now }
 {
     match table {
@@ -111,7 +111,7 @@ pub(crate) fn read_cells(s: &[u8], table: Table, count: usize) -> Cells
     let mut k = 0;
     loop {
         let end = field_end(s, at, b',');
-        let Number::Got(v) = cell(table, k, &s[at..end]) else {
+        let Some(v) = cell(table, k, &s[at..end]) else {
             return off_cells();
         };
         values[k] = v;

@@ -3,7 +3,6 @@ ghost use Rattle.std.specs.Prelude.{◌≡◌};
 ghost use Rattle.register.specs.Header.{header_of, register_header, register_lead, limits_header, limits_lead};
 
 use movement::limits::MAX_POINTS;
-use text::number::Number;
 use text::same::same_text;
 
 // The bytes before their points: id,type,mtow,kind,time and days.
@@ -12,32 +11,32 @@ const REGISTER_LEAD: usize = 22;
 const LIMITS_LEAD: usize = 4;
 
 // The number of points in a line that is the header `full` up to some point; `lead` bytes stand before the points.
-fn header_points(s: &[u8], full: &[u8], lead: usize) -> Number
+fn header_points(s: &[u8], full: &[u8], lead: usize) -> Option<u32>
     ensures { result ≡ header_of full.now lead s.now }
 {
     let n = s.len();
     if n <= lead {
-        return Number::Off;
+        return None;
     }
     if full.len() < n {
-        return Number::Off;
+        return None;
     }
     if (n - lead) % 3 != 0 {
-        return Number::Off;
+        return None;
     }
     let points = (n - lead) / 3;
     if MAX_POINTS < points {
-        return Number::Off;
+        return None;
     }
     if same_text(s, &full[..n]) {
-        Number::Got(points as u32)
+        Some(points as u32)
     } else {
-        Number::Off
+        None
     }
 }
 
 // The number of points in a register's header; off is 16.
-pub fn register_points(s: &[u8]) -> Number
+pub fn register_points(s: &[u8]) -> Option<u32>
     ensures { result ≡ header_of register_header register_lead s.now }
 {
     header_points(
@@ -48,7 +47,7 @@ pub fn register_points(s: &[u8]) -> Number
 }
 
 // The number of points in the header of limits.csv; off is 16.
-pub fn limits_points(s: &[u8]) -> Number
+pub fn limits_points(s: &[u8]) -> Option<u32>
     ensures { result ≡ header_of limits_header limits_lead s.now }
 {
     header_points(s, b"days,p1,p2,p3,p4,p5,p6,p7,p8", LIMITS_LEAD)

@@ -11,7 +11,6 @@ use crate::row::eight_from;
 use movement::limits::{MAX_DAYS, MAX_LIMIT, MAX_POINTS};
 use refusal::all_within;
 use text::inner::line_end;
-use text::number::Number;
 
 // What limits.csv reads as: points, days and a limit for each point, zero past the points; or a refusal and its line.
 #[derive(Clone, Copy)]
@@ -82,7 +81,7 @@ pub fn read_limits(s: &[u8]) -> LimitsFile
     ensures { result ≡ limits_of s.now }
 {
     let end = line_end(s, 0);
-    let Number::Got(points) = limits_points(&s[..end]) else {
+    let Some(points) = limits_points(&s[..end]) else {
         return refused_limits(16, 1);
     };
     if s.len() - end < 2 {

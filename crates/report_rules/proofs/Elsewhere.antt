@@ -7,8 +7,7 @@ use lib.{ListN.take, ListN.replicate, Dec.eqb, Dec.leb}
 use borrow.Author.Tests.{eq-eqb, ne_eqb, eqb-true, leb-false}
 use Rattle.refusal.specs.Refuse.{refuse}
 use Rattle.text.specs.Line.{lines_of}
-use Rattle.text.specs.declared.number.Number.{Number}
-use Rattle.text.specs.declared.number.Number.TheVariants.{Got, Off}
+use Rattle.std.specs.Prelude.{Option, Some, None}
 use Rattle.text.proofs.Digits.{either}
 use Rattle.movement.specs.Group.{group_of}
 use Rattle.movement.specs.Rules.{fields_fit, counts, movement_refusal, identity_fits, levels_fit, counts_fit}
@@ -125,9 +124,9 @@ row_most p n b ms line t =
         rw (refusal_told p n (after p b (entering p l)) ns c (told_one p n b ms (entering p l) t z))
         (supply_most p n ns x (take p l.levels) fine)
 
-header_most_lem : (p : ℕ) (r : Number) → points_refusal p r ≤ 16
-header_most_lem p Off = omega arith
-header_most_lem p (Got n) = either (eqb n p) (λ yes. rw yes (omega arith)) (λ no. rw no (omega arith))
+header_most_lem : (p : ℕ) (r : Option ℕ) → points_refusal p r ≤ 16
+header_most_lem p None = omega arith
+header_most_lem p (Some n) = either (eqb n p) (λ yes. rw yes (omega arith)) (λ no. rw no (omega arith))
 
 line_most : (p n : ℕ) (s : Reading) (ms : List Movement) (l : List ℕ) → Told p n s.held ms
     → (line_read (register_step p) s l).refusal ≤ 16

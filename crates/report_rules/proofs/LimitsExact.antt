@@ -11,8 +11,7 @@ use Rattle.refusal.proofs.{Laws.and_left, Laws.and_right, Ranges.within_at}
 use Rattle.movement.specs.Limits.{max_days, max_limit}
 use Rattle.text.specs.{Line.lines_of, Field.count_of, Field.field_of, Index.every, Index.listing}
 use Rattle.text.specs.Number.{is_got, value_of, level_of, show_whole, show_level}
-use Rattle.text.specs.declared.number.Number.{Number}
-use Rattle.text.specs.declared.number.Number.TheVariants.{Got, Off}
+use Rattle.std.specs.Prelude.{Option, Some, None}
 use Rattle.text.proofs.Digits.{either, whole_small, got_value}
 use Rattle.text.proofs.{Exact.whole_exact, Exact.level_exact, Exact.level_small, Shown.whole_back, Shown.level_back}
 use Rattle.text.proofs.Indices.{every_each, every_all, length_listing}
@@ -46,7 +45,7 @@ zeros_past f n m i h =
 abbrev values : ℕ → List ℕ → List ℕ
 values n line = listing (value_at table.LimitsFile line) (1 + n) ++ replicate (13 - (1 + n)) 0
 
-cell_day : (t : List ℕ) (v : ℕ) → limits_cell 0 t ≡ Got v → (t ≡ show_whole v) × (v < 10000000)
+cell_day : (t : List ℕ) (v : ℕ) → limits_cell 0 t ≡ Some v → (t ≡ show_whole v) × (v < 10000000)
 unfolding limits_cell
 cell_day t v e = (whole_exact t v e, whole_small t v e)
 
@@ -54,14 +53,14 @@ limit_cell : (i : ℕ) (t : List ℕ) → limits_cell (1 + i) t ≡ level_of t
 unfolding limits_cell
 limit_cell i t = let e : 1 + i ≡ suc i = omega arith in rw e refl
 
-cell_limit : (i : ℕ) (t : List ℕ) (v : ℕ) → limits_cell (1 + i) t ≡ Got v
+cell_limit : (i : ℕ) (t : List ℕ) (v : ℕ) → limits_cell (1 + i) t ≡ Some v
     → (t ≡ show_level v) × (v < 100000)
-cell_limit i t v e = let f : level_of t ≡ Got v = sym (limit_cell i t) ∙ e in (level_exact t v f, level_small t v f)
+cell_limit i t v e = let f : level_of t ≡ Some v = sym (limit_cell i t) ∙ e in (level_exact t v f, level_small t v f)
 
 -- a line that is read is spelled so
 module _ (n : ℕ) (line : List ℕ) (few : n ≤ 8)
     (fine : (eqb (count_of 44 line + 1) (1 + n) && every (got_at table.LimitsFile line) (1 + n)) ≡ true) where
-  got : (k : ℕ) → k < 1 + n → cell_at table.LimitsFile line k ≡ Got (value_at table.LimitsFile line k)
+  got : (k : ℕ) → k < 1 + n → cell_at table.LimitsFile line k ≡ Some (value_at table.LimitsFile line k)
   got k h =
       got_value (cell_at table.LimitsFile line k)
       (every_each (got_at table.LimitsFile line) k (1 + n) h (and_right (eqb (count_of 44 line + 1) (1 + n))
@@ -105,7 +104,7 @@ module _ (n d : ℕ) (ls line : List ℕ) (few : n ≤ 8) (v : Valued n d ls lin
   cell_is zero h = rw (v.days=, whole_back d v.seven) refl
   cell_is (suc i) h =
       let e : suc i ≡ 1 + i = omega arith in
-      let read : level_of (field_of 44 (1 + i) line) ≡ Got (get_or ls i 0) =
+      let read : level_of (field_of 44 (1 + i) line) ≡ Some (get_or ls i 0) =
       rw (v.limit i (omega arith)) (level_back (get_or ls i 0) (v.three i (omega arith))) in
       rw (e, read) refl
 
@@ -115,7 +114,7 @@ module _ (n d : ℕ) (ls line : List ℕ) (few : n ≤ 8) (v : Valued n d ls lin
 
   limit_is : (i : ℕ) → i < n → value_at table.LimitsFile line (1 + i) ≡ get_or ls i 0
   limit_is i h =
-      let read : level_of (field_of 44 (1 + i) line) ≡ Got (get_or ls i 0) =
+      let read : level_of (field_of 44 (1 + i) line) ≡ Some (get_or ls i 0) =
       rw (v.limit i h) (level_back (get_or ls i 0) (v.three i h)) in
       ap value_of (limit_cell i (field_of 44 (1 + i) line) ∙ read)
 
@@ -214,10 +213,10 @@ module _ (n d : ℕ) (ls line : List ℕ) (few : n ≤ 8) (v : Valued n d ls lin
           (λ no. let less = leb-false n i no in rw (limits_are n d ls line few v i less) (low i less))
 
 -- where no header is read, and where no values are
-headless : (r : Number) (second : List ℕ) (lines : ℕ) → ((n : ℕ) → r ≡ Got n → ⊥)
+headless : (r : Option ℕ) (second : List ℕ) (lines : ℕ) → ((n : ℕ) → r ≡ Some n → ⊥)
     → headed_limits r second lines ≡ refused_limits 16 1
-headless Off second lines never = refl
-headless (Got n) second lines never = absurd (never n refl)
+headless None second lines never = refl
+headless (Some n) second lines never = absurd (never n refl)
 
 unread : (n lines : ℕ) (line : List ℕ) → n ≤ 8 → ((d : ℕ) (ls : List ℕ) → Valued n d ls line → ⊥)
     → second_limits n line lines ≡ refused_limits 16 2

@@ -7,8 +7,7 @@ use Rattle.refusal.specs.Range.{all_within}
 use Rattle.refusal.proofs.Ranges.{within_at}
 use Rattle.movement.specs.Limits.{max_days, max_limit}
 use Rattle.text.specs.Line.{lines_of}
-use Rattle.text.specs.declared.number.Number.{Number}
-use Rattle.text.specs.declared.number.Number.TheVariants.{Got, Off}
+use Rattle.std.specs.Prelude.{Option, Some, None}
 use Rattle.text.proofs.Digits.{either}
 use Rattle.register.specs.{Cell.cells_of, Row.eight_from, Header.header_of, Header.limits_header}
 use Rattle.register.specs.declared.cell.Table.TheVariants as table
@@ -29,12 +28,12 @@ judged_fit n v some few z =
     (λ high. absurd (omega (arith, rw (fit, high) at z))))
     (λ off. absurd (omega (arith, rw off at z)))
 
-headed_fit : (r : Number) (second : List ℕ) (lines : ℕ) → ((n : ℕ) → r ≡ Got n → (1 ≤ n) × (n ≤ 8))
+headed_fit : (r : Option ℕ) (second : List ℕ) (lines : ℕ) → ((n : ℕ) → r ≡ Some n → (1 ≤ n) × (n ≤ 8))
     → (headed_limits r second lines).refusal ≡ 0
     → LimitsFit (headed_limits r second lines)
 unfolding second_limits
-headed_fit Off second lines fits z = absurd (omega arith)
-headed_fit (Got n) second lines fits z =
+headed_fit None second lines fits z = absurd (omega arith)
+headed_fit (Some n) second lines fits z =
     let read = (cells_of table.LimitsFile (1 + n) second).read in
     let range = fits n refl in
     either read

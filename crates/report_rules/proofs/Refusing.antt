@@ -5,8 +5,7 @@ use native.Mathlib.Omega.{arith}
 use lib.{Dec.eqb}
 use borrow.Author.Tests.{eq-eqb, ne_eqb, eqb-true}
 use Rattle.text.specs.Sheet.{refused_text}
-use Rattle.text.specs.declared.number.Number.{Number}
-use Rattle.text.specs.declared.number.Number.TheVariants.{Got, Off}
+use Rattle.std.specs.Prelude.{Option, Some, None}
 use Rattle.text.proofs.{Digits.either, Sheets.refuses}
 use Rattle.book_rules.specs.{Columns.Book, Calls.refusal, Calls.after, History.empty_book}
 use Rattle.register.specs.{Header.register_header, LimitsFile.limits_of, Row.layout_of}
@@ -56,14 +55,14 @@ register_refused p b register =
 
 -- What refuses a line
 
-points_none : (p : ℕ) (r : Number) → points_refusal p r ≡ 0 → r ≡ Got p
-points_none p Off z = absurd (omega arith)
-points_none p (Got n) z =
-    either (eqb n p) (λ yes. ap Got (eqb-true n p yes)) (λ no. absurd (omega (arith, rw no at z)))
+points_none : (p : ℕ) (r : Option ℕ) → points_refusal p r ≡ 0 → r ≡ Some p
+points_none p None z = absurd (omega arith)
+points_none p (Some n) z =
+    either (eqb n p) (λ yes. ap Some (eqb-true n p yes)) (λ no. absurd (omega (arith, rw no at z)))
 
-points_other : (p : ℕ) (r : Number) → (points_refusal p r ≡ 0 → ⊥) → points_refusal p r ≡ 16
-points_other p Off ne = refl
-points_other p (Got n) ne = either (eqb n p) (λ yes. absurd (ne (rw yes refl))) (λ no. rw no refl)
+points_other : (p : ℕ) (r : Option ℕ) → (points_refusal p r ≡ 0 → ⊥) → points_refusal p r ≡ 16
+points_other p None ne = refl
+points_other p (Some n) ne = either (eqb n p) (λ yes. absurd (ne (rw yes refl))) (λ no. rw no refl)
 
 pub header_exactly : (p : ℕ) (b : Book) (line : List ℕ) → HeaderExactly p b line
 unfolding line_refusal

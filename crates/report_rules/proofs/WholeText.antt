@@ -12,8 +12,7 @@ use Rattle.movement.specs.Limits.{max_days, max_limit}
 use Rattle.text.specs.Sheet.{ended, refused_text}
 use Rattle.text.specs.{Line.lines_of, Field.count_of, Field.joined_by, Index.listing, Number.shown, Number.show_number}
 use Rattle.text.specs.Spelled.{bytes}
-use Rattle.text.specs.declared.number.Number.{Number}
-use Rattle.text.specs.declared.number.Number.TheVariants.{Got, Off}
+use Rattle.std.specs.Prelude.{Option, Some, None}
 use Rattle.text.proofs.{Digits.either, Fields.join_count_all, Indices.length_listing}
 use Rattle.book_rules.specs.Columns.{Book}
 use Rattle.book_rules.specs.History.{Held, Movement, has_levels, Made, empty_book, booked}
@@ -81,11 +80,11 @@ judged_days n v z =
     (λ high. absurd (omega (arith, rw (fit, high) at z))))
     (λ off. absurd (omega (arith, rw off at z)))
 
-headed_days : (r : Number) (second : List ℕ) (lines : ℕ) → (headed_limits r second lines).refusal ≡ 0
+headed_days : (r : Option ℕ) (second : List ℕ) (lines : ℕ) → (headed_limits r second lines).refusal ≡ 0
     → DaysInRange (headed_limits r second lines).days
 unfolding second_limits
-headed_days Off second lines z = absurd (omega arith)
-headed_days (Got n) second lines z =
+headed_days None second lines z = absurd (omega arith)
+headed_days (Some n) second lines z =
     either (cells_of table.LimitsFile (1 + n) second).read
     (λ on. either (leb lines 2)
     (λ two. rw (on, two) (judged_days n (cells_of table.LimitsFile (1 + n) second).values (rw (on, two) at z)))

@@ -6,7 +6,7 @@ use native.Mathlib.Omega.{arith}
 use lib.{Dec.eqb, Dec.ltb, ListN.length}
 use borrow.Author.Tests.{lt-leb}
 use Rattle.text.specs.Line.{bare_line}
-use Rattle.text.specs.declared.number.Number.TheVariants.{Off}
+use Rattle.std.specs.Prelude.{None}
 use Rattle.text.proofs.{Digits.either, Lines.bare_most}
 use Rattle.book_rules.specs.Columns.{Book}
 use Rattle.register.specs.Header.{header_of, register_header}
@@ -15,7 +15,7 @@ use Rattle.stream.specs.Reading.{Longest}
 use Rattle.report_steps.specs.{Stream.longest_row, Intake.row_taken, Intake.row_after}
 use Rattle.report_steps.specs.Reading.{header_points, line_refusal, line_after, register_step}
 
-header_long : (line : List ℕ) → longest_row < length line → header_points line ≡ Off
+header_long : (line : List ℕ) → longest_row < length line → header_points line ≡ None
 unfolding header_of
 header_long line h =
     rw (lt-leb (length line) (length register_header) (omega arith), and-false (ltb 22 (length line))) refl

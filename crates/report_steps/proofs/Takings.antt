@@ -3,8 +3,7 @@
 use mathlib.Core.{Path.◌≡◌, Path.refl, Path.ap, Path.◌∙◌, Bool.true, List.List}
 use Rattle.std.specs.Prelude.{ℕ, eqb}
 use borrow.Author.Tests.{eq-eqb, ne_eqb}
-use Rattle.text.specs.declared.number.Number.{Number}
-use Rattle.text.specs.declared.number.Number.TheVariants.{Got, Off}
+use Rattle.std.specs.Prelude.{Option, Some, None}
 use Rattle.text.proofs.Digits.{either}
 use Rattle.book_rules.specs.Columns.{Book, sound}
 use Rattle.stream.specs.InnerTaken.{LineTaken}
@@ -26,14 +25,14 @@ pub taken_sound : (p : ℕ) {n r : ℕ} {b b' : Book} {line : List ℕ} → soun
 taken_sound p {n} {r} {b} {b'} {line} s k = ap (sound p) k.held ∙ line-sound p n b line s
 
 -- the header, as it was read
-pub header_fits : {p n : ℕ} {x y : Number} → x ≡ y → x ≡ Got n → n ≡ p → 0 ≡ points_refusal p y
+pub header_fits : {p n : ℕ} {x y : Option ℕ} → x ≡ y → x ≡ Some n → n ≡ p → 0 ≡ points_refusal p y
 header_fits {p} {n} {x} {y} e g q = rw (← e, g, eq-eqb n p q) refl
 
-pub header_other : {p n : ℕ} {x y : Number} → x ≡ y → x ≡ Got n → (n ≡ p → ⊥)
+pub header_other : {p n : ℕ} {x y : Option ℕ} → x ≡ y → x ≡ Some n → (n ≡ p → ⊥)
     → 16 ≡ points_refusal p y
 header_other {p} {n} {x} {y} e g q = rw (← e, g, ne_eqb n p q) refl
 
-pub header_off_lem : (p : ℕ) {x y : Number} → x ≡ y → x ≡ Off → 16 ≡ points_refusal p y
+pub header_off_lem : (p : ℕ) {x y : Option ℕ} → x ≡ y → x ≡ None → 16 ≡ points_refusal p y
 header_off_lem p {x} {y} e g = rw (← e, g) refl
 
 -- a line is the header or a row

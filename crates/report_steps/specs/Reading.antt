@@ -2,8 +2,7 @@
 -- Assumes nothing.
 use Rattle.std.specs.Prelude.{ℕ, cond, List, ◌==◌}
 use Rattle.book_rules.specs.Columns.{Book}
-use Rattle.text.specs.declared.number.Number.{Number}
-use Rattle.text.specs.declared.number.Number.TheVariants.{Got, Off}
+use Rattle.std.specs.Prelude.{Option, Some, None}
 use Rattle.register.specs.Header.{header_of, register_header}
 use Rattle.stream.specs.Reading as stream
 use Rattle.stream.specs.Reading.{Step, whole_read}
@@ -14,11 +13,11 @@ abbrev pub Reading : Type 0
 Reading = stream.Reading Book
 
 -- the first line is the header with as many levels as there are points
-abbrev pub points_refusal : ℕ → Number → ℕ
-points_refusal p (Got n) = cond (n == p) 0 16
-points_refusal p Off = 16
+abbrev pub points_refusal : ℕ → Option ℕ → ℕ
+points_refusal p (Some n) = cond (n == p) 0 16
+points_refusal p None = 16
 
-abbrev pub header_points : List ℕ → Number
+abbrev pub header_points : List ℕ → Option ℕ
 header_points line = header_of register_header 22 line
 
 -- line n of a register, on a book: the header, then rows

@@ -1,7 +1,6 @@
 // What is wrong with one field, behind its name: what was found, what it is, and what was expected.
 use crate::note::{ROOM, shown, words};
 use crate::part::{has, is_digits};
-use text::number::Number;
 
 // ` is 'found'`.
 pub fn found(out: &mut [u8; ROOM], at: usize, t: &[u8]) -> usize {
@@ -48,10 +47,10 @@ pub fn kind(out: &mut [u8; ROOM], at: usize, t: &[u8]) -> usize {
 }
 
 // Whether a field was read.
-pub fn is_number(n: Number) -> bool {
+pub fn is_number(n: Option<u32>) -> bool {
     match n {
-        Number::Got(_) => true,
-        Number::Off => false,
+        Some(_) => true,
+        None => false,
     }
 }
 

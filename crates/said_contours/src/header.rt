@@ -3,7 +3,6 @@ use network::limits::{LEAST_SIDE, LEAST_SPACING, MAX_ORIGIN, MAX_SIDE, MAX_SPACI
 use said::field;
 use said::note::{ROOM, words};
 use said::part::{column, last, line};
-use text::number::Number;
 use text::same::same_text;
 
 // The lines that a network has to begin with, and the one that may follow.
@@ -54,8 +53,8 @@ fn number_in(row: &[u8]) -> u32 {
     let start = part.start;
     let end = part.end;
     match text::number::whole(&row[start..end]) {
-        Number::Got(n) => n,
-        Number::Off => 0,
+        Some(n) => n,
+        None => 0,
     }
 }
 

@@ -1,13 +1,12 @@
 // Why an argument is refused.
 use said::field;
 use said::note::{ROOM, number, rule, send, words};
-use text::number::Number;
 
 // Whether a word is a level.
 fn is_level(word: &[u8]) -> bool {
     match text::number::thousandths(word) {
-        Number::Got(_) => true,
-        Number::Off => false,
+        Some(_) => true,
+        None => false,
     }
 }
 

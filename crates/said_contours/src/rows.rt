@@ -4,7 +4,6 @@ ghost use Rattle.std.specs.Prelude.{◌≤◌, length};
 use network::limits::MAX_NETWORK_LEVEL;
 use said::inner::{column_end, row_end};
 use said::part::{last, one_more};
-use text::number::Number;
 use text::same::same_text;
 
 // A row or a value: its number, counted from 1, and its part of the text. Where none was found, `number` is that of the
@@ -29,16 +28,16 @@ pub enum Sought {
 // Whether a text is a level.
 fn is_level(t: &[u8]) -> bool {
     match text::number::thousandths(t) {
-        Number::Got(_) => true,
-        Number::Off => false,
+        Some(_) => true,
+        None => false,
     }
 }
 
 // Whether a text is a level over 150.000.
 pub(crate) fn is_over(t: &[u8]) -> bool {
     match text::number::thousandths(t) {
-        Number::Got(v) => MAX_NETWORK_LEVEL < v,
-        Number::Off => false,
+        Some(v) => MAX_NETWORK_LEVEL < v,
+        None => false,
     }
 }
 

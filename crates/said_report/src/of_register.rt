@@ -8,7 +8,6 @@ use said::note::{ROOM, below, byte, general, number, place, rule, send, shown, w
 use said::odd;
 use said::part::{first_line, last};
 use said::row::empty;
-use text::number::Number;
 
 // The number of points in the header and in limits.csv.
 fn points_off(out: &mut [u8; ROOM], at: usize, here: u32, there: u32) -> usize {
@@ -21,7 +20,7 @@ fn points_off(out: &mut [u8; ROOM], at: usize, here: u32, there: u32) -> usize {
 
 // A header whose last column should be number `end`.
 fn header_off(out: &mut [u8; ROOM], at: usize, line: &[u8], points: u32, end: usize) -> usize {
-    if let Number::Got(n) = register_points(line) {
+    if let Some(n) = register_points(line) {
         return points_off(out, at, n, points);
     }
     let got = last(line, b',');

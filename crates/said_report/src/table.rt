@@ -7,7 +7,6 @@ use said::field::is_number;
 use said::note::ROOM;
 use said::part::{column, has, is_digits};
 use said::row;
-use text::number::Number;
 
 // Whose columns.
 #[derive(Clone, Copy)]
@@ -106,8 +105,8 @@ fn fits(table: Table, t: &[u8], k: usize) -> bool {
 // Whether a text is a level over 120.00.
 fn is_over(t: &[u8]) -> bool {
     match text::number::level(t) {
-        Number::Got(v) => MAX_LEVEL < v,
-        Number::Off => false,
+        Some(v) => MAX_LEVEL < v,
+        None => false,
     }
 }
 

@@ -7,26 +7,25 @@ use lib.ListN.{length-drop}
 use lib.{Seq.length-take-le, Seq.split_at, Seq.drop-drop, Seq.get_or-drop, Seq.take_all, Dec.ltb, Dec.eqb}
 use Rattle.refusal.proofs.Laws.{and_left, and_right}
 use Rattle.text.specs.{Number.digits_of, Number.show_digits, Field.count_of}
-use Rattle.text.specs.declared.number.Number.{Number}
-use Rattle.text.specs.declared.number.Number.TheVariants.{Got, Off}
+use Rattle.std.specs.Prelude.{Option, Some, None}
 use Rattle.text.proofs.{Digits.passed, Shown.digits_back_lem, Exact.digits-text}
 use Rattle.text.proofs.Free.{byte_free, digits_free, nil_free}
 use Rattle.text.specs.Clock.{under, two_at, clock, time_of, show_time}
 
 -- a number under its bound was read, and is under it
-under_got : (bound n : ℕ) (r : Number) → under bound r ≡ Got n → (r ≡ Got n) × (n < bound)
-under_got bound n Off e = let z : ◌≡◌ {A = ℕ} 0 1 = cc in absurd (omega arith)
-under_got bound n (Got m) e =
-    let p = passed (ltb m bound) (Got m) n e in
+under_got : (bound n : ℕ) (r : Option ℕ) → under bound r ≡ Some n → (r ≡ Some n) × (n < bound)
+under_got bound n None e = let z : ◌≡◌ {A = ℕ} 0 1 = cc in absurd (omega arith)
+under_got bound n (Some m) e =
+    let p = passed (ltb m bound) (Some m) n e in
     let q : m ≡ n = cc p.1 in
     (p.1, omega (arith, ltb-true m bound p.0))
 
-pub two_under : (s : List ℕ) (at bound n : ℕ) → two_at s at bound ≡ Got n → n < bound
+pub two_under : (s : List ℕ) (at bound n : ℕ) → two_at s at bound ≡ Some n → n < bound
 unfolding two_at
 two_under s at bound n e = (under_got bound n (digits_of 0 (take 2 (drop at s))) e).1
 
 -- a second of the day reads back
-pub time_back : (n : ℕ) → n < 86400 → time_of (show_time n) ≡ Got n
+pub time_back : (n : ℕ) → n < 86400 → time_of (show_time n) ≡ Some n
 unfolding time_of two_at
 time_back n h =
     let w : n / 3600 * 3600 + n / 60 % 60 * 60 + n % 60 ≡ n = omega arith in
@@ -53,7 +52,7 @@ time_free d n low =
     ∙ nil_free d low
 
 -- two digits that were read at a place are the text of their number
-two_text_lem : (s : List ℕ) (at bound n : ℕ) → at + 2 ≤ length s → two_at s at bound ≡ Got n
+two_text_lem : (s : List ℕ) (at bound n : ℕ) → at + 2 ≤ length s → two_at s at bound ≡ Some n
     → take 2 (drop at s) ≡ show_digits 2 n
 unfolding two_at
 two_text_lem s at bound n h e =
@@ -61,13 +60,13 @@ two_text_lem s at bound n h e =
     (digits-text 2 (take 2 (drop at s)) n l (under_got bound n (digits_of 0 (take 2 (drop at s))) e).0).0
 
 -- a time that was put together had all its parts
-clock_got : (a b c : Number) (n : ℕ) → clock a b c ≡ Got n
-    → (h : ℕ) × (m : ℕ) × (s : ℕ) × (a ≡ Got h) × (b ≡ Got m) × (c ≡ Got s)
+clock_got : (a b c : Option ℕ) (n : ℕ) → clock a b c ≡ Some n
+    → (h : ℕ) × (m : ℕ) × (s : ℕ) × (a ≡ Some h) × (b ≡ Some m) × (c ≡ Some s)
     × (n ≡ h * 3600 + m * 60 + s)
-clock_got Off b c n e = let z : ◌≡◌ {A = ℕ} 0 1 = cc in absurd (omega arith)
-clock_got (Got h) Off c n e = let z : ◌≡◌ {A = ℕ} 0 1 = cc in absurd (omega arith)
-clock_got (Got h) (Got m) Off n e = let z : ◌≡◌ {A = ℕ} 0 1 = cc in absurd (omega arith)
-clock_got (Got h) (Got m) (Got s) n e = let q : h * 3600 + m * 60 + s ≡ n = cc in (h, m, s, refl, refl, refl, sym q)
+clock_got None b c n e = let z : ◌≡◌ {A = ℕ} 0 1 = cc in absurd (omega arith)
+clock_got (Some h) None c n e = let z : ◌≡◌ {A = ℕ} 0 1 = cc in absurd (omega arith)
+clock_got (Some h) (Some m) None n e = let z : ◌≡◌ {A = ℕ} 0 1 = cc in absurd (omega arith)
+clock_got (Some h) (Some m) (Some s) n e = let q : h * 3600 + m * 60 + s ≡ n = cc in (h, m, s, refl, refl, refl, sym q)
 
 -- a text of three parts, apart at the two bytes between them
 pub three-parts : (a b c : ℕ) (s : List ℕ) → length s ≡ a + 1 + b + 1 + c
@@ -93,7 +92,7 @@ time_text_lem : (s : List ℕ) (h m x : ℕ) → length s ≡ 8 → get_or s 2 0
 time_text_lem s h m x l one two th tm tx = three-parts 2 2 2 s l ∙ rw (th, tm, tx, one, two)
 
 -- a text that reads as a time is that time's text, and it is a second of the day
-pub time_exact : (s : List ℕ) (n : ℕ) → time_of s ≡ Got n → (s ≡ show_time n) × (n < 86400)
+pub time_exact : (s : List ℕ) (n : ℕ) → time_of s ≡ Some n → (s ≡ show_time n) × (n < 86400)
 unfolding time_of
 time_exact s n e =
     let a = eqb (length s) 8 in

@@ -6,8 +6,7 @@ use borrow.Author.Tests.{le-leb, lt-leb, leb-true}
 use lib.{ListN.length, ListN.get_or, ListN.take, ListN.drop, ListN.length-drop, Seq.drop-cons, Seq.take_all}
 use Rattle.refusal.proofs.Laws.{and_left, and_right}
 use Rattle.text.specs.Number.{value_of, is_got, is_digit, digits_of, whole_of}
-use Rattle.text.specs.declared.number.Number.{Number}
-use Rattle.text.specs.declared.number.Number.TheVariants.{Got, Off}
+use Rattle.std.specs.Prelude.{Option, Some, None}
 
 pub digit_yes : (c : ℕ) → 48 ≤ c → c ≤ 57 → is_digit c ≡ true
 digit_yes c lo hi = simp (le-leb 48 c lo, le-leb c 57 hi)
@@ -25,7 +24,7 @@ module _ (s : List ℕ) (v i : ℕ) (h : i < length s) where
   unfolding digits_of
   digits_step e = rw (add-one, drop-cons s i 0 h, e)
 
-  pub digits-stop : is_digit (get_or s i 0) ≡ false → digits_of v (drop i s) ≡ Off
+  pub digits-stop : is_digit (get_or s i 0) ≡ false → digits_of v (drop i s) ≡ None
   unfolding digits_of
   digits-stop e = rw (drop-cons s i 0 h, e)
 
@@ -45,7 +44,7 @@ pub digit_most : (c : ℕ) → is_digit c ≡ true → c ≤ 57
 digit_most c e = leb-true c 57 (and_right (leb 48 c) (leb c 57) e)
 
 -- what n digits spell is below 10 to the n
-pub digits_below : (s : List ℕ) (v k n : ℕ) → v < 10 ^ k → digits_of v s ≡ Got n → n < 10 ^ (k + length s)
+pub digits_below : (s : List ℕ) (v k n : ℕ) → v < 10 ^ k → digits_of v s ≡ Some n → n < 10 ^ (k + length s)
 unfolding digits_of
 digits_below [] v k n h e = let q : v ≡ n = cc in rw (add-zero k) (omega arith)
 digits_below (c ∷ s) v k n h e =
@@ -53,21 +52,21 @@ digits_below (c ∷ s) v k n h e =
     (λ yes. let most = digit_most c yes in
     let q : k + suc (length s) ≡ k + 1 + length s = omega arith in
     rw q (digits_below s (v * 10 + (c - 48)) (k + 1) n (grows v k (c - 48) h (omega arith)) (rw yes at e)))
-    (λ no. let x : Off ≡ Got n = rw no at e in let z : ◌≡◌ {A = ℕ} 0 1 = cc in absurd (omega arith))
+    (λ no. let x : None ≡ Some n = rw no at e in let z : ◌≡◌ {A = ℕ} 0 1 = cc in absurd (omega arith))
 
 -- at most seven digits spell a number below ten million, and so does a whole number
-pub digits_small : (s : List ℕ) (n : ℕ) → length s ≤ 7 → digits_of 0 s ≡ Got n → n < 10000000
+pub digits_small : (s : List ℕ) (n : ℕ) → length s ≤ 7 → digits_of 0 s ≡ Some n → n < 10000000
 digits_small s n h e =
     let p : 10 ^ (0 + length s) ≤ 10 ^ 7 = pow-le-pow_right (omega arith) {j = 7} (omega arith) in
     let q = digits_below s 0 0 n (omega arith) e in
     omega arith
 
 -- a test that let a value through was passed
-pub passed : (b : Bool) (r : Number) (n : ℕ) → cond b r Off ≡ Got n → (b ≡ true) × (r ≡ Got n)
+pub passed : (b : Bool) (r : Option ℕ) (n : ℕ) → cond b r None ≡ Some n → (b ≡ true) × (r ≡ Some n)
 passed true r n e = (refl, e)
 passed false r n e = let z : ◌≡◌ {A = ℕ} 0 1 = cc in absurd (omega arith)
 
-pub whole_small : (s : List ℕ) (n : ℕ) → whole_of s ≡ Got n → n < 10000000
+pub whole_small : (s : List ℕ) (n : ℕ) → whole_of s ≡ Some n → n < 10000000
 unfolding whole_of
 whole_small s n e =
     let p = passed _ (digits_of 0 s) n e in
@@ -75,7 +74,7 @@ whole_small s n e =
     (and_right (leb 1 (length s)) _ (and_left _ (not (ltb 1 (length s) && eqb (get_or s 0 0) 48)) p.0))) p.1
 
 -- a whole number of at most three digits is below a thousand
-pub whole_below : (s : List ℕ) (n : ℕ) → length s ≤ 3 → whole_of s ≡ Got n → n < 1000
+pub whole_below : (s : List ℕ) (n : ℕ) → length s ≤ 3 → whole_of s ≡ Some n → n < 1000
 unfolding whole_of
 whole_below s n h e =
     let p = passed (leb 1 (length s) && leb (length s) 7 && not (ltb 1 (length s) && eqb (get_or s 0 0) 48))
@@ -89,6 +88,6 @@ pub part-rest : (s : List ℕ) (k : ℕ) → take (length s - k) (drop k s) ≡ 
 part-rest s k = take_all (length s - k) (drop k s) (simp length-drop (omega arith))
 
 -- a field that was read has its value
-pub got_value : (x : Number) → is_got x ≡ true → x ≡ Got (value_of x)
-got_value (Got n) e = refl
-got_value Off e = let z : ◌≡◌ {A = ℕ} 0 1 = cc in absurd (omega arith)
+pub got_value : (x : Option ℕ) → is_got x ≡ true → x ≡ Some (value_of x)
+got_value (Some n) e = refl
+got_value None e = let z : ◌≡◌ {A = ℕ} 0 1 = cc in absurd (omega arith)

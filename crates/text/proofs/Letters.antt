@@ -4,27 +4,26 @@ use mathlib.Core.{Path.◌≡◌, Path.refl, Path.sym, Path.ap, Path.◌∙◌, 
 use native.Mathlib.{Numerals.add-one, Omega.arith}
 use borrow.Author.Tests.{eq-eqb, ne_eqb, eqb-true}
 use lib.{ListN.length, ListN.get_or, ListN.drop, ListN.drop_of_length-le, Seq.drop-cons, Dec.eqb}
-use Rattle.text.specs.declared.number.Number.{Number}
-use Rattle.text.specs.declared.number.Number.TheVariants.{Got, Off}
+use Rattle.std.specs.Prelude.{Option, Some, None}
 use Rattle.text.proofs.Digits.{either, passed}
 use Rattle.text.specs.Letter.{later, place_of, letter_of, show_letter}
 
 -- a place counted from further on
-abbrev pub moved : ℕ → Number → Number
-moved i Off = Off
-moved i (Got n) = Got (i + n)
+abbrev pub moved : ℕ → Option ℕ → Option ℕ
+moved i None = None
+moved i (Some n) = Some (i + n)
 
-moved_later : (i : ℕ) (r : Number) → moved i (later r) ≡ moved (i + 1) r
-moved_later i Off = refl
-moved_later i (Got n) = let e : i + suc n ≡ i + 1 + n = omega arith in ap Got e
+moved_later : (i : ℕ) (r : Option ℕ) → moved i (later r) ≡ moved (i + 1) r
+moved_later i None = refl
+moved_later i (Some n) = let e : i + suc n ≡ i + 1 + n = omega arith in ap Some e
 
-pub moved_none : (r : Number) → r ≡ moved 0 r
-moved_none Off = refl
-moved_none (Got n) = let e : n ≡ 0 + n = omega arith in ap Got e
+pub moved_none : (r : Option ℕ) → r ≡ moved 0 r
+moved_none None = refl
+moved_none (Some n) = let e : n ≡ 0 + n = omega arith in ap Some e
 
 -- one letter further
 module _ (c : ℕ) (ls : List ℕ) (i : ℕ) where
-  pub place_hit : i < length ls → c ≡ get_or ls i 0 → moved i (place_of c (drop i ls)) ≡ Got i
+  pub place_hit : i < length ls → c ≡ get_or ls i 0 → moved i (place_of c (drop i ls)) ≡ Some i
   unfolding place_of
   place_hit h e = let z : i + 0 ≡ i = omega arith in rw (drop-cons ls i 0 h, eq-eqb c (get_or ls i 0) e, z)
 
@@ -34,24 +33,24 @@ module _ (c : ℕ) (ls : List ℕ) (i : ℕ) where
   place_miss h e = rw (drop-cons ls i 0 h, ne_eqb c (get_or ls i 0) e) (moved_later i (place_of c (drop (suc i) ls))
       ∙ rw (add-one i))
 
-  pub place_end : length ls ≤ i → moved i (place_of c (drop i ls)) ≡ Off
+  pub place_end : length ls ≤ i → moved i (place_of c (drop i ls)) ≡ None
   unfolding place_of
   place_end h = rw (drop_of_length-le ls h)
 
 -- a letter that was read is the text of its place
-later_got : (r : Number) (n : ℕ) → later r ≡ Got n → (m : ℕ) × (r ≡ Got m) × (n ≡ suc m)
-later_got Off n e = let z : ◌≡◌ {A = ℕ} 0 1 = cc in absurd (omega arith)
-later_got (Got m) n e = let q : suc m ≡ n = cc in (m, refl, sym q)
+later_got : (r : Option ℕ) (n : ℕ) → later r ≡ Some n → (m : ℕ) × (r ≡ Some m) × (n ≡ suc m)
+later_got None n e = let z : ◌≡◌ {A = ℕ} 0 1 = cc in absurd (omega arith)
+later_got (Some m) n e = let q : suc m ≡ n = cc in (m, refl, sym q)
 
-place_exact : (c : ℕ) (ls : List ℕ) (n : ℕ) → place_of c ls ≡ Got n → (get_or ls n 0 ≡ c) × (n < length ls)
+place_exact : (c : ℕ) (ls : List ℕ) (n : ℕ) → place_of c ls ≡ Some n → (get_or ls n 0 ≡ c) × (n < length ls)
 unfolding place_of
 place_exact c [] n e = let z : ◌≡◌ {A = ℕ} 0 1 = cc in absurd (omega arith)
 place_exact c (l ∷ ls) n e =
     either (eqb c l)
-    (λ yes. let x : Got 0 ≡ Got n = rw yes at e in
+    (λ yes. let x : Some 0 ≡ Some n = rw yes at e in
     let q : 0 ≡ n = cc in
     rw (← q) (sym (eqb-true c l yes), omega arith))
-    (λ no. let x : later (place_of c ls) ≡ Got n = rw no at e in
+    (λ no. let x : later (place_of c ls) ≡ Some n = rw no at e in
     let r = later_got (place_of c ls) n x in
     let p = place_exact c ls r.0 r.1 in
     rw r.2 (p.0, omega (arith, p.1)))
@@ -61,7 +60,7 @@ one_byte [] l = absurd (omega arith)
 one_byte (c ∷ []) l = refl
 one_byte (c ∷ d ∷ t) l = absurd (omega arith)
 
-pub letter_exact : (ls t : List ℕ) (n : ℕ) → letter_of ls t ≡ Got n
+pub letter_exact : (ls t : List ℕ) (n : ℕ) → letter_of ls t ≡ Some n
     → (t ≡ show_letter ls n) × (n < length ls)
 unfolding letter_of
 letter_exact ls t n e =
@@ -71,7 +70,7 @@ letter_exact ls t n e =
 
 -- one of two letters reads back
 pub two_back : (a b : ℕ) → (b ≡ a → ⊥) → (n : ℕ) → n < 2
-    → letter_of (a ∷ b ∷ []) (show_letter (a ∷ b ∷ []) n) ≡ Got n
+    → letter_of (a ∷ b ∷ []) (show_letter (a ∷ b ∷ []) n) ≡ Some n
 unfolding letter_of place_of
 two_back a b apart zero h = rw (eq-eqb a a refl) refl
 two_back a b apart (suc zero) h = rw (ne_eqb b a apart, eq-eqb b b refl) refl

@@ -9,7 +9,7 @@ use lib.ListN.{length-append, get_or-append}
 use lib.{Seq.take-append_seam, Seq.drop-append-add, Seq.get_or-append_seam, Dec.ltb, Dec.eqb}
 use Rattle.text.specs.Number.{is_digit, digits_of, whole_of, decimal_of, level_of, joined, shown, show_number}
 use Rattle.text.specs.Number.{show_whole, show_digits, show_decimal, show_level}
-use Rattle.text.specs.declared.number.Number.TheVariants.{Got, Off}
+use Rattle.std.specs.Prelude.{Some, None}
 use Rattle.text.proofs.Digits.{either, digit_yes}
 
 -- the two ways of `shown`
@@ -70,8 +70,8 @@ pub whole_number_lem : (n : ℕ) → n < 10000000 → show_number n ≡ show_who
 whole_number_lem n h = shown_enough 19 6 n (omega arith) (omega arith)
 
 -- one digit more at the end of a run
-digits_snoc : (s : List ℕ) (v m d : ℕ) → d ≤ 9 → digits_of v s ≡ Got m
-    → digits_of v (s ++ ((48 + d) ∷ [])) ≡ Got (m * 10 + d)
+digits_snoc : (s : List ℕ) (v m d : ℕ) → d ≤ 9 → digits_of v s ≡ Some m
+    → digits_of v (s ++ ((48 + d) ∷ [])) ≡ Some (m * 10 + d)
 unfolding digits_of
 digits_snoc [] v m d h e =
     let q : v ≡ m = cc in
@@ -80,10 +80,10 @@ digits_snoc [] v m d h e =
 digits_snoc (c ∷ s) v m d h e =
     either (is_digit c)
     (λ yes. rw yes (digits_snoc s (v * 10 + (c - 48)) m d h (rw yes at e)))
-    (λ no. let x : Off ≡ Got m = rw no at e in let z : ◌≡◌ {A = ℕ} 0 1 = cc in absurd (omega arith))
+    (λ no. let x : None ≡ Some m = rw no at e in let z : ◌≡◌ {A = ℕ} 0 1 = cc in absurd (omega arith))
 
 -- the digits spell the number
-pub shown_digits : (k n : ℕ) → n < 10 ^ k → digits_of 0 (shown k n) ≡ Got n
+pub shown_digits : (k n : ℕ) → n < 10 ^ k → digits_of 0 (shown k n) ≡ Some n
 unfolding shown digits_of
 shown_digits zero n h = let q : n ≡ 0 = omega (arith, pow-zero 10) in rw q
 shown_digits (suc k) n h =
@@ -93,7 +93,7 @@ shown_digits (suc k) n h =
     rw (yes, digit_yes (48 + n) (omega arith) (omega arith), w))
     (λ no. let w : n / 10 * 10 + n % 10 ≡ n = omega arith in
     rw no (digits_snoc (shown k (n / 10)) 0 (n / 10) (n % 10) (omega arith) (shown_digits k (n / 10) (tenth k n h))
-    ∙ ap Got w))
+    ∙ ap Some w))
 
 -- no more digits than allowed
 pub shown_short : (k n : ℕ) → length (shown k n) ≤ k
@@ -142,7 +142,7 @@ unfolding shown
 zero_spare n z = rw z
 
 -- a whole number of at most seven digits reads back
-pub whole_back : (n : ℕ) → n < 10000000 → whole_of (show_whole n) ≡ Got n
+pub whole_back : (n : ℕ) → n < 10000000 → whole_of (show_whole n) ≡ Some n
 unfolding whole_of
 whole_back n h =
     let s = show_whole n in
@@ -202,9 +202,9 @@ carried v q r d =
     omega arith
 
 -- d digits read on after `v`, and alone
-digits_after : (d v n : ℕ) → n < 10 ^ d → digits_of v (show_digits d n) ≡ Got (v * 10 ^ d + n)
+digits_after : (d v n : ℕ) → n < 10 ^ d → digits_of v (show_digits d n) ≡ Some (v * 10 ^ d + n)
 unfolding digits_of
-digits_after zero v n h = let e : v ≡ v * 1 + n = omega arith in ap Got e
+digits_after zero v n h = let e : v ≡ v * 1 + n = omega arith in ap Some e
 digits_after (suc d) v n h =
     let u = 10 ^ d in
     let q = n / u in
@@ -215,10 +215,10 @@ digits_after (suc d) v n h =
     carried v q (n % u) d ∙ ap (λ m. v * 10 ^ suc d + m) (div-add-mod' n u) in
     ap (digits_of v) (digits_front_lem d n)
     ∙ rw (digit_yes (48 + q) (omega arith) (omega arith), w)
-    (digits_after d (v * 10 + q) (n % u) (mod-lt n (parts_some d)) ∙ ap Got sum)
+    (digits_after d (v * 10 + q) (n % u) (mod-lt n (parts_some d)) ∙ ap Some sum)
 
-pub digits_back_lem : (d n : ℕ) → n < 10 ^ d → digits_of 0 (show_digits d n) ≡ Got n
-digits_back_lem d n h = digits_after d 0 n h ∙ (let e : 0 * 10 ^ d + n ≡ n = omega arith in ap Got e)
+pub digits_back_lem : (d n : ℕ) → n < 10 ^ d → digits_of 0 (show_digits d n) ≡ Some n
+digits_back_lem d n h = digits_after d 0 n h ∙ (let e : 0 * 10 ^ d + n ≡ n = omega arith in ap Some e)
 
 -- a text goes apart at its point
 pointed_back : (d : ℕ) (u t : List ℕ) → 1 ≤ length u → length u ≤ 3 → length t ≡ d
@@ -241,7 +241,7 @@ module _ (d n : ℕ) (h : n < 1000 * 10 ^ d) where
   units_few : n / 10 ^ d < 1000
   units_few = (div-lt_iff_lt-mul {k = 10 ^ d} {x = n} {y = 1000} (parts_some d)).1 h
 
-  pub decimal_back : decimal_of d (show_decimal d n) ≡ Got n
+  pub decimal_back : decimal_of d (show_decimal d n) ≡ Some n
   decimal_back =
       let u = n / 10 ^ d in
       let p = n % 10 ^ d in
@@ -269,7 +269,7 @@ decimal_long d n = omega (
 )
 
 -- a level of at most 999.99 reads back, and has four to six bytes
-pub level_back : (n : ℕ) → n < 100000 → level_of (show_level n) ≡ Got n
+pub level_back : (n : ℕ) → n < 100000 → level_of (show_level n) ≡ Some n
 level_back n h = decimal_back 2 n h
 
 pub level_most : (n : ℕ) → n < 100000 → length (show_level n) ≤ 6

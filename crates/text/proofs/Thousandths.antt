@@ -7,8 +7,7 @@ use native.Mathlib.Omega.{arith}
 use lib.{ListN.length, ListN.get_or, ListN.length-append, Seq.get_or-append_seam, Seq.get_or-append-add}
 use Rattle.text.specs.Number.{decimal_of, show_whole, show_digits, show_decimal, show_thousandths, tenfold, or_else}
 use Rattle.text.specs.Number.{thousandths_of, InThousandths, value_of}
-use Rattle.text.specs.declared.number.Number.{Number}
-use Rattle.text.specs.declared.number.Number.TheVariants.{Got, Off}
+use Rattle.std.specs.Prelude.{Option, Some, None}
 use Rattle.text.proofs.{Shown.decimal_back, Shown.decimal_most, Shown.decimal_long}
 use Rattle.text.proofs.{Exact.decimal_exact, Exact.decimal_small}
 
@@ -27,11 +26,11 @@ never_both h n e =
     let digit : get_or (show_decimal 3 n) (length u) 0 ≡ 48 + n % 1000 / 100 = rw long (three_at n 1) in
     omega (arith, point, digit, ap (λ (t : List ℕ). get_or t (length u) 0) e)
 
-off_unless : (x : Number) → ((n : ℕ) → x ≡ Got n → ⊥) → x ≡ Off
-off_unless (Got n) f = absurd (f n refl)
-off_unless Off f = refl
+off_unless : (x : Option ℕ) → ((n : ℕ) → x ≡ Some n → ⊥) → x ≡ None
+off_unless (Some n) f = absurd (f n refl)
+off_unless None f = refl
 
-three_off : (h : ℕ) → decimal_of 3 (show_decimal 2 h) ≡ Off
+three_off : (h : ℕ) → decimal_of 3 (show_decimal 2 h) ≡ None
 three_off h =
     off_unless (decimal_of 3 (show_decimal 2 h)) (λ n e. never_both h n (decimal_exact 3 (show_decimal 2 h) n e))
 
@@ -47,11 +46,11 @@ zero_behind h =
 
 -- ---- what is spelled is read
 
-pub thousandths_back : (n : ℕ) → n < 1000000 → thousandths_of (show_thousandths n) ≡ Got n
+pub thousandths_back : (n : ℕ) → n < 1000000 → thousandths_of (show_thousandths n) ≡ Some n
 unfolding thousandths_of
 thousandths_back n h = rw (decimal_back 3 n h) refl
 
-two_back : (h : ℕ) → h < 100000 → thousandths_of (show_decimal 2 h) ≡ Got (h * 10)
+two_back : (h : ℕ) → h < 100000 → thousandths_of (show_decimal 2 h) ≡ Some (h * 10)
 unfolding thousandths_of
 two_back h l = rw (three_off h, decimal_back 2 h l) refl
 
@@ -70,25 +69,25 @@ shortened t n e =
           (e ∙ ap (show_decimal 3) ten ∙ sym (zero_behind (n / 10))),
     )
 
-pub thousandths_read : (t : List ℕ) (n : ℕ) → n < 1000000 → InThousandths t n → thousandths_of t ≡ Got n
+pub thousandths_read : (t : List ℕ) (n : ℕ) → n < 1000000 → InThousandths t n → thousandths_of t ≡ Some n
 thousandths_read t n h (inl e) = ap thousandths_of e ∙ thousandths_back n h
 thousandths_read t n h (inr e) =
     let s = shortened t n e in
-    ap thousandths_of s.1 ∙ two_back (n / 10) (omega arith) ∙ ap Got (sym s.0)
+    ap thousandths_of s.1 ∙ two_back (n / 10) (omega arith) ∙ ap Some (sym s.0)
 
 -- ---- what is read is spelled so
 
-read_either : (a b : Number) (n : ℕ) → or_else a (tenfold b) ≡ Got n
-    → (a ≡ Got n) ⊎ ((h : ℕ) × (b ≡ Got h) × (n ≡ h * 10))
-read_either (Got m) b n e = inl e
-read_either Off (Got h) n e = let q : h * 10 ≡ n = cc in inr (h, refl, sym q)
-read_either Off Off n e = let z : ◌≡◌ {A = ℕ} 0 1 = cc in absurd (omega arith)
+read_either : (a b : Option ℕ) (n : ℕ) → or_else a (tenfold b) ≡ Some n
+    → (a ≡ Some n) ⊎ ((h : ℕ) × (b ≡ Some h) × (n ≡ h * 10))
+read_either (Some m) b n e = inl e
+read_either None (Some h) n e = let q : h * 10 ≡ n = cc in inr (h, refl, sym q)
+read_either None None n e = let z : ◌≡◌ {A = ℕ} 0 1 = cc in absurd (omega arith)
 
-pub thousandths_exact : (t : List ℕ) (n : ℕ) → thousandths_of t ≡ Got n → (n < 1000000) × InThousandths t n
+pub thousandths_exact : (t : List ℕ) (n : ℕ) → thousandths_of t ≡ Some n → (n < 1000000) × InThousandths t n
 unfolding thousandths_of
 thousandths_exact t n e = spelled (read_either (decimal_of 3 t) (decimal_of 2 t) n e)
   where
-    spelled : (decimal_of 3 t ≡ Got n) ⊎ ((h : ℕ) × (decimal_of 2 t ≡ Got h) × (n ≡ h * 10))
+    spelled : (decimal_of 3 t ≡ Some n) ⊎ ((h : ℕ) × (decimal_of 2 t ≡ Some h) × (n ≡ h * 10))
         → (n < 1000000) × InThousandths t n
     spelled (inl three) = (decimal_small 3 t n three, inl (decimal_exact 3 t n three))
     spelled (inr two) =
@@ -100,12 +99,12 @@ thousandths_exact t n e = spelled (read_either (decimal_of 3 t) (decimal_of 2 t)
 
 -- a text that is read, and is how some number is written, has three decimals
 pub three_read : (t : List ℕ) (n m : ℕ) → m < 1000000 → InThousandths t m → t ≡ show_thousandths n
-    → decimal_of 3 t ≡ Got m
+    → decimal_of 3 t ≡ Some m
 three_read t n m h (inl e) three = ap (decimal_of 3) e ∙ decimal_back 3 m h
 three_read t n m h (inr e) three = absurd (never_both (m / 10) n (sym (shortened t m e).1 ∙ three))
 
 -- a text with three decimals is how what it reads as is written
-pub three_same : (t : List ℕ) {n : ℕ} → decimal_of 3 t ≡ Got n → t ≡ show_thousandths (value_of (thousandths_of t))
+pub three_same : (t : List ℕ) {n : ℕ} → decimal_of 3 t ≡ Some n → t ≡ show_thousandths (value_of (thousandths_of t))
 unfolding thousandths_of
 three_same t {n} e = rw e (decimal_exact 3 t n e)
 

@@ -3,44 +3,39 @@ ghost use Rattle.std.specs.Prelude.{◌≡◌, ◌+◌, ◌≤◌, length};
 ghost use Rattle.text.specs.Clock.{two_at, time_of};
 
 use crate::inner::digits;
-use crate::number::Number;
 
 // Two digits at a place, for a number under `bound`.
-fn two_at(s: &[u8], at: usize, bound: u32) -> Number
+fn two_at(s: &[u8], at: usize, bound: u32) -> Option<u32>
     requires { at + 2 ≤ length s.now }
     ensures { result ≡ two_at s.now at bound }
 {
-    let Number::Got(n) = digits(&s[at..at + 2]) else {
-        return Number::Off;
+    let Some(n) = digits(&s[at..at + 2]) else {
+        return None;
     };
-    if n < bound {
-        Number::Got(n)
-    } else {
-        Number::Off
-    }
+    if n < bound { Some(n) } else { None }
 }
 
 // A time of day as a second of the day.
-pub fn time(s: &[u8]) -> Number
+pub fn time(s: &[u8]) -> Option<u32>
     ensures { result ≡ time_of s.now }
 {
     if s.len() != 8 {
-        return Number::Off;
+        return None;
     }
     if s[2] != b':' {
-        return Number::Off;
+        return None;
     }
     if s[5] != b':' {
-        return Number::Off;
+        return None;
     }
-    let Number::Got(hour) = two_at(s, 0, 24) else {
-        return Number::Off;
+    let Some(hour) = two_at(s, 0, 24) else {
+        return None;
     };
-    let Number::Got(minute) = two_at(s, 3, 60) else {
-        return Number::Off;
+    let Some(minute) = two_at(s, 3, 60) else {
+        return None;
     };
-    let Number::Got(second) = two_at(s, 6, 60) else {
-        return Number::Off;
+    let Some(second) = two_at(s, 6, 60) else {
+        return None;
     };
-    Number::Got(hour * 3600 + minute * 60 + second)
+    Some(hour * 3600 + minute * 60 + second)
 }

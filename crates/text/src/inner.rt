@@ -13,10 +13,10 @@ ghost use Rattle.text.specs.InnerWithin.{longest_number, longest_field, longest_
 ghost use Rattle.text.specs.InnerWithin.{longest_refused, WroteWithin};
 ghost use Rattle.room.specs.Room.{Wrote};
 
-use crate::number::{Number, whole};
+use crate::number::whole;
 
 // The value of a run of at most seven digits.
-pub fn digits(s: &[u8]) -> Number
+pub fn digits(s: &[u8]) -> Option<u32>
     requires { length s.now ≤ 7 }
     ensures { result ≡ digits_of 0 s.now }
 {
@@ -25,15 +25,15 @@ pub fn digits(s: &[u8]) -> Number
     while i < s.len() {
         let c = s[i];
         if c < b'0' {
-            return Number::Off;
+            return None;
         }
         if b'9' < c {
-            return Number::Off;
+            return None;
         }
         value = value * 10 + (c - b'0') as u32;
         i += 1;
     }
-    Number::Got(value)
+    Some(value)
 }
 
 // 10 to the d.
@@ -51,47 +51,47 @@ fn power(d: usize) -> u32
 }
 
 // A number with d decimals: one to three digits, a point and d digits, no needless leading zero; in parts of its unit.
-pub fn decimal(s: &[u8], d: usize) -> Number
+pub fn decimal(s: &[u8], d: usize) -> Option<u32>
     requires { d ≤ max_decimals }
     ensures { result ≡ decimal_of d s.now }
 {
     let n = s.len();
     if n < d + 2 {
-        return Number::Off;
+        return None;
     }
     if d + 4 < n {
-        return Number::Off;
+        return None;
     }
     let point = n - (d + 1);
     if s[point] != b'.' {
-        return Number::Off;
+        return None;
     }
-    let Number::Got(units) = whole(&s[..point]) else {
-        return Number::Off;
+    let Some(units) = whole(&s[..point]) else {
+        return None;
     };
-    let Number::Got(parts) = digits(&s[point + 1..]) else {
-        return Number::Off;
+    let Some(parts) = digits(&s[point + 1..]) else {
+        return None;
     };
-    Number::Got(units * power(d) + parts)
+    Some(units * power(d) + parts)
 }
 
 // The place of a letter among a few.
-pub fn letter(t: &[u8], letters: &[u8]) -> Number
+pub fn letter(t: &[u8], letters: &[u8]) -> Option<u32>
     requires { length letters.now ≤ 3 }
     ensures { result ≡ letter_of letters.now t.now }
 {
     if t.len() != 1 {
-        return Number::Off;
+        return None;
     }
     let c = t[0];
     let mut i = 0;
     while i < letters.len() {
         if c == letters[i] {
-            return Number::Got(i as u32);
+            return Some(i as u32);
         }
         i += 1;
     }
-    Number::Off
+    None
 }
 
 // The place of the next parting byte `d` at or after `at`, or the text's length.

@@ -4,47 +4,40 @@ ghost use Rattle.text.specs.Number.{whole_of, level_of, thousandths_of};
 
 use crate::inner::{decimal, digits};
 
-// What a field reads as: its value, or that it is off its layout.
-#[derive(Clone, Copy)]
-pub enum Number {
-    Got(u32),
-    Off,
-}
-
 // A whole number: one to seven digits, no needless leading zero.
-pub fn whole(s: &[u8]) -> Number
+pub fn whole(s: &[u8]) -> Option<u32>
     ensures { result ≡ whole_of s.now }
 {
     if s.len() == 0 {
-        return Number::Off;
+        return None;
     }
     if 7 < s.len() {
-        return Number::Off;
+        return None;
     }
     if 1 < s.len() {
         if s[0] == b'0' {
-            return Number::Off;
+            return None;
         }
     }
     digits(s)
 }
 
 // A level: a number with two decimals; in hundredths.
-pub fn level(s: &[u8]) -> Number
+pub fn level(s: &[u8]) -> Option<u32>
     ensures { result ≡ level_of s.now }
 {
     decimal(s, 2)
 }
 
 // A level of a network: a number with three decimals, or with two; in thousandths.
-pub fn thousandths(s: &[u8]) -> Number
+pub fn thousandths(s: &[u8]) -> Option<u32>
     ensures { result ≡ thousandths_of s.now }
 {
     match decimal(s, 3) {
-        Number::Got(n) => Number::Got(n),
-        Number::Off => match decimal(s, 2) {
-            Number::Got(n) => Number::Got(n * 10),
-            Number::Off => Number::Off,
+        Some(n) => Some(n),
+        None => match decimal(s, 2) {
+            Some(n) => Some(n * 10),
+            None => None,
         },
     }
 }

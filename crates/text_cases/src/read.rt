@@ -5,7 +5,6 @@ use movement::limits::MAX_POINTS;
 use register::header::{limits_points, register_points};
 use register::limits_csv::read_limits;
 use register::row::{Answer, read_layout, read_row};
-use text::number::Number;
 
 // The layout alone: its refusal, the six fields and the first three levels.
 pub(crate) fn layout(line: &[u8], text: &[u8]) {
@@ -53,10 +52,10 @@ pub(crate) fn few(line: &[u8], text: &[u8]) {
 }
 
 // The points of a header, 0 where it is off its layout.
-fn points(answer: Number) -> u32 {
+fn points(answer: Option<u32>) -> u32 {
     match answer {
-        Number::Got(n) => n,
-        Number::Off => 0,
+        Some(n) => n,
+        None => 0,
     }
 }
 

@@ -6,7 +6,7 @@ use Rattle.text.specs.Line.{lines_of, bare_line}
 use Rattle.text.specs.Field.{count_of, field_of}
 use Rattle.text.specs.Number.{whole_of, level_of, thousandths_of, show_whole, show_number, show_digits, show_level}
 use Rattle.text.specs.Number.{show_thousandths, InThousandths}
-use Rattle.text.specs.declared.number.Number.TheVariants.{Got}
+use Rattle.std.specs.Prelude.{Some}
 
 -- Lines
 
@@ -68,11 +68,11 @@ pub record NumbersAre : Type 0 where
   pub thousandths : (n : ℕ) → show_thousandths n
       ≡ show_whole (n / 1000) ++ (46 ∷ ((48 + n / 100 % 10) ∷ ((48 + n / 10 % 10) ∷ ((48 + n % 10) ∷ []))))
   -- a text is read as a number exactly if it is how the number is spelled: up to seven digits, up to 999.99
-  pub whole_read_rule : (s : List ℕ) (n : ℕ) → whole_of s ≡ Got n ↔ (n < 10 ^ 7) × (s ≡ show_whole n)
-  pub level_read : (s : List ℕ) (n : ℕ) → level_of s ≡ Got n ↔ (n < 100000) × (s ≡ show_level n)
+  pub whole_read_rule : (s : List ℕ) (n : ℕ) → whole_of s ≡ Some n ↔ (n < 10 ^ 7) × (s ≡ show_whole n)
+  pub level_read : (s : List ℕ) (n : ℕ) → level_of s ≡ Some n ↔ (n < 100000) × (s ≡ show_level n)
   -- a level of a network with three decimals, or with two, where the third would be a zero, 48: up to 999.999
   pub thousandths_read : (s : List ℕ) (n : ℕ)
-      → thousandths_of s ≡ Got n ↔ (n < 1000000) × ((s ≡ show_thousandths n) ⊎ (s ++ (48 ∷ []) ≡ show_thousandths n))
+      → thousandths_of s ≡ Some n ↔ (n < 1000000) × ((s ≡ show_thousandths n) ⊎ (s ++ (48 ∷ []) ≡ show_thousandths n))
   -- and that is what promises about networks and contours call spelled in thousandths
   pub in_thousandths : (s : List ℕ) (n : ℕ)
       → InThousandths s n ↔ ((s ≡ show_thousandths n) ⊎ (s ++ (48 ∷ []) ≡ show_thousandths n))

@@ -3,7 +3,7 @@
 use Rattle.std.specs.Prelude.{◌≡◌, ℕ, ◌+◌, ◌-◌, ◌*◌, ◌<◌, ◌≤◌, cond, List, [], ◌∷◌, ◌++◌, map, slice_index}
 use Rattle.text.specs.Spelled.{bytes}
 use Rattle.text.specs.Number.{whole_of}
-use Rattle.text.specs.declared.number.Number.TheVariants.{Got}
+use Rattle.std.specs.Prelude.{Some}
 use Rattle.network.specs.declared.Frame.{Frame}
 use Rattle.network.specs.Numbering.{point_level, Parts, OneIn}
 use Rattle.contour_rules.specs.Picture.{picture}
@@ -35,7 +35,7 @@ pub record Metres (mm : ℕ) (text : List ℕ) : Type 0 where
   pub third : ℕ
   pub small : (first < 10) × ((second < 10) × (third < 10))
   pub worth : mm ≡ 1000 * whole + 100 * first + 10 * second + third
-  pub spells : whole_of digits ≡ Got whole
+  pub spells : whole_of digits ≡ Some whole
   pub bytes : text ≡ digits ++ (46 ∷ (48 + first) ∷ (48 + second) ∷ (48 + third) ∷ [])
 
 -- x and y parted by a space

@@ -2,8 +2,8 @@
 use Rattle.mapping.proofs.Zero.{zero_whole}
 use Rattle.mapping.proofs.shown_of.Goals as goal
 
-pub returns-in-Off : goal.returns-in-Off
-returns-in-Off c = rw (c.in-Off.is, zero_whole)
+pub returns-in-None : goal.returns-in-None
+returns-in-None c = rw (c.in-None.is, zero_whole)
 
 pub returns-in-OnHorizontal : goal.returns-in-OnHorizontal
 returns-in-OnHorizontal c = rw c.in-OnHorizontal.is

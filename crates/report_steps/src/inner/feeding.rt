@@ -12,7 +12,6 @@ use register::header::register_points;
 use stream::inner::to_front;
 use stream::{Feed, Piece};
 use text::inner::line_end;
-use text::number::Number;
 
 // The longest row of a register on its layout, and with its CRLF the longest line.
 pub const LONGEST_ROW: usize = 84;
@@ -24,13 +23,13 @@ fn header_refusal(line: &[u8], points: usize) -> u32
     ensures { result ≡ points_refusal points (header_points line.now) }
 {
     match register_points(line) {
-        Number::Got(n) => {
+        Some(n) => {
             if n as usize == points {
                 return 0;
             }
             16
         }
-        Number::Off => 16,
+        None => 16,
     }
 }
 

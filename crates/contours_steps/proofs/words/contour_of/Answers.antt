@@ -5,23 +5,23 @@ use Rattle.contours_steps.proofs.words.contour_of.Goals as goal
 
 pub returns-then-v-lt-LEAST_CONTOUR : goal.returns-then-v-lt-LEAST_CONTOUR
 returns-then-v-lt-LEAST_CONTOUR c =
-    word_low c.args.word.now c.thousandths.ensures c.in-Got.v
-    c.in-Got.is
+    word_low c.args.word.now c.thousandths.ensures c.in-Some.v
+    c.in-Some.is
     (omega arith)
 
 pub returns-then-v-gt-MAX_CONTOUR : goal.returns-then-v-gt-MAX_CONTOUR
 returns-then-v-gt-MAX_CONTOUR c =
-    word_high c.args.word.now c.thousandths.ensures c.in-Got.v
-    c.in-Got.is
+    word_high c.args.word.now c.thousandths.ensures c.in-Some.v
+    c.in-Some.is
     (omega arith)
 
 pub returns-else-v-gt-MAX_CONTOUR : goal.returns-else-v-gt-MAX_CONTOUR
 returns-else-v-gt-MAX_CONTOUR c =
-    word_got c.args.word.now c.thousandths.ensures c.in-Got.v
-    c.in-Got.is
+    word_got c.args.word.now c.thousandths.ensures c.in-Some.v
+    c.in-Some.is
     (omega arith)
     (omega arith)
 
-pub returns-in-Off : goal.returns-in-Off
-returns-in-Off c =
-    word_off_rule c.args.word.now c.thousandths.ensures c.in-Off.is
+pub returns-in-None : goal.returns-in-None
+returns-in-None c =
+    word_off_rule c.args.word.now c.thousandths.ensures c.in-None.is

@@ -3,11 +3,11 @@ use Rattle.std.specs.Prelude.{◌≡◌, ◌<◌, length, get_or}
 use mathlib.Core.Path.{sym, ◌∙◌}
 use native.Mathlib.Omega.{arith}
 use borrow.Author.{Tests.eq-eqb, Tests.ne_eqb}
-use Rattle.text.specs.declared.number.Number.TheVariants.{Got, Off}
+use Rattle.std.specs.Prelude.{Some, None}
 use Rattle.flights.specs.Date.{digits_at, dated, date_of}
 use Rattle.flights.proofs.Dates.{part_text_lem}
 use Rattle.flights.proofs.day.date.Goals as goal
-use Rattle.flights.proofs.day.date.Goals.{Else-s-ne45-2, In-Got-digits_at-2}
+use Rattle.flights.proofs.day.date.Goals.{Else-s-ne45-2, In-Some-digits_at-2}
 
 pub returns-then-s-ne10 : goal.returns-then-s-ne10
 unfolding date_of
@@ -43,33 +43,33 @@ opened c =
 
 pub returns-in_default : goal.returns-in_default
 returns-in_default c =
-    let y : digits_at c.args.s.now 0 4 ≡ Off = cc in
+    let y : digits_at c.args.s.now 0 4 ≡ None = cc in
     sym (opened (goal.at.returns-in_default c).Else-s-ne45-2 ∙ rw y)
 
 pub returns-in_default-digits_at : goal.returns-in_default-digits_at
 returns-in_default-digits_at c =
     let s = c.args.s.now in
-    let y : digits_at s 0 4 ≡ Got c.in-Got.year = cc in
-    let m : digits_at s 5 2 ≡ Off = cc in
+    let y : digits_at s 0 4 ≡ Some c.in-Some.year = cc in
+    let m : digits_at s 5 2 ≡ None = cc in
     sym (opened (goal.at.returns-in_default-digits_at c).Else-s-ne45-2 ∙ rw (y, m))
 
 pub returns-in_default-digits_at-2 : goal.returns-in_default-digits_at-2
 returns-in_default-digits_at-2 c =
     let s = c.args.s.now in
-    let y : digits_at s 0 4 ≡ Got c.in-Got.year = cc in
-    let m : digits_at s 5 2 ≡ Got c.in-Got-digits_at.month = cc in
-    let d : digits_at s 8 2 ≡ Off = cc in
+    let y : digits_at s 0 4 ≡ Some c.in-Some.year = cc in
+    let m : digits_at s 5 2 ≡ Some c.in-Some-digits_at.month = cc in
+    let d : digits_at s 8 2 ≡ None = cc in
     sym (opened (goal.at.returns-in_default-digits_at-2 c).Else-s-ne45-2 ∙ rw (y, m, d))
 
 -- the three numbers are read, and have four digits, two and two
-three : (c : In-Got-digits_at-2) →
+three : (c : In-Some-digits_at-2) →
     let s = c.args.s.now in
-    (digits_at s 0 4 ≡ Got c.in-Got.year) × (digits_at s 5 2 ≡ Got c.in-Got-digits_at.month)
-    × (digits_at s 8 2 ≡ Got c.in-Got-digits_at-2.day)
+    (digits_at s 0 4 ≡ Some c.in-Some.year) × (digits_at s 5 2 ≡ Some c.in-Some-digits_at.month)
+    × (digits_at s 8 2 ≡ Some c.in-Some-digits_at-2.day)
 three c = (cc, cc, cc)
 
-small : (c : In-Got-digits_at-2) →
-    (c.in-Got.year < 10000) × (c.in-Got-digits_at.month < 100) × (c.in-Got-digits_at-2.day < 100)
+small : (c : In-Some-digits_at-2) →
+    (c.in-Some.year < 10000) × (c.in-Some-digits_at.month < 100) × (c.in-Some-digits_at-2.day < 100)
 small c =
     let s = c.args.s.now in
     let long : length s ≡ 10 = c.if-s-ne10.false in
@@ -81,20 +81,20 @@ small c =
 
 pub returns : goal.returns
 returns c =
-    let r = three (goal.at.returns c).In-Got-digits_at-2 in sym (opened (goal.at.returns c).Else-s-ne45-2 ∙ rw (r.0, r.1, r.2))
+    let r = three (goal.at.returns c).In-Some-digits_at-2 in sym (opened (goal.at.returns c).Else-s-ne45-2 ∙ rw (r.0, r.1, r.2))
 
 pub overflow_mul-result : goal.overflow_mul-result
 overflow_mul-result c =
-    let r = small (goal.at.overflow_mul-result c).In-Got-digits_at-2 in omega (arith, r.0, r.1, r.2)
+    let r = small (goal.at.overflow_mul-result c).In-Some-digits_at-2 in omega (arith, r.0, r.1, r.2)
 
 pub overflow_mul-result-2 : goal.overflow_mul-result-2
 overflow_mul-result-2 c =
-    let r = small (goal.at.overflow_mul-result-2 c).In-Got-digits_at-2 in omega (arith, r.0, r.1, r.2)
+    let r = small (goal.at.overflow_mul-result-2 c).In-Some-digits_at-2 in omega (arith, r.0, r.1, r.2)
 
 pub overflow_add-result : goal.overflow_add-result
 overflow_add-result c =
-    let r = small (goal.at.overflow_add-result c).In-Got-digits_at-2 in omega (arith, r.0, r.1, r.2)
+    let r = small (goal.at.overflow_add-result c).In-Some-digits_at-2 in omega (arith, r.0, r.1, r.2)
 
 pub overflow_add-result-2 : goal.overflow_add-result-2
 overflow_add-result-2 c =
-    let r = small (goal.at.overflow_add-result-2 c).In-Got-digits_at-2 in omega (arith, r.0, r.1, r.2)
+    let r = small (goal.at.overflow_add-result-2 c).In-Some-digits_at-2 in omega (arith, r.0, r.1, r.2)

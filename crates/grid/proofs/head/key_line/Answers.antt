@@ -3,16 +3,16 @@ use mathlib.Core.Path.{sym, ap, ◌∙◌}
 use Rattle.grid.specs.File.{number_after}
 use Rattle.grid.proofs.head.key_line.Goals as goal
 
-pub returns-in-Got : goal.returns-in-Got
-returns-in-Got c =
+pub returns-in-Some : goal.returns-in-Some
+returns-in-Some c =
     let a = c.args in
     let l = c.line_at-line.ensures in
     let k = c.key_number.ensures in
-    (ap (number_after a.key.now) (sym l.line) ∙ sym k ∙ c.in-Got.is, l.passed)
+    (ap (number_after a.key.now) (sym l.line) ∙ sym k ∙ c.in-Some.is, l.passed)
 
-pub returns-in-Off : goal.returns-in-Off
-returns-in-Off c =
+pub returns-in-None : goal.returns-in-None
+returns-in-None c =
     let a = c.args in
     let l = c.line_at-line.ensures in
     ap (number_after a.key.now) (sym l.line) ∙ sym c.key_number.ensures
-    ∙ c.in-Off.is
+    ∙ c.in-None.is

@@ -4,7 +4,7 @@ use native.Mathlib.Omega.{arith}
 use lib.ListN.{length-drop}
 use Rattle.text.specs.{Field.count_of, Field.field_of, Index.every, Index.many, Index.listing}
 use Rattle.text.specs.Number.{is_got, value_of}
-use Rattle.text.specs.declared.number.Number.TheVariants.{Got, Off}
+use Rattle.std.specs.Prelude.{Some, None}
 use Rattle.text.proofs.Fields.{at_start_rule, at_cut, at_next, at_last, up_length}
 use Rattle.text.proofs.Indices.{every_none, every_more, every_fails, store_more, many_most}
 use Rattle.register.specs.Cell.{cell_of, cell_at, got_at, value_at, blank_at}
@@ -38,7 +38,7 @@ read c = c.cell.ensures
 pub returns-in_default : goal.returns-in_default
 returns-in_default c =
     let a = c.args in
-    let off : cell_at a.table a.s.now c.loop-v.k ≡ Off =
+    let off : cell_at a.table a.s.now c.loop-v.k ≡ None =
     sym (read (goal.at.returns-in_default c).After-cell) ∙ c.in_default.is in
     c.off_cells.ensures
     ∙ sym (cells_off a.table a.s.now a.count
@@ -61,11 +61,11 @@ bounds-values-k c = omega (
 
 -- the value of this column, and whether it is a blank level
 got : (c : After-blank_level-blanks)
-    → cell_at c.args.table c.args.s.now c.loop-v.k ≡ Got c.in-Got.v
+    → cell_at c.args.table c.args.s.now c.loop-v.k ≡ Some c.in-Some.v
 got c =
     sym (c.cell.ensures
     ∙ ap (cell_of c.args.table c.loop-v.k) (at_cut c.loop-v.invariant.1 c.field_end-end.result c.field_end-end.ensures))
-    ∙ c.in-Got.is
+    ∙ c.in-Some.is
 
 blank : (c : After-blank_level-blanks)
     → c.blank_level-blanks.result ≡ cond (blank_cell c.loop-v.k (field_of 44 c.loop-v.k c.args.s.now)) 1 0
@@ -78,7 +78,7 @@ blank c = c.blank_level-blanks.ensures
 -- one column more
 more : (c : After-blank_level-blanks) → let a = c.args in let l = c.loop-v in
     (every (got_at a.table a.s.now) (l.k + 1) ≡ true)
-    × (set l.values l.k c.in-Got.v
+    × (set l.values l.k c.in-Some.v
     ≡ listing (value_at a.table a.s.now) (l.k + 1) ++ replicate (13 - (l.k + 1)) 0)
     × (l.blanks + c.blank_level-blanks.result ≡ many (blank_at a.s.now) (l.k + 1 - 5))
 more c =

@@ -6,7 +6,7 @@ use borrow.Author.{Tests.lt-ltb, Tests.le-ltb, Tests.le-leb, Tests.lt-leb, Tests
 use lib.{Dec.leb, ListN.length, ListN.take, Seq.length-take-le}
 use Rattle.movement.specs.Limits.{max_points}
 use Rattle.text.specs.Same.{same_text}
-use Rattle.text.specs.declared.number.Number.TheVariants.{Got, Off}
+use Rattle.std.specs.Prelude.{Some, None}
 use Rattle.register.specs.Header.{header_of}
 use Rattle.register.proofs.header.header_points.Goals as goal
 use Rattle.register.proofs.header.header_points.Goals.{Else-n-lead-ne0}
@@ -41,7 +41,7 @@ past : (c : Else-n-lead-ne0) → let a = c.args in
     let n = length a.s.now in
     header_of a.full.now a.lead a.s.now
     ≡ cond (leb ((n - a.lead) / 3) max_points && same_text a.s.now (take n a.full.now))
-    (Got ((n - a.lead) / 3)) Off
+    (Some ((n - a.lead) / 3)) None
 unfolding header_of
 past c =
     let a = c.args in

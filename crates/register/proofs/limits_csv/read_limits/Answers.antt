@@ -4,13 +4,13 @@ use mathlib.Core.{Path.◌≡◌, Path.sym, Path.ap, Path.◌∙◌, List.[]}
 use native.Mathlib.Omega.{arith}
 use lib.{ListN.length, ListN.take, ListN.drop, ListN.get_or, Seq.length-take-le}
 use Rattle.text.specs.Line.{first_line, lines_of}
-use Rattle.text.specs.declared.number.Number.TheVariants.{Got}
+use Rattle.std.specs.Prelude.{Some}
 use Rattle.text.proofs.Lines.{line_take, line_length, line_none, lines_first_lem, lines_next, lines_rest}
 use Rattle.register.specs.{Header.header_of, Header.limits_header, LimitsFile.limits_of, LimitsFile.second_limits}
 use Rattle.register.specs.declared.cell.Table.TheVariants.{LimitsFile}
 use Rattle.register.proofs.Rows.{header_range, cells_empty}
 use Rattle.register.proofs.limits_csv.read_limits.Goals as goal
-use Rattle.register.proofs.limits_csv.read_limits.Goals.{After-limits_points, After-line_end-end, In-Got}
+use Rattle.register.proofs.limits_csv.read_limits.Goals.{After-limits_points, After-line_end-end, In-Some}
 
 -- where the first line ends
 end : (c : After-line_end-end) → c.line_end-end.result ≡ length (first_line c.args.s.now)
@@ -39,23 +39,23 @@ returns-in_default c =
     c.refused_limits.ensures ∙ rw (sym (points (goal.at.returns-in_default c).After-limits_points) ∙ c.in_default.is)
 
 -- the header was read, so there is a line
-headed : (c : In-Got)
+headed : (c : In-Some)
     → let s = c.args.s.now in
-    header_of limits_header 4 (get_or (lines_of s) 0 []) ≡ Got c.in-Got.points
+    header_of limits_header 4 (get_or (lines_of s) 0 []) ≡ Some c.in-Some.points
 headed c =
     sym (c.limits_points.ensures ∙ read c.args.s.now c.line_end-end.result (omega (arith, c.line_end-end.ensures)))
-    ∙ c.in-Got.is
+    ∙ c.in-Some.is
 
-range : (c : In-Got)
+range : (c : In-Some)
     → let s = c.args.s.now in
-    (1 ≤ c.in-Got.points) × (c.in-Got.points ≤ 8) × (1 ≤ length s)
+    (1 ≤ c.in-Some.points) × (c.in-Some.points ≤ 8) × (1 ≤ length s)
 range c =
     let s = c.args.s.now in
-    let r = header_range limits_header 4 (get_or (lines_of s) 0 []) c.in-Got.points (headed c) in
+    let r = header_range limits_header 4 (get_or (lines_of s) 0 []) c.in-Some.points (headed c) in
     (r.0, r.1, omega (arith, r.2, ap length (lines_first_lem s), line_length s))
 
 -- the second line, and how many there are
-second : (c : In-Got)
+second : (c : In-Some)
     → let s = c.args.s.now in
     (get_or (lines_of s) 1 [] ≡ first_line (drop (c.line_end-end.result + 2) s))
     × (length (lines_of s) ≡ 1 + length
@@ -70,30 +70,30 @@ pub returns-then-s-end-lt2 : goal.returns-then-s-end-lt2
 unfolding limits_of second_limits
 returns-then-s-end-lt2 c =
     let s = c.args.s.now in
-    let n = c.in-Got.points in
+    let n = c.in-Some.points in
     let empty : first_line (drop (c.line_end-end.result + 2) s) ≡ [] =
     line_none s (c.line_end-end.result + 2)
     (omega (arith, c.if-s-end-lt2.true, within (goal.at.returns-then-s-end-lt2 c).After-line_end-end)) in
     c.refused_limits-then-s-end-lt2.ensures
     ∙ rw (
-      headed (goal.at.returns-then-s-end-lt2 c).In-Got,
-      (second (goal.at.returns-then-s-end-lt2 c).In-Got).0
+      headed (goal.at.returns-then-s-end-lt2 c).In-Some,
+      (second (goal.at.returns-then-s-end-lt2 c).In-Some).0
           ∙ empty,
-      cells_empty LimitsFile (1 + n) (omega (arith, (range (goal.at.returns-then-s-end-lt2 c).In-Got).0)),
+      cells_empty LimitsFile (1 + n) (omega (arith, (range (goal.at.returns-then-s-end-lt2 c).In-Some).0)),
     )
 
 pub second_limits-requires : goal.second_limits-requires
 second_limits-requires c = (
   omega (arith, c.if-s-end-lt2.false, within (goal.at.second_limits-requires c).After-line_end-end),
-  (range (goal.at.second_limits-requires c).In-Got).0,
-  (range (goal.at.second_limits-requires c).In-Got).1,
+  (range (goal.at.second_limits-requires c).In-Some).0,
+  (range (goal.at.second_limits-requires c).In-Some).1,
 )
 
 pub returns : goal.returns
 unfolding limits_of
 returns c =
-    let m = second (goal.at.returns c).In-Got in
-    c.second_limits.ensures ∙ rw (headed (goal.at.returns c).In-Got, m.0, m.1)
+    let m = second (goal.at.returns c).In-Some in
+    c.second_limits.ensures ∙ rw (headed (goal.at.returns c).In-Some, m.0, m.1)
 
 pub slice_bounds-limits_points-end : goal.slice_bounds-limits_points-end
 slice_bounds-limits_points-end c = sym (length-take-le _ _ (within c))

@@ -4,10 +4,10 @@ use mathlib.Core.Path.{sym, ◌∙◌}
 use native.Mathlib.Omega.{arith}
 use borrow.Author.{Tests.eq-eqb, Tests.ne_eqb}
 use Rattle.text.specs.Clock.{time_of, two_at, clock}
-use Rattle.text.specs.declared.number.Number.TheVariants.{Got, Off}
+use Rattle.std.specs.Prelude.{Some, None}
 use Rattle.text.proofs.Clocks.{two_under}
 use Rattle.text.proofs.clock.time.Goals as goal
-use Rattle.text.proofs.clock.time.Goals.{Else-s-ne58-2, In-Got-two_at-2}
+use Rattle.text.proofs.clock.time.Goals.{Else-s-ne58-2, In-Some-two_at-2}
 
 pub returns-then-s-ne58 : goal.returns-then-s-ne58
 unfolding time_of
@@ -40,33 +40,33 @@ opened c =
 pub returns-in_default : goal.returns-in_default
 returns-in_default c =
     let s = c.args.s.now in
-    let h : two_at s 0 24 ≡ Off = cc in
+    let h : two_at s 0 24 ≡ None = cc in
     sym (opened (goal.at.returns-in_default c).Else-s-ne58-2 ∙ rw h)
 
 pub returns-in_default-two_at : goal.returns-in_default-two_at
 returns-in_default-two_at c =
     let s = c.args.s.now in
-    let h : two_at s 0 24 ≡ Got c.in-Got.hour = cc in
-    let m : two_at s 3 60 ≡ Off = cc in
+    let h : two_at s 0 24 ≡ Some c.in-Some.hour = cc in
+    let m : two_at s 3 60 ≡ None = cc in
     sym (opened (goal.at.returns-in_default-two_at c).Else-s-ne58-2 ∙ rw (h, m))
 
 pub returns-in_default-two_at-2 : goal.returns-in_default-two_at-2
 returns-in_default-two_at-2 c =
     let s = c.args.s.now in
-    let h : two_at s 0 24 ≡ Got c.in-Got.hour = cc in
-    let m : two_at s 3 60 ≡ Got c.in-Got-two_at.minute = cc in
-    let z : two_at s 6 60 ≡ Off = cc in
+    let h : two_at s 0 24 ≡ Some c.in-Some.hour = cc in
+    let m : two_at s 3 60 ≡ Some c.in-Some-two_at.minute = cc in
+    let z : two_at s 6 60 ≡ None = cc in
     sym (opened (goal.at.returns-in_default-two_at-2 c).Else-s-ne58-2 ∙ rw (h, m, z))
 
 -- the three numbers are read, and are small
-three : (c : In-Got-two_at-2) →
+three : (c : In-Some-two_at-2) →
     let s = c.args.s.now in
-    (two_at s 0 24 ≡ Got c.in-Got.hour) × (two_at s 3 60 ≡ Got c.in-Got-two_at.minute)
-    × (two_at s 6 60 ≡ Got c.in-Got-two_at-2.second)
+    (two_at s 0 24 ≡ Some c.in-Some.hour) × (two_at s 3 60 ≡ Some c.in-Some-two_at.minute)
+    × (two_at s 6 60 ≡ Some c.in-Some-two_at-2.second)
 three c = (cc, cc, cc)
 
-small : (c : In-Got-two_at-2) →
-    (c.in-Got.hour < 24) × (c.in-Got-two_at.minute < 60) × (c.in-Got-two_at-2.second < 60)
+small : (c : In-Some-two_at-2) →
+    (c.in-Some.hour < 24) × (c.in-Some-two_at.minute < 60) × (c.in-Some-two_at-2.second < 60)
 small c = (two_under _ 0 24 _ (three c).0, two_under _ 3 60 _ (three c).1, two_under _ 6 60 _ (three c).2)
 
 pub returns : goal.returns

@@ -19,20 +19,20 @@ two-of c = let a = c.args in
 pub returns-then-n-bound : goal.returns-then-n-bound
 unfolding two_at
 returns-then-n-bound c =
-    let e = sym (two-of (goal.at.returns-then-n-bound c).After-digits) ∙ c.in-Got.is in
+    let e = sym (two-of (goal.at.returns-then-n-bound c).After-digits) ∙ c.in-Some.is in
     rw (
       e,
-      lt-ltb c.in-Got.n
+      lt-ltb c.in-Some.n
           c.args.bound c.if-n-bound.true,
     )
 
 pub returns-else-n-bound : goal.returns-else-n-bound
 unfolding two_at
 returns-else-n-bound c =
-    let e = sym (two-of (goal.at.returns-else-n-bound c).After-digits) ∙ c.in-Got.is in
+    let e = sym (two-of (goal.at.returns-else-n-bound c).After-digits) ∙ c.in-Some.is in
     rw (
       e,
-      le-ltb c.in-Got.n
+      le-ltb c.in-Some.n
           c.args.bound c.if-n-bound.false,
     )
 

@@ -7,24 +7,24 @@ use Rattle.text.proofs.number.thousandths.Goals as goal
 
 pub overflow_mul-result : goal.overflow_mul-result
 overflow_mul-result c =
-    omega (arith, decimal_small 2 _ _ (sym c.decimal-in-Off.ensures ∙ c.in-Got-decimal.is))
+    omega (arith, decimal_small 2 _ _ (sym c.decimal-in-None.ensures ∙ c.in-Some-decimal.is))
 
-pub returns-in-Got : goal.returns-in-Got
+pub returns-in-Some : goal.returns-in-Some
 unfolding thousandths_of
-returns-in-Got c =
-    let got = sym c.decimal.ensures ∙ c.in-Got.is in
+returns-in-Some c =
+    let got = sym c.decimal.ensures ∙ c.in-Some.is in
     rw got
 
-pub returns-in-Got-decimal : goal.returns-in-Got-decimal
+pub returns-in-Some-decimal : goal.returns-in-Some-decimal
 unfolding thousandths_of
-returns-in-Got-decimal c =
-    let off = sym c.decimal.ensures ∙ c.in-Off.is in
-    let got = sym c.decimal-in-Off.ensures ∙ c.in-Got-decimal.is in
+returns-in-Some-decimal c =
+    let off = sym c.decimal.ensures ∙ c.in-None.is in
+    let got = sym c.decimal-in-None.ensures ∙ c.in-Some-decimal.is in
     rw (off, got)
 
-pub returns-in-Off-decimal : goal.returns-in-Off-decimal
+pub returns-in-None-decimal : goal.returns-in-None-decimal
 unfolding thousandths_of
-returns-in-Off-decimal c =
-    let off = sym c.decimal.ensures ∙ c.in-Off.is in
-    let too = sym c.decimal-in-Off.ensures ∙ c.in-Off-decimal.is in
+returns-in-None-decimal c =
+    let off = sym c.decimal.ensures ∙ c.in-None.is in
+    let too = sym c.decimal-in-None.ensures ∙ c.in-None-decimal.is in
     rw (off, too)

@@ -5,12 +5,12 @@ use Rattle.report_steps.proofs.inner.feeding.header_refusal.Goals as goal
 
 pub returns-then-n-points : goal.returns-then-n-points
 returns-then-n-points c =
-    header_fits c.register_points.ensures c.in-Got.is c.if-n-points.true
+    header_fits c.register_points.ensures c.in-Some.is c.if-n-points.true
 
 pub returns-else-n-points : goal.returns-else-n-points
 returns-else-n-points c =
-    header_other c.register_points.ensures c.in-Got.is c.if-n-points.false
+    header_other c.register_points.ensures c.in-Some.is c.if-n-points.false
 
-pub returns-in-Off : goal.returns-in-Off
-returns-in-Off c =
-    header_off_lem c.args.points c.register_points.ensures c.in-Off.is
+pub returns-in-None : goal.returns-in-None
+returns-in-None c =
+    header_off_lem c.args.points c.register_points.ensures c.in-None.is
