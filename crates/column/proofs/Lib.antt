@@ -1,3 +1,2 @@
--- Laws for the loops that move a column's values: `Lists` on whole lists, `Parts` on a part that is lent on.
-pub mod Lists
+-- Laws for what is moved and put within a column.
 pub mod Parts
