@@ -7,7 +7,6 @@ ghost use Rattle.coupling.specs.InnerTurn.{wanted_rank, gap_from};
 
 use crate::gap::{Wanted, comes_before, head_gap, same_rank};
 use crate::pack::wide;
-use sorting::inner::copy_over;
 
 // The end of the run of tracks in `order`, from `at` on, of one class and moment.
 fn run_end(order: &[u32], at: usize, highs: &[u64], lows: &[u64], moments: &[u64]) -> usize
@@ -36,7 +35,7 @@ fn push(order: &[u32], at: usize, end: usize, stack: &mut [u32], top: usize)
         ≡ slice_range order.now at end ++ drop top stack.old }
 {
     let from = top - (end - at);
-    copy_over(&mut stack[from..top], &order[at..end]);
+    stack[from..top].copy_from_slice(&order[at..end]);
 }
 
 // Pushes the runs that come before the movement's class and moment; the place in `order` of the first that doesn't.

@@ -9,4 +9,4 @@ returns c =
     let a = c.args in
     pushed a.order.now a.stack.now a.at a.end a.top (omega arith) (omega arith) (omega arith)
     (omega arith)
-    c.copy_over.ensures refl
+    c.copy_from_slice.ensures.after refl
