@@ -14,9 +14,8 @@ pub fn write_network(levels: &[u32], frame: Frame, text: &mut [u8], size: &mut [
         × (text.new ≡ text_after levels.now frame text.old size.old)
         × (size.new ≡ size_after levels.now frame text.old size.old) }
 {
-    let why = refusal(levels, frame, MAX_NETWORK_LEVEL);
-    if why != 0 {
-        return why;
+    if let Err(why) = refusal(levels, frame, MAX_NETWORK_LEVEL) {
+        return why.number();
     }
     let n = text_size(levels, frame);
     if text.len() < n {

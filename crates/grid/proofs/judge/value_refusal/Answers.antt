@@ -13,18 +13,18 @@ other c = sym c.same_text.ensures ∙ c.if-same_text.false
 pub returns-then-v-le-MAX_NETWORK_LEVEL : goal.returns-then-v-le-MAX_NETWORK_LEVEL
 returns-then-v-le-MAX_NETWORK_LEVEL c =
     sym (level_here _ _ _ (other (goal.at.returns-then-v-le-MAX_NETWORK_LEVEL c).Else-same_text)
-    (sym c.thousandths.ensures ∙ c.in-Got.is)
+    (sym c.thousandths.ensures ∙ c.in-Some.is)
     c.if-v-le-MAX_NETWORK_LEVEL.true)
 
 pub returns-else-v-le-MAX_NETWORK_LEVEL : goal.returns-else-v-le-MAX_NETWORK_LEVEL
 returns-else-v-le-MAX_NETWORK_LEVEL c =
     sym (high_here _ _ _ (other (goal.at.returns-else-v-le-MAX_NETWORK_LEVEL c).Else-same_text)
-    (sym c.thousandths.ensures ∙ c.in-Got.is)
+    (sym c.thousandths.ensures ∙ c.in-Some.is)
     c.if-v-le-MAX_NETWORK_LEVEL.false)
 
-pub returns-in-Off : goal.returns-in-Off
-returns-in-Off c =
-    sym (neither_here _ _ (other (goal.at.returns-in-Off c).Else-same_text) (sym c.thousandths.ensures ∙ c.in-Off.is))
+pub returns-in-None : goal.returns-in-None
+returns-in-None c =
+    sym (neither_here _ _ (other (goal.at.returns-in-None c).Else-same_text) (sym c.thousandths.ensures ∙ c.in-None.is))
 
 pub returns-then-same_text : goal.returns-then-same_text
 returns-then-same_text c = sym (none_here _ _ (sym c.same_text.ensures ∙ c.if-same_text.true))

@@ -2,8 +2,8 @@
 use mathlib.Core.Path.{sym, ◌∙◌}
 use Rattle.grid.proofs.store.level_in.Goals as goal
 
-pub returns-in-Got : goal.returns-in-Got
-returns-in-Got c = let got = sym c.thousandths.ensures ∙ c.in-Got.is in rw got
+pub returns-in-Some : goal.returns-in-Some
+returns-in-Some c = let got = sym c.thousandths.ensures ∙ c.in-Some.is in rw got
 
-pub returns-in-Off : goal.returns-in-Off
-returns-in-Off c = let off = sym c.thousandths.ensures ∙ c.in-Off.is in rw off
+pub returns-in-None : goal.returns-in-None
+returns-in-None c = let off = sym c.thousandths.ensures ∙ c.in-None.is in rw off
