@@ -1,5 +1,5 @@
 -- Laws of the load: from the sums that the code makes, and from the array of arrays. Assumes nothing.
-use Rattle.std.specs.Prelude.{◌≡◌, ℕ, ◌+◌, ◌<◌, ◌≤◌, eqb, ltb, leb}
+use Rattle.std.specs.Prelude.{◌≡◌, ℕ, ◌+◌, ◌<◌, ◌≤◌, eqb, ltb, leb, Ok, Err}
 use mathlib.Core.Path.{refl, ap, ◌∙◌}
 use mathlib.Core.{Bool.Bool, Bool.true, Bool.false, Bool.cond, Bool.not, Bool.◌&&◌, List.List}
 use native.Mathlib.Omega.{arith}
@@ -7,18 +7,22 @@ use borrow.Author.Tests.{leb-true, ltb-true}
 use Rattle.level.specs.Level.{verdict_of}
 use Rattle.level.specs.declared.Level.{Level}
 use Rattle.movement.specs.Limits.{group_count}
-use Rattle.refusal.proofs.Laws.{and_left, and_right}
+use Rattle.refusal.specs.Refuse.{refuse}
+use Rattle.refusal.specs.Refusal.{number_of}
+use Rattle.refusal.specs.declared.Refusal.{Refusal}
+use Rattle.refusal.proofs.Laws.{and_left, and_right, refuse_none, numbered}
 use Rattle.book_rules.specs.Columns.{Book, sound}
 use Rattle.load_rules.specs.declared.{Group.Group, Counts.Counts}
 use Rattle.load_rules.specs.{Shares.Share, Tally.tally, Tally.list_from}
 use Rattle.load_rules.specs.Factors.{sum_to, known_sum, unknown_sum, general_factor}
 use Rattle.load_rules.specs.Load.{counts_of, scaled_sum, total_of, days_fit, none_computed, load_refusal}
-use Rattle.load_rules.specs.Load.{answer, refused_load, load_of}
+use Rattle.load_rules.specs.declared.Load.{Load}
+use Rattle.load_rules.specs.Load.{answer, refused_load, load_of, load_told}
+use Rattle.load_rules.specs.Told.{LoadTold}
 use Rattle.load_rules.specs.Verdict.{limit_fits, verdict_refusal, judged, judged_of}
 use Rattle.load_rules.proofs.{TallyLaws.AllGrouped, TallyLaws.rule_ten, FactorLaws.known_sum_lem}
 use Rattle.load.specs.declared.sums.{Sums.Sums, Totals.Totals}
-use Rattle.load.specs.InnerSteps.{table, group_at, Scalable, Bounded, sums_of, totals_of, load_from}
-use Rattle.load.specs.InnerSteps.{judged_by}
+use Rattle.load.specs.InnerSteps.{table, group_at, Scalable, Bounded, sums_of, totals_of, asked_refusal, load_from}
 use Rattle.load.proofs.BoundLaws.{scaled_sum_small}
 
 -- From the sums that the code makes
@@ -58,12 +62,11 @@ module _ (f : ℕ → Group) (days : ℕ) where
   unfolding load_from answer
   from_fine e = rw e refl
 
-  pub from_answered : (total : ℕ) (level : Level) (counts : List Counts) → none ≡ false
-      → total ≡ (answer f days).total → level ≡ (answer f days).level
-      → counts ≡ list_from (λ g. counts_of (f g)) 0 group_count
-      → record { refused = 0; total = total; level = level; counts = counts } ≡ load_from f days
+  pub from_answered : (load : Load) → none ≡ false
+      → load.total ≡ (answer f days).total → load.level ≡ (answer f days).level
+      → load.counts ≡ list_from (λ g. counts_of (f g)) 0 group_count → load_told (Ok load) ≡ load_from f days
   unfolding load_from answer
-  from_answered total level counts e t l c = rw (e, t, l, c) refl
+  from_answered load e t l c = rw (e, t, l, c) refl
 
   -- the array of arrays gives the load of what it holds
   pub from_table_rule : load_from (group_at (table f)) days ≡ load_from f days
@@ -72,9 +75,43 @@ module _ (f : ℕ → Group) (days : ℕ) where
 
 -- From the shares
 
--- the book is sound and the point is there
-pub fits_there : (p pt : ℕ) (b : Book) → (sound p b && ltb pt p) ≡ true → (sound p b ≡ true) × (pt < p)
-fits_there p pt b e = (and_left (sound p b) _ e, ltb-true pt p (and_right (sound p b) _ e))
+-- past the first two refusals the book is sound, the point is there and the days are in range
+pub asked_fine : (p pt : ℕ) (b : Book) (days : ℕ) → asked_refusal (sound p b && ltb pt p) days ≡ 0
+    → (sound p b ≡ true) × (pt < p) × (days_fit days ≡ true)
+unfolding asked_refusal
+asked_fine p pt b days e =
+    let nine = refuse_none 9 (sound p b && ltb pt p) _ (omega arith) e in
+    let eleven = refuse_none 11 (days_fit days) 0 (omega arith) nine.1 in
+    (and_left (sound p b) _ nine.0, ltb-true pt p (and_right (sound p b) _ nine.0), eleven.0)
+
+pub asked_fits : (fits : Bool) (days : ℕ) → asked_refusal fits days ≡ 0 → fits ≡ true
+unfolding asked_refusal
+asked_fits fits days e = (refuse_none 9 fits _ (omega arith) e).0
+
+-- and each of them is the load's and the verdict's
+pub asked_load : (fits : Bool) (ss : List Share) (days n : ℕ) → n ≡ asked_refusal fits days → 0 < n
+    → refused_load n ≡ load_of fits ss days
+unfolding asked_refusal load_of load_refusal
+asked_load false ss days n e h = ap refused_load e
+asked_load true ss days n e h = go (days_fit days) e
+  where
+    go : (d : Bool) → n ≡ refuse 11 d 0
+        → refused_load n ≡ cond (eqb (refuse 11 d (refuse 10 (not (none_computed ss)) 0)) 0) (answer (tally ss) days)
+        (refused_load (refuse 11 d (refuse 10 (not (none_computed ss)) 0)))
+    go false z = ap refused_load z
+    go true z = absurd (omega arith)
+
+pub asked_verdict : (fits : Bool) (ss : List Share) (days limit n : ℕ) → n ≡ asked_refusal fits days → 0 < n
+    → Err n ≡ judged_of fits ss days limit
+unfolding asked_refusal judged_of verdict_refusal judged
+asked_verdict false ss days limit n e h = ap Err e
+asked_verdict true ss days limit n e h = go (days_fit days) e
+  where
+    go : (d : Bool) → n ≡ refuse 11 d 0
+        → Err n ≡ judged (refuse 11 d (refuse 15 (limit_fits limit) (refuse 10 (not (none_computed ss)) 0)))
+        (verdict_of (answer (tally ss) days).level limit)
+    go false z = ap Err z
+    go true z = absurd (omega arith)
 
 pub some_days : (days : ℕ) → days_fit days ≡ true → 1 ≤ days
 unfolding days_fit
@@ -91,13 +128,29 @@ module _ (ss : List Share) (days : ℕ) (fit : days_fit days ≡ true) where
       go false = refl
 
   -- the verdict is that on the load
-  pub judged_load : (limit : ℕ) → limit_fits limit ≡ true
-      → judged_of true ss days limit ≡ judged_by (load_of true ss days) limit
-  unfolding judged_of verdict_refusal judged_by judged load_of load_refusal answer refused_load
-  judged_load limit l = rw (fit, l) (go (none_computed ss))
+  pub judged_answered : (load : Load) (limit : ℕ) → limit_fits limit ≡ true
+      → load_told (Ok load) ≡ load_of true ss days
+      → Ok (verdict_of load.level limit) ≡ judged_of true ss days limit
+  unfolding judged_of verdict_refusal judged load_of load_refusal answer refused_load
+  judged_answered load limit l = rw (fit, l) (go (none_computed ss))
     where
-      go : (t : Bool) → judged (cond (not t) 0 10) (verdict_of (answer (tally ss) days).level limit)
-          ≡ judged_by (cond (eqb (cond (not t) 0 10) 0) (answer (tally ss) days) (refused_load (cond (not t) 0 10)))
-          limit
-      go true = refl
-      go false = refl
+      go : (t : Bool) → load_told (Ok load) ≡ cond (eqb (cond (not t) 0 10) 0) (answer (tally ss) days)
+          (refused_load (cond (not t) 0 10))
+          → Ok (verdict_of load.level limit)
+          ≡ judged (cond (not t) 0 10) (verdict_of (answer (tally ss) days).level limit)
+      go true e = absurd (let refused : LoadTold → ℕ = λ a. a.refused in omega (arith, ap refused e))
+      go false e = ap (λ (a : LoadTold). Ok (verdict_of a.level limit)) e
+
+  pub judged_refused : (why : Refusal) (limit : ℕ) → limit_fits limit ≡ true
+      → load_told (Err why) ≡ load_of true ss days
+      → Err (number_of why) ≡ judged_of true ss days limit
+  unfolding judged_of verdict_refusal judged load_of load_refusal answer refused_load
+  judged_refused why limit l = rw (fit, l) (go (none_computed ss))
+    where
+      go : (t : Bool) → load_told (Err why) ≡ cond (eqb (cond (not t) 0 10) 0) (answer (tally ss) days)
+          (refused_load (cond (not t) 0 10))
+          → Err (number_of why)
+          ≡ judged (cond (not t) 0 10) (verdict_of (answer (tally ss) days).level limit)
+      go true e = ap (λ (a : LoadTold). Err a.refused) e
+      go false e =
+          absurd (let refused : LoadTold → ℕ = λ a. a.refused in omega (arith, ap refused e, numbered why))

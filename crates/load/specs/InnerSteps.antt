@@ -1,19 +1,18 @@
 -- Inner steps: no promise uses them. What the functions of the crate require of and ensure to one another.
 -- Assumes nothing.
-use Rattle.std.specs.Prelude.{ℕ, ◌+◌, ◌*◌, ◌/◌, ◌%◌, ◌<◌, ◌≤◌, cond, ◌&&◌, List, [], ◌==◌, nat_lt, slice_index_or}
+use Rattle.std.specs.Prelude.{ℕ, ◌+◌, ◌*◌, ◌/◌, ◌%◌, ◌<◌, ◌≤◌, Bool, cond, ◌&&◌, List, [], ◌==◌, nat_lt, slice_index_or}
 use Rattle.level.specs.Tables.{IsTableA, ArePowers}
 use Rattle.level.specs.Limits.{max_movements, max_energy, max_total}
 use Rattle.level.specs.Energy.{mean_of}
-use Rattle.level.specs.Level.{level_of, verdict_of}
+use Rattle.level.specs.Level.{level_of}
 use Rattle.movement.specs.Limits.{group_count}
+use Rattle.refusal.specs.Refuse.{refuse}
 use Rattle.load_rules.specs.declared.Group.{Group}
-use Rattle.load_rules.specs.declared.Load.{Load}
-use Rattle.load_rules.specs.declared.Judged.{Judged}
 use Rattle.load_rules.specs.Shares.{energy_in}
 use Rattle.load_rules.specs.Tally.{group_with, list_from}
 use Rattle.load_rules.specs.Factors.{ratio, scaled_by, sum_to, known, unknown, known_sum, unknown_sum}
-use Rattle.load_rules.specs.Load.{counts_of, scaled_energy, answer, refused_load}
-use Rattle.load_rules.specs.Verdict.{judged}
+use Rattle.load_rules.specs.Load.{counts_of, scaled_energy, days_fit, answer, refused_load}
+use Rattle.load_rules.specs.Told.{LoadTold}
 use Rattle.load.specs.declared.sums.Sums.{Sums}
 use Rattle.load.specs.declared.sums.Totals.{Totals}
 
@@ -87,12 +86,12 @@ pub record Fitting (s : Sums) (c : Group) : Type 0 where
   pub scaled : s.scaled ≤ max_energy * s.known
   pub energy : c.energy ≤ c.computed * max_energy
 
+-- the first two refusals of a load, of its account and of a verdict. `fits`: the book is sound and the point is there
+unfoldable pub asked_refusal : (fits : Bool) (days : ℕ) → ℕ
+asked_refusal fits days = refuse 9 fits (refuse 11 (days_fit days) 0)
+
 -- the load of what the groups hold, where neither 9 nor 11 is given: 10 where none is known and some are unknown
-unfoldable pub load_from : (ℕ → Group) → ℕ → Load
+unfoldable pub load_from : (ℕ → Group) → ℕ → LoadTold
 load_from f days =
     cond (known_sum (λ g. counts_of (f g)) == 0 && nat_lt 0 (unknown_sum (λ g. counts_of (f g)))) (refused_load 10)
     (answer f days)
-
--- the verdict on a load
-unfoldable pub judged_by : Load → ℕ → Judged
-judged_by l limit = judged l.refused (verdict_of l.level limit)

@@ -2,6 +2,7 @@
 ghost use Rattle.std.specs.Prelude.{◌≡◌, ◌+◌, ◌<◌, ◌≤◌, true, length};
 ghost use Rattle.movement.specs.Limits.{group_count};
 ghost use Rattle.book_rules.specs.Columns.{book_lent};
+ghost use Rattle.refusal.specs.Refusal.{told};
 ghost use Rattle.room.specs.Room.{front, put, Writes};
 ghost use Rattle.load_rules.specs.Factors.{ratio};
 ghost use Rattle.load_rules.specs.Load.{days_fit, book_load};
@@ -9,11 +10,12 @@ ghost use Rattle.load_rules.specs.Account.{group_numbers, groups_to, whole_numbe
 ghost use Rattle.load_rules.specs.Account.{whole_from, account_size};
 ghost use Rattle.load.specs.InnerSteps.{group_at, Scalable, Bounded, load_from};
 
+use crate::may_ask;
 use crate::sums::{Sums, Totals, none_computed, scaled_by, summed, totals_of};
 use crate::tally::{group_at, groups_of};
-use crate::{days_fit, point_fits};
 use load_rules::{Group, Groups};
 use movement::limits::GROUPS;
+use refusal::Refusal;
 
 // The groups' four numbers each, and those of the whole.
 const WHOLE_FROM: usize = 4 * GROUPS;
@@ -31,18 +33,13 @@ pub fn account_at(
     point: usize,
     days: u32,
     answer: &mut [u64],
-) -> u32
+) -> Result<(), Refusal>
     ensures { Writes
         (book_load points point (book_lent ids.now groups.now marks.now counts.now levels.now) days).refused
         (account_of points point (book_lent ids.now groups.now marks.now counts.now levels.now) days)
-        answer.old result answer.new }
+        answer.old (told result) answer.new }
 {
-    if !point_fits(ids, groups, marks, counts, levels, points, point) {
-        return 9;
-    }
-    if !days_fit(days) {
-        return 11;
-    }
+    may_ask(ids, groups, marks, counts, levels, points, point, days)?;
     put_account(
         groups_of(ids, groups, marks, counts, levels, points, point),
         days,
@@ -50,23 +47,23 @@ pub fn account_at(
     )
 }
 
-// The account of groups that were tallied: refusal 10 as for their load.
-fn put_account(groups: Groups, days: u32, answer: &mut [u64]) -> u32
+// The account of groups that were tallied: refused as their load is.
+fn put_account(groups: Groups, days: u32, answer: &mut [u64]) -> Result<(), Refusal>
     requires bounded { Bounded groups }
     requires days_value { days_fit days ≡ true }
     ensures { Writes (load_from (group_at groups) days).refused (account_from (group_at groups) days)
-        answer.old result answer.new }
+        answer.old (told result) answer.new }
 {
     let sums = summed(groups);
     if none_computed(sums) {
-        return 10;
+        return Err(Refusal::NoneComputed);
     }
     if answer.len() < ACCOUNT_NUMBERS {
-        return 14;
+        return Err(Refusal::TooLittleRoom);
     }
     put_groups(groups, answer);
     put_whole(sums, totals_of(sums, days), answer);
-    0
+    Ok(())
 }
 
 // Writes the numbers of all groups to the front.

@@ -79,10 +79,7 @@ pub(crate) fn summed(groups: Groups) -> Sums
 pub(crate) fn none_computed(s: Sums) -> bool
     ensures { result ≡ (s.known == 0 && nat_lt 0 s.unknown) }
 {
-    if s.known != 0 {
-        return false;
-    }
-    0 < s.unknown
+    s.known == 0 && 0 < s.unknown
 }
 
 // The total over a number of days: P by the general factor.

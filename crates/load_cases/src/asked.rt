@@ -1,7 +1,9 @@
 // What a line asks of a book.
 use cases::fields::{letter, number, numbers, place, wide};
 use cases::show::told;
-use load_rules::{Judged, Load};
+use level::Verdict;
+use load_rules::Load;
+use refusal::Refusal;
 
 fn enter(
     ids: &mut [u32],
@@ -57,22 +59,34 @@ fn supply(
     );
 }
 
+fn withdraw(
+    ids: &mut [u32],
+    groups: &mut [u32],
+    marks: &mut [u32],
+    counts: &mut [u32],
+    levels: &mut [u32],
+    line: &[u8],
+) {
+    let points = place(line, 4);
+    let identity = number(line, 5);
+    book::withdraw(ids, groups, marks, counts, levels, points, identity);
+}
+
 // The refusal, the total, the level and whether it is given, and V and U of the first and the last group.
-fn show_load(line: &[u8], load: Load) {
-    let level = load.level;
-    let all = load.counts;
-    let first = all[0];
-    let last = all[17];
-    let got = [
-        load.refused as u64,
-        load.total,
-        wide(level.given()),
-        wide(level.value()),
-        wide(first.computed),
-        wide(first.missing),
-        wide(last.computed),
-        wide(last.missing),
-    ];
+fn show_load(line: &[u8], answer: Result<Load, Refusal>) {
+    let got = match answer {
+        Ok(load) => [
+            0,
+            load.total,
+            wide(load.level.given()),
+            wide(load.level.value()),
+            wide(load.counts[0].computed),
+            wide(load.counts[0].missing),
+            wide(load.counts[17].computed),
+            wide(load.counts[17].missing),
+        ],
+        Err(why) => [wide(why.number()), 0, 0, 0, 0, 0, 0, 0],
+    };
     told(line, 7, 0, &got);
 }
 
@@ -87,11 +101,12 @@ fn total(ids: &[u32], groups: &[u32], marks: &[u32], counts: &[u32], levels: &[u
 }
 
 // The refusal's number, and 1 for over.
-fn show_verdict(line: &[u8], judged: Judged) {
-    match judged {
-        Judged::Refused(n) => told(line, 8, 0, &[n as u64, 0]),
-        Judged::Given(v) => told(line, 8, 0, &[0, v.number() as u64]),
-    }
+fn show_verdict(line: &[u8], answer: Result<Verdict, Refusal>) {
+    let got = match answer {
+        Ok(verdict) => [0, wide(verdict.number())],
+        Err(why) => [wide(why.number()), 0],
+    };
+    told(line, 8, 0, &got);
 }
 
 fn verdict(
@@ -123,16 +138,11 @@ fn told_of(
     levels: &[u32],
     line: &[u8],
 ) {
-    let what = letter(line);
-    if what == b't' {
-        total(ids, groups, marks, counts, levels, line);
-        return;
+    match letter(line) {
+        b't' => total(ids, groups, marks, counts, levels, line),
+        b'v' => verdict(ids, groups, marks, counts, levels, line),
+        _ => told(line, 5, 0, &[level::inner::mean(40000000000, 1)]),
     }
-    if what == b'v' {
-        verdict(ids, groups, marks, counts, levels, line);
-        return;
-    }
-    told(line, 5, 0, &[level::inner::mean(40000000000, 1)]);
 }
 
 pub(crate) fn ask(
@@ -143,26 +153,10 @@ pub(crate) fn ask(
     levels: &mut [u32],
     line: &[u8],
 ) {
-    let what = letter(line);
-    if what == b'e' {
-        enter(ids, groups, marks, counts, levels, line);
-        return;
+    match letter(line) {
+        b'e' => enter(ids, groups, marks, counts, levels, line),
+        b's' => supply(ids, groups, marks, counts, levels, line),
+        b'w' => withdraw(ids, groups, marks, counts, levels, line),
+        _ => told_of(ids, groups, marks, counts, levels, line),
     }
-    if what == b's' {
-        supply(ids, groups, marks, counts, levels, line);
-        return;
-    }
-    if what == b'w' {
-        book::withdraw(
-            ids,
-            groups,
-            marks,
-            counts,
-            levels,
-            place(line, 4),
-            number(line, 5),
-        );
-        return;
-    }
-    told_of(ids, groups, marks, counts, levels, line);
 }

@@ -41,19 +41,12 @@ fn ask(
     let rows = place(line, 1);
     let marked = place(line, 2);
     let cells = place(line, 3);
-    if ids.len() < rows {
-        return;
-    }
-    if groups.len() < rows {
-        return;
-    }
-    if marks.len() < marked {
-        return;
-    }
-    if counts.len() < cells {
-        return;
-    }
-    if levels.len() < cells {
+    if ids.len() < rows
+        || groups.len() < rows
+        || marks.len() < marked
+        || counts.len() < cells
+        || levels.len() < cells
+    {
         return;
     }
     asked::ask(
@@ -74,28 +67,14 @@ fn case(
     levels: &mut [u32],
     line: &[u8],
 ) {
-    let what = letter(line);
-    if what == b'i' {
-        fill(ids, line);
-        return;
+    match letter(line) {
+        b'i' => fill(ids, line),
+        b'g' => fill(groups, line),
+        b'm' => fill(marks, line),
+        b'c' => fill(counts, line),
+        b'l' => fill(levels, line),
+        _ => ask(ids, groups, marks, counts, levels, line),
     }
-    if what == b'g' {
-        fill(groups, line);
-        return;
-    }
-    if what == b'm' {
-        fill(marks, line);
-        return;
-    }
-    if what == b'c' {
-        fill(counts, line);
-        return;
-    }
-    if what == b'l' {
-        fill(levels, line);
-        return;
-    }
-    ask(ids, groups, marks, counts, levels, line);
 }
 
 fn run(

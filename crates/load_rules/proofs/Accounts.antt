@@ -8,7 +8,8 @@ use lib.{ListN.length, ListN.get_or, ListN.length-append, ListN.get_or-append, S
 use Rattle.movement.specs.Limits.{group_count}
 use Rattle.book_rules.specs.Columns.{Book, sound}
 use Rattle.book_rules.specs.History.{Movement, Made, empty_book, booked}
-use Rattle.load_rules.specs.declared.{Group.Group, Counts.Counts, Load.Load}
+use Rattle.load_rules.specs.declared.{Group.Group, Counts.Counts}
+use Rattle.load_rules.specs.Told.{LoadTold}
 use Rattle.load_rules.specs.{Shares.shares_of, Shares.book_shares, Tally.tally}
 use Rattle.load_rules.specs.Factors.{known_sum, group_factor, general_factor}
 use Rattle.load_rules.specs.Load.{counts_of, scaled_energy, scaled_sum, total_of, answer, book_load}
@@ -121,7 +122,7 @@ book_account p pt b days z =
 
 -- After any calls on an empty book of n rows and p points
 
-pub told_same : {v v' u u' s s' : ℕ → ℕ} {load : Load} {numbers : List ℕ}
+pub told_same : {v v' u u' s s' : ℕ → ℕ} {load : LoadTold} {numbers : List ℕ}
     → v ≡ v' → u ≡ u' → s ≡ s' → AccountTells v u s load numbers
     → AccountTells v' u' s' load numbers
 told_same a b c t = rw (← a, ← b, ← c) t

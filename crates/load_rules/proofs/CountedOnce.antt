@@ -13,7 +13,8 @@ use Rattle.movement.specs.Limits.{group_count}
 use Rattle.book_rules.specs.Columns.{Book, sound}
 use Rattle.book_rules.specs.History.{Movement, sizes_fit, empty_book, Made, booked, movements}
 use Rattle.book_rules.proofs.{Standing.AllGood, History.told_all, History.history_sound}
-use Rattle.load_rules.specs.declared.{Group.Group, Counts.Counts, Load.Load}
+use Rattle.load_rules.specs.declared.{Group.Group, Counts.Counts}
+use Rattle.load_rules.specs.Told.{LoadTold}
 use Rattle.load_rules.specs.Shares.{Share, any_computed, shares_of, book_shares}
 use Rattle.load_rules.specs.Tally.{sum_of, tally, list_from}
 use Rattle.load_rules.specs.Factors.{sum_to, scaled_by, known, known_sum, unknown_sum, group_factor}
@@ -58,7 +59,7 @@ module _ (pt : ℕ) (ms : List Movement) (days : ℕ) (grouped : AllGrouped (sha
   abbrev ss : List Share
   ss = shares_of pt ms
 
-  abbrev a : Load
+  abbrev a : LoadTold
   a = answer (tally (shares_of pt ms)) days
 
   standing : sum_to (λ g. (counts_at a g).computed + (counts_at a g).missing) group_count ≡ length ms
@@ -206,7 +207,7 @@ module _ (p pt n : ℕ) (cs : List Made) where
         (told_all p n cs).same,
         ((refusals days).answered.0 z).0.rows.1,
       ) in
-      subst (λ (a : Load). CountsEach a pt (standing_at p n pt cs) days) (sym e)
+      subst (λ (a : LoadTold). CountsEach a pt (standing_at p n pt cs) days) (sym e)
       (answer_counts pt (standing_at p n pt cs) days (history_grouped p pt n cs) p (history_good p pt n cs) room)
 
   -- where nobody counts

@@ -6,15 +6,18 @@ use Prim.Native.Nat.{ℕ, suc, ◌≤◌, ◌<◌}
 use native.Mathlib.Omega.{arith}
 use lib.Dec.{eqb, ltb}
 use borrow.Author.Tests.{eqb-true, eqb-false, ltb-true}
+use Rattle.std.specs.Prelude.{Result, Ok, Err}
 use Rattle.level.specs.declared.{Level.Level, Verdict.Verdict}
 use Rattle.level.specs.Level.{level_given, level_value, verdict_of, verdict_number}
 use Rattle.level.proofs.Neighbours.{by_neighbours}
 use Rattle.refusal.specs.Refuse.{refuse}
+use Rattle.refusal.specs.declared.Refusal.{Refusal}
+use Rattle.refusal.proofs.Laws.{numbered, same_number}
 use Rattle.book_rules.specs.Columns.{Book, sound}
-use Rattle.load_rules.specs.declared.{Load.Load, Judged.Judged}
+use Rattle.load_rules.specs.declared.Load.{Load}
+use Rattle.load_rules.specs.Told.{LoadTold, Judged, judged_told}
 use Rattle.load_rules.specs.{Shares.Share, Shares.book_shares, Tally.tally}
-use Rattle.load_rules.specs.Load.{days_fit, none_computed, load_refusal, answer, refused_load, load_of, book_load}
-use Rattle.load_rules.specs.declared.Judged.TheVariants.{Refused, Given}
+use Rattle.load_rules.specs.Load.{days_fit, none_computed, load_refusal, answer, refused_load, load_of, book_load, load_told}
 use Rattle.load_rules.specs.Verdict.{limit_fits, verdict_refusal, refusal_number, over_number, judged, judged_of}
 use Rattle.load_rules.specs.Verdict.{book_verdict, Judging}
 
@@ -23,20 +26,20 @@ pub number-of : (n : ℕ) (v : Verdict) → refusal_number (judged n v) ≡ n
 unfolding judged
 number-of n v = go (eqb n 0) refl
   where
-    go : (t : Bool) → eqb n 0 ≡ t → refusal_number (cond t (Given v) (Refused n)) ≡ n
+    go : (t : Bool) → eqb n 0 ≡ t → refusal_number (cond t (Ok v) (Err n)) ≡ n
     go true e = sym (eqb-true n 0 e)
     go false e = refl
 
 -- and where it is a refusal that number is not 0
-pub refused_told : (n : ℕ) (v : Verdict) (m : ℕ) → judged n v ≡ Refused m → 1 ≤ m
+pub refused_told : (n : ℕ) (v : Verdict) (m : ℕ) → judged n v ≡ Err m → 1 ≤ m
 unfolding judged
 refused_told n v m = go (eqb n 0) refl
   where
     one_more : Judged → ℕ
-    one_more (Refused n) = suc n
-    one_more (Given v) = 0
+    one_more (Err n) = suc n
+    one_more (Ok v) = 0
 
-    go : (t : Bool) → eqb n 0 ≡ t → cond t (Given v) (Refused n) ≡ Refused m → 1 ≤ m
+    go : (t : Bool) → eqb n 0 ≡ t → cond t (Ok v) (Err n) ≡ Err m → 1 ≤ m
     go true e h = absurd (omega (arith, ap one_more h))
     go false e h = omega (arith, eqb-false n 0 e, ap one_more h)
 
@@ -44,7 +47,7 @@ over_of : (n : ℕ) (v : Verdict) → over_number (judged n v) ≡ cond (eqb n 0
 unfolding judged
 over_of n v = go (eqb n 0)
   where
-    go : (t : Bool) → over_number (cond t (Given v) (Refused n)) ≡ cond t (verdict_number v) 0
+    go : (t : Bool) → over_number (cond t (Ok v) (Err n)) ≡ cond t (verdict_number v) 0
     go true = refl
     go false = refl
 
@@ -111,14 +114,31 @@ over_exactly_when p pt b days limit = go (eqb (refusal_number r) 0) refl (judgin
         (λ h. let h' = w.0 (sym o ∙ h) in (eqb-true _ 0 e, h'.0, h'.1), λ h. o ∙ w.1 (h.1, h.2))
     go false e o = (λ h. absurd (omega arith), λ h. absurd (eqb-false _ 0 e h.0))
 
-pub same_load : (p pt : ℕ) (b : Book) (days : ℕ) (r s : Load) → r ≡ book_load p pt b days
-    → s ≡ book_load p pt b days
-    → r ≡ s
-same_load p pt b days r s e f = e ∙ sym f
+abbrev refused : LoadTold → ℕ
+refused l = l.refused
 
-pub same_verdict : (p pt : ℕ) (b : Book) (days limit : ℕ) (r s : Judged) → Judging p pt b days limit r
-    → Judging p pt b days limit s → r ≡ s
-same_verdict p pt b days limit r s e f = e.answer ∙ sym f.answer
+-- what is told says which outcome it is
+same_load_told : (r s : Result Load Refusal) → load_told r ≡ load_told s → r ≡ s
+unfolding refused_load
+same_load_told (Ok a) (Ok b) e =
+    ap (λ (l : LoadTold). Ok (record { total = l.total; level = l.level; counts = l.counts })) e
+same_load_told (Ok a) (Err why) e = absurd (omega (arith, ap refused e, numbered why))
+same_load_told (Err why) (Ok b) e = absurd (omega (arith, ap refused e, numbered why))
+same_load_told (Err why) (Err more) e = ap Err (same_number why more (ap refused e))
+
+same_judged_told : (r s : Result Verdict Refusal) → judged_told r ≡ judged_told s → r ≡ s
+same_judged_told (Ok v) (Ok w) e = ap Ok (cc)
+same_judged_told (Ok v) (Err why) e = cc
+same_judged_told (Err why) (Ok w) e = cc
+same_judged_told (Err why) (Err more) e = ap Err (same_number why more (cc))
+
+pub same_load : (p pt : ℕ) (b : Book) (days : ℕ) (r s : Result Load Refusal) → load_told r ≡ book_load p pt b days
+    → load_told s ≡ book_load p pt b days → r ≡ s
+same_load p pt b days r s e f = same_load_told r s (e ∙ sym f)
+
+pub same_verdict : (p pt : ℕ) (b : Book) (days limit : ℕ) (r s : Result Verdict Refusal)
+    → Judging p pt b days limit (judged_told r) → Judging p pt b days limit (judged_told s) → r ≡ s
+same_verdict p pt b days limit r s e f = same_judged_told r s (e.answer ∙ sym f.answer)
 
 -- shares that are the same at a point that is there: z is all else that has to fit
 module _ (p pt : ℕ) (z : Bool) {xs ys : List Share} (e : pt < p → xs ≡ ys) where

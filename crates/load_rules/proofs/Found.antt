@@ -16,7 +16,8 @@ use Rattle.book_rules.specs.Lookup.Row.{nowhere}
 use Rattle.book_rules.proofs.{Standing.AllGood, Standing.Rising, Reading.book_read, Kept.read_rows}
 use Rattle.book_rules.proofs.SoundBook.{sound_exactly}
 use Rattle.book_rules.proofs.Listed.{rows_found, listed_none, listed_this, listed_later, below_none}
-use Rattle.load_rules.specs.declared.{Group.Group, Load.Load}
+use Rattle.load_rules.specs.declared.{Group.Group}
+use Rattle.load_rules.specs.Told.{LoadTold}
 use Rattle.load_rules.specs.{Shares.Share, Shares.counting_at, Shares.shares_of, Shares.book_shares}
 use Rattle.load_rules.specs.Tally.{group_with, tally}
 use Rattle.load_rules.specs.Factors.{sum_to}
@@ -225,7 +226,7 @@ module _ (p pt : ℕ) (b : Book) (ok : (sound p b ≡ true) × (pt < p)) where
       load_answered (sound p b && ltb pt p) (book_shares p pt b) days z
       ∙ ap (λ (l : List Share). answer (tally l) days) shares in (
         a,
-        subst (λ (l : Load). CountsEach l pt here days) (sym a)
+        subst (λ (l : LoadTold). CountsEach l pt here days) (sym a)
             (answer_counts pt here days (shares_grouped p pt here fit) p fit few),
       )
 
@@ -235,7 +236,7 @@ module _ (p pt : ℕ) (b : Book) (ok : (sound p b ≡ true) × (pt < p)) where
       let e = each_counted days z in
       let number = counting_found p pt all good ∙ by_look_up (one_there pt) refl in
       record {
-        size = ap (λ (l : Load). length l.counts) e.0;
+        size = ap (λ (l : LoadTold). length l.counts) e.0;
         computed = λ g h. e.1.computed g h ∙ v_found g;
         missing = λ g h. e.1.missing g h ∙ u_found g;
         standing = e.1.standing ∙ number;

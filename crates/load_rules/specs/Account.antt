@@ -8,7 +8,7 @@ use Rattle.movement.specs.Limits.{group_count}
 use Rattle.book_rules.specs.Columns.{Book}
 use Rattle.book_rules.specs.History.{Made, empty_book, booked}
 use Rattle.load_rules.specs.declared.Group.{Group}
-use Rattle.load_rules.specs.declared.Load.{Load}
+use Rattle.load_rules.specs.Told.{LoadTold}
 use Rattle.load_rules.specs.Shares.{book_shares}
 use Rattle.load_rules.specs.Tally.{tally}
 use Rattle.load_rules.specs.Factors.{Fraction, sum_to, general_factor}
@@ -53,7 +53,7 @@ account_size = whole_from + 6
 -- What an account says, number by number
 
 -- the 78 numbers for these V, U and S of each group and this load, every step by its bounds on both sides
-pub record AccountTells (v u s : ℕ → ℕ) (load : Load) (numbers : List ℕ) : Type 0 where
+pub record AccountTells (v u s : ℕ → ℕ) (load : LoadTold) (numbers : List ℕ) : Type 0 where
   pub size : length numbers ≡ 78
   -- four numbers a group: V, U, S, and S·(V+U)/V rounded down, or 0 where none is computed
   pub computed : (g : ℕ) → g < 18 → get_or numbers (4 * g) 0 ≡ v g

@@ -12,8 +12,7 @@ use Rattle.book_rules.specs.History.{Held, Movement, movement, sizes_fit, has_le
 use Rattle.book_rules.specs.History.{movements}
 use Rattle.book_rules.specs.History.Held.{none, holds}
 use Rattle.load_rules.specs.declared.Counts.{Counts}
-use Rattle.load_rules.specs.declared.Load.{Load}
-use Rattle.load_rules.specs.declared.Judged.{Judged}
+use Rattle.load_rules.specs.Told.{LoadTold, Judged}
 use Rattle.load_rules.specs.Shares.{counting_at, Everywhere, shares_of}
 use Rattle.load_rules.specs.Factors.{Fraction, whole_fraction, times, plus, Equal, scaled_by}
 use Rattle.load_rules.specs.Factors.{sum_to, group_factor, general_factor}
@@ -23,7 +22,7 @@ use Rattle.load_rules.specs.Refusals.{InRange, DaysInRange, LimitInRange, NoneHe
 use Rattle.load_rules.specs.Refusals.{LoadNumbers, VerdictNumbers}
 
 -- the load and the verdict at point pt of movements in a book of n rows and p points: those that count there
-unfoldable pub list_load : (p n pt : ℕ) (movements : List Movement) (days : ℕ) → Load
+unfoldable pub list_load : (p n pt : ℕ) (movements : List Movement) (days : ℕ) → LoadTold
 list_load p n pt ms days = load_of (sizes_fit p n && ltb pt p) (shares_of pt (counting_at pt ms)) days
 
 unfoldable pub list_verdict : (p n pt : ℕ) (movements : List Movement) (days limit : ℕ) → Judged
@@ -87,7 +86,7 @@ pub record EachBrings (pt : ℕ) : Type 0 where
 -- Every movement is counted once
 
 -- V and U of group g in an answer
-abbrev pub counts_at : Load → ℕ → Counts
+abbrev pub counts_at : LoadTold → ℕ → Counts
 counts_at a g = get_or a.counts g (record { computed = 0; missing = 0 })
 
 -- the sum, over the groups below n with V > 0, of V times its group factor and the general factor
@@ -113,7 +112,7 @@ pub record TotalHolds (v u s : ℕ → ℕ) (total : ℕ) : Type 0 where
   pub empty : known ≡ 0 → total ≡ 0
 
 -- what an answered load over these days says of the movements that stand and count at the point
-pub record CountsEach (a : Load) (pt : ℕ) (ms : List Movement) (days : ℕ) : Type 0 where
+pub record CountsEach (a : LoadTold) (pt : ℕ) (ms : List Movement) (days : ℕ) : Type 0 where
   -- its V and U are those of the list
   pub computed : (g : ℕ) → g < group_count → (counts_at a g).computed ≡ computed_in g ms
   pub missing : (g : ℕ) → g < group_count → (counts_at a g).missing ≡ missing_in g ms
@@ -136,19 +135,19 @@ pub record CountsEach (a : Load) (pt : ℕ) (ms : List Movement) (days : ℕ) : 
   pub no_movement : length ms ≡ 0 → (a.total ≡ 0) × (level_given a.level ≡ 0)
 
 -- a refusal's number alone: nothing is answered beside it
-pub record Alone (a : Load) : Type 0 where
+pub record Alone (a : LoadTold) : Type 0 where
   pub total : a.total ≡ 0
   pub level : level_given a.level ≡ 0
   pub counts : (g : ℕ) → g < 18 → ((counts_at a g).computed ≡ 0) × ((counts_at a g).missing ≡ 0)
 
 -- the answer where nobody counts at the point
-pub record NobodyThere (a : Load) : Type 0 where
+pub record NobodyThere (a : LoadTold) : Type 0 where
   pub answered : a.refused ≡ 0
   pub total : a.total ≡ 0
   pub below : level_given a.level ≡ 0
 
 -- the load and the verdict at point pt after calls cs, refused ones included, on an empty book of n rows and p points
-abbrev pub load_after : (p n pt : ℕ) (calls : List Made) (days : ℕ) → Load
+abbrev pub load_after : (p n pt : ℕ) (calls : List Made) (days : ℕ) → LoadTold
 load_after p n pt cs days = book_load p pt (booked (empty_book p n) cs) days
 
 abbrev pub verdict_after : (p n pt : ℕ) (calls : List Made) (days limit : ℕ) → Judged

@@ -6,7 +6,7 @@ use Rattle.level.specs.Level.{level_of, level_given}
 use Rattle.book_rules.specs.Columns.{Book}
 use Rattle.book_rules.specs.Lookup.{Row, found}
 use Rattle.book_rules.specs.Lookup.Row.{nowhere, row}
-use Rattle.load_rules.specs.declared.Load.{Load}
+use Rattle.load_rules.specs.Told.{LoadTold}
 use Rattle.load_rules.specs.Factors.{whole_fraction, Equal, sum_to}
 use Rattle.load_rules.specs.{Load.book_load, Account.account_of, Account.AccountTells}
 use Rattle.load_rules.specs.Afresh.{counts_at, weight_to, TotalHolds}
@@ -32,7 +32,7 @@ abbrev pub over_all : (p : ℕ) (book : Book) → (Row → ℕ) → ℕ
 over_all p b w = sum_to (λ i. w (found (suc i) p b)) 99999
 
 -- what an answered load a over these days says of the rows of a book, at point pt of p
-pub record FoundCounted (a : Load) (p pt : ℕ) (b : Book) (days : ℕ) : Type 0 where
+pub record FoundCounted (a : LoadTold) (p pt : ℕ) (b : Book) (days : ℕ) : Type 0 where
   -- V and U of a group, at its number, are the movements found of it that count there, computed and not
   pub size : length a.counts ≡ 18
   pub computed : (g : ℕ) → g < 18

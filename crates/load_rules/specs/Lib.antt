@@ -8,3 +8,4 @@ pub mod Afresh
 pub mod Account
 pub mod Elsewhere
 pub mod Found
+pub mod Told

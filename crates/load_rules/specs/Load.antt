@@ -1,15 +1,19 @@
 -- The load at a point: RULES, "Energy and load".
 -- Assumes nothing.
 use Rattle.std.specs.Prelude.{ℕ, Bool, cond, not, ◌&&◌, List, length, replicate, eqb, leb, ltb}
+use Rattle.std.specs.Prelude.{Result, Ok, Err}
 use Rattle.level.specs.Energy.{mean_of}
 use Rattle.level.specs.declared.Level.TheVariants.{BelowZero}
 use Rattle.level.specs.Level.{level_of}
 use Rattle.movement.specs.Limits.{group_count, max_days}
 use Rattle.refusal.specs.Refuse.{refuse}
+use Rattle.refusal.specs.Refusal.{number_of}
+use Rattle.refusal.specs.declared.Refusal.{Refusal}
 use Rattle.book_rules.specs.Columns.{Book, sound}
 use Rattle.load_rules.specs.declared.Group.{Group}
 use Rattle.load_rules.specs.declared.Counts.{Counts}
 use Rattle.load_rules.specs.declared.Load.{Load}
+use Rattle.load_rules.specs.Told.{LoadTold}
 use Rattle.load_rules.specs.Shares.{Share, any_computed, book_shares}
 use Rattle.load_rules.specs.Tally.{tally, list_from}
 use Rattle.load_rules.specs.Factors.{scaled_by, sum_to, group_factor, general_factor}
@@ -45,7 +49,7 @@ load_refusal fits ss days = refuse 9 fits (refuse 11 (days_fit days) (refuse 10 
 -- Answers
 
 -- total, level, and V and U of each group
-unfoldable pub answer : (ℕ → Group) → (days : ℕ) → Load
+unfoldable pub answer : (ℕ → Group) → (days : ℕ) → LoadTold
 answer f days =
     record {
       refused = 0;
@@ -55,7 +59,7 @@ answer f days =
     }
 
 -- a refusal's number alone
-unfoldable pub refused_load : ℕ → Load
+unfoldable pub refused_load : ℕ → LoadTold
 refused_load n =
     record {
       refused = n;
@@ -64,10 +68,15 @@ refused_load n =
       counts = replicate group_count (record { computed = 0; missing = 0 });
     }
 
-unfoldable pub load_of : (fits : Bool) → List Share → (days : ℕ) → Load
+-- what a call for a load tells, answered or refused
+abbrev pub load_told : Result Load Refusal → LoadTold
+load_told (Ok load) = record { refused = 0; total = load.total; level = load.level; counts = load.counts }
+load_told (Err why) = refused_load (number_of why)
+
+unfoldable pub load_of : (fits : Bool) → List Share → (days : ℕ) → LoadTold
 load_of fits ss days =
     cond (eqb (load_refusal fits ss days) 0) (answer (tally ss) days) (refused_load (load_refusal fits ss days))
 
 -- the load at point pt of a book with p points
-unfoldable pub book_load : (points point : ℕ) (book : Book) (days : ℕ) → Load
+unfoldable pub book_load : (points point : ℕ) (book : Book) (days : ℕ) → LoadTold
 book_load p pt b days = load_of (sound p b && ltb pt p) (book_shares p pt b) days

@@ -1,11 +1,10 @@
 -- When a load and a verdict are refused: RULES, "Refusal numbers", with its own numbers. Each number is given
 -- exactly where its reason holds and no earlier one does, so that two reasons exchanged are stopped here.
 -- Assumes nothing.
-use Rattle.std.specs.Prelude.{ℕ, ◌+◌, ◌*◌, ◌≤◌, ◌<◌, ◌≡◌, ◌↔◌, List, [], length, get_or, true}
+use Rattle.std.specs.Prelude.{ℕ, ◌+◌, ◌*◌, ◌≤◌, ◌<◌, ◌≡◌, ◌↔◌, List, [], length, get_or, true, Err}
 use Rattle.book_rules.specs.Columns.{Book, sound}
 use Rattle.book_rules.specs.History.{Movement, movement}
 use Rattle.book_rules.specs.History.Held.{none}
-use Rattle.load_rules.specs.declared.Judged.TheVariants.{Refused}
 use Rattle.load_rules.specs.Load.{book_load}
 use Rattle.load_rules.specs.Verdict.{refusal_number, book_verdict}
 
@@ -59,4 +58,4 @@ pub record BookRefusals (p pt : ℕ) (b : Book) (days : ℕ) : Type 0 where
       → VerdictNumbers ((sound p b ≡ true) × (pt < p)) (DaysInRange days) (LimitInRange limit) (NoneMarked p pt b)
       (refusal_number (book_verdict p pt b days limit))
   -- and a refusal is told with a number: 0 is that of a verdict
-  pub told : (limit n : ℕ) → book_verdict p pt b days limit ≡ Refused n → 1 ≤ n
+  pub told : (limit n : ℕ) → book_verdict p pt b days limit ≡ Err n → 1 ≤ n

@@ -1,13 +1,12 @@
 -- The verdict at a point, and its answers by the rules' numbers: "Energy and load", "Refusal numbers".
 -- Assumes nothing.
-use Rattle.std.specs.Prelude.{ℕ, ◌≡◌, Bool, cond, not, ◌&&◌, List, eqb, leb, ltb}
+use Rattle.std.specs.Prelude.{ℕ, ◌≡◌, Bool, cond, not, ◌&&◌, List, eqb, leb, ltb, Ok, Err}
 use Rattle.level.specs.Level.{verdict_of, verdict_number}
 use Rattle.level.specs.declared.Verdict.{Verdict}
 use Rattle.movement.specs.Limits.{max_limit}
 use Rattle.refusal.specs.Refuse.{refuse}
 use Rattle.book_rules.specs.Columns.{Book, sound}
-use Rattle.load_rules.specs.declared.Judged.{Judged}
-use Rattle.load_rules.specs.declared.Judged.TheVariants.{Refused, Given}
+use Rattle.load_rules.specs.Told.{Judged}
 use Rattle.load_rules.specs.Shares.{Share, book_shares}
 use Rattle.load_rules.specs.Tally.{tally}
 use Rattle.load_rules.specs.Load.{days_fit, none_computed, answer, book_load}
@@ -22,16 +21,16 @@ verdict_refusal fits ss days limit =
 
 -- the rules' numbers of an answer: that of the refusal, and 0 of a verdict; and 1 over, 0 within or refused
 abbrev pub refusal_number : Judged → ℕ
-refusal_number (Refused n) = n
-refusal_number (Given v) = 0
+refusal_number (Err n) = n
+refusal_number (Ok v) = 0
 
 abbrev pub over_number : Judged → ℕ
-over_number (Refused n) = 0
-over_number (Given v) = verdict_number v
+over_number (Err n) = 0
+over_number (Ok v) = verdict_number v
 
 -- the answer of number n, where the verdict v goes with 0
 unfoldable pub judged : ℕ → Verdict → Judged
-judged n v = cond (eqb n 0) (Given v) (Refused n)
+judged n v = cond (eqb n 0) (Ok v) (Err n)
 
 unfoldable pub judged_of : (fits : Bool) (shares : List Share) (days limit : ℕ) → Judged
 judged_of fits ss days limit =

@@ -23,19 +23,10 @@ pub struct Counts {
     pub missing: u32,
 }
 
-// A load: a refusal's number, and zeros with it, or 0 with the total energy, the level, and V and U of each group by
-// its number.
+// A load: the total energy, the level, and V and U of each group by its number.
 #[derive(Clone, Copy)]
 pub struct Load {
-    pub refused: u32,
     pub total: u64,
     pub level: level::Level,
     pub counts: [Counts; GROUPS],
-}
-
-// A verdict, or a refusal's number.
-#[derive(Clone, Copy)]
-pub enum Judged {
-    Refused(u32),
-    Given(level::Verdict),
 }

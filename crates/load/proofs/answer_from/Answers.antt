@@ -22,8 +22,7 @@ none c =
 
 pub returns-then-none_computed : goal.returns-then-none_computed
 returns-then-none_computed c =
-    c.refusal.ensures
-    ∙ sym (from_refused (group_at c.args.groups) c.args.days
+    sym (from_refused (group_at c.args.groups) c.args.days
     (sym (none (goal.at.returns-then-none_computed c).After-none_computed)
     ∙ c.if-none_computed.true))
 
@@ -31,10 +30,9 @@ pub returns : goal.returns
 returns c =
     let same = sums_totals c.args.groups c.summed-sums.result c.summed-sums.ensures c.args.days
     c.totals_of-totals.ensures in
-    from_answered (group_at c.args.groups) c.args.days c.totals_of-totals.result.total
-    c.totals_of-totals.result.level c.counts_of-counts.result
+    from_answered (group_at c.args.groups) c.args.days _
     (sym (none (goal.at.returns c).After-none_computed) ∙ c.if-none_computed.false) same.0 same.1
-    c.counts_of-counts.ensures
+    c.counts_of.ensures
 
 pub totals_of-totals-requires : goal.totals_of-totals-requires
 totals_of-totals-requires c =

@@ -4,7 +4,7 @@ use mathlib.Core.{Path.◌≡◌, Path.sym, Path.ap, Path.◌∙◌, Bool.◌&&�
 use Rattle.std.specs.Prelude.{◌+◌, eqb, ltb}
 use native.Mathlib.Omega.{arith}
 use Rattle.room.proofs.Answers.{refuse, lack, write}
-use Rattle.load_rules.specs.declared.Load.{Load}
+use Rattle.load_rules.specs.Told.{LoadTold}
 use Rattle.load_rules.specs.{Factors.known_sum, Factors.unknown_sum, Load.counts_of, Load.refused_load}
 use Rattle.load_rules.proofs.Accounts.{length_account}
 use Rattle.load.specs.InnerSteps.{group_at, Scalable, load_from}
@@ -35,7 +35,7 @@ fine c =
 pub returns-then-none_computed : goal.returns-then-none_computed
 unfolding refused_load
 returns-then-none_computed c =
-    refuse (ap (λ (l : Load). l.refused)
+    refuse (ap (λ (l : LoadTold). l.refused)
     (from_refused (group_at c.args.groups) c.args.days
     (sym (none (goal.at.returns-then-none_computed c).After-none_computed) ∙ c.if-none_computed.true)))
     (λ z. omega arith)
