@@ -5,15 +5,14 @@ use Rattle.std.specs.Prelude.{ℕ, zero, suc, ◌+◌, ◌*◌, ◌<◌, ◌≤�
 use native.Mathlib.Omega.{arith}
 use borrow.Author.Tests.{leb-true, le-leb}
 use lib.{Dec.leb, Ieee.Float, ListN.length, ListN.get_or}
-use Rattle.refusal.specs.Refuse.{refuse}
 use Rattle.room.specs.Room.{front, fits_in, then_room}
-use Rattle.room.proofs.{Fronts.front_at, Fronts.front_past, Fronts.left_alone, Answers.first_none_lem}
+use Rattle.room.proofs.{Fronts.front_at, Fronts.front_past, Fronts.left_alone}
 use Rattle.network.specs.declared.Frame.{Frame}
 use Rattle.network.specs.{Ranges.RoomRefused, Refusals.contour_refusal}
 use Rattle.network.proofs.{Refusals.both, Ranges.room_refused}
 use Rattle.mapping.specs.Fractions.{whole, crossing_of, which_of, fraction_shown}
 use Rattle.mapping.specs.{Places.located_of, Places.shown_of, Many.numbers_of, Many.places_of, Many.Many}
-use Rattle.mapping.specs.{OneCrossing.OneCrossing, Room.shown_at, Room.ManyInRoom, Room.CrossingInRoom}
+use Rattle.mapping.specs.{OneCrossing.OneCrossing, Room.ManyInRoom, Room.CrossingInRoom}
 use Rattle.mapping.proofs.Fill.{length-numbers, length_places}
 
 -- ---- refusals
@@ -80,9 +79,6 @@ module _ (levels : List ℕ) (f : Frame) (v : ℕ) where
       coordinates : places' ≡ front (places_of levels f v edges) places
       coordinates = m.left_second ∙ rw none refl
 
-      shown : (n : ℕ) → shown_of (located_of levels f v n) ≡ shown_at levels f v n
-      shown n = rw (first_none_lem (contour_refusal levels f v) (refuse 14 fits 0) none).0
-
     pub many_in_room : ManyInRoom levels f v edges which places answer which' places'
     many_in_room = record {
       refusal = subst (RoomRefused levels f v Enough) (sym m.number) (room_refused levels f v Enough fits enough);
@@ -94,21 +90,21 @@ module _ (levels : List ℕ) (f : Frame) (v : ℕ) where
         numbers z,
         front_at (numbers_of levels f v edges) which i 0 (rw (length-numbers levels f v edges) h),
         numbers_at edges i h,
-      ) (ap (λ s. s.which) (shown z (get_or edges i 0)));
+      );
       east = λ z i h.
           let l : length (places_of levels f v edges) ≡ 2 * length edges = length_places levels f v edges in
           rw (
             coordinates z,
             front_at (places_of levels f v edges) places (2 * i) (whole 0) (omega arith),
             (places_at edges i (whole 0) h).0,
-          ) (ap (λ s. s.x) (shown z (get_or edges i 0)));
+          );
       north = λ z i h.
           let l : length (places_of levels f v edges) ≡ 2 * length edges = length_places levels f v edges in
           rw (
             coordinates z,
             front_at (places_of levels f v edges) places (2 * i + 1) (whole 0) (omega arith),
             (places_at edges i (whole 0) h).1,
-          ) (ap (λ s. s.y) (shown z (get_or edges i 0)));
+          );
       which_kept = λ z i h. rw (numbers z)
           (front_past (numbers_of levels f v edges) which i 0 (rw (length-numbers levels f v edges) h));
       places_kept = λ z i h. rw (coordinates z)
@@ -145,9 +141,6 @@ module _ (levels : List ℕ) (f : Frame) (v : ℕ) where
       part : fraction' ≡ front parts fraction
       part = m.left_second ∙ rw lent_none refl
 
-      right : contour_refusal levels f v ≡ 0
-      right = (first_none_lem (contour_refusal levels f v) (refuse 14 lent_fits 0) lent_none).0
-
     pub crossing_in_room : CrossingInRoom levels f v n which fraction answer which' fraction'
     crossing_in_room = record {
       refusal = subst (RoomRefused levels f v LentEnough) (sym m.number)
@@ -156,8 +149,8 @@ module _ (levels : List ℕ) (f : Frame) (v : ℕ) where
         m.left_first ∙ left_alone lent-due kinds which (λ e. h (m.number ∙ e)),
         m.left_second ∙ left_alone lent-due parts fraction (λ e. h (m.number ∙ e)),
       );
-      number = λ z. rw (kind z, right z) refl;
-      place = λ z. rw (part z, right z) refl;
+      number = λ z. rw (kind z);
+      place = λ z. rw (part z);
       which_kept = λ z i h. rw (kind z) (front_past kinds which i 0 h);
       fraction_kept = λ z i h. rw (part z) (front_past parts fraction i (whole 0) h);
     }

@@ -1,10 +1,11 @@
 -- What is answered for the edge of a number is the rules' crossing and map point, or none. Assumes nothing.
 use mathlib.Core.{Path.◌≡◌, Path.refl, Path.sym, Path.ap, Path.◌∙◌, Bool.Bool, Bool.true, Bool.false}
 use mathlib.Core.{Logic.◌⊎◌, Logic.inl, List.List}
-use Rattle.std.specs.Prelude.{ℕ, ◌+◌, ◌*◌, ◌<◌, ◌≤◌}
+use Rattle.std.specs.Prelude.{ℕ, ◌+◌, ◌*◌, ◌<◌, ◌≤◌, Option, Some, Ok, Err}
 use native.Mathlib.{Nat.mul-le-mul, Nat.le_of_lt, Omega.arith}
-use borrow.Author.Tests.{ltb-true, eqb-true, lt-ltb, le-ltb, eq-eqb}
-use lib.{Dec.ltb, Dec.eqb, Ieee.binary64, Ieee.round, Ieee.of_int}
+use borrow.Author.Tests.{ltb-true, lt-ltb, le-ltb}
+use lib.{Dec.ltb, Ieee.binary64, Ieee.round, Ieee.of_int}
+use Rattle.refusal.proofs.Laws.{answered}
 use Rattle.network.specs.declared.{Edge.Edge, Frame.Frame}
 use Rattle.network.specs.declared.Edge.TheVariants.{Horizontal, Vertical}
 use Rattle.network.specs.{Limits.max_side, Limits.max_origin, Edges.edges, Edges.edge_at, Edges.Checked}
@@ -12,13 +13,12 @@ use Rattle.network.specs.{Crossed.crossed_edge, Crossed.crossed_at, Crossed.dist
 use Rattle.network.proofs.{Numbers.by_cond, Numbering.parts, Numbering.edges_numbered, Numbering.crossed_exactly}
 use Rattle.network.proofs.{Ranges.contour_refused, Astride.astride, Astride.num_den}
 use Rattle.network.proofs.Refusals.{both, contour_not_refused}
-use Rattle.mapping.specs.declared.{Crossing.Crossing, Asked.Asked, Mapped.Mapped}
-use Rattle.mapping.specs.declared.Asked.TheVariants.{Crossed}
-use Rattle.mapping.specs.declared.Mapped.TheVariants.{Place}
+use Rattle.mapping.specs.declared.Crossing.{Crossing}
 use Rattle.mapping.specs.Fractions.{whole, fraction_of, along_edge, is_crossed, crossing_of, which_of, fraction_shown}
-use Rattle.mapping.specs.Fractions.{asked_refusal, asked_fraction, crossing_asked}
-use Rattle.mapping.specs.Places.{row_of, col_of, locate, mapped_refusal, mapped_of}
-use Rattle.mapping.specs.Ranges.{Within, Exactly, Divided, AlongRow, AlongColumn, None, ByNumber, Answered}
+use Rattle.mapping.specs.Fractions.{asked_fraction, CrossingAsked}
+use Rattle.mapping.specs.Places.{row_of, col_of, locate, located_of, MapPointAsked}
+use Rattle.mapping.specs.Ranges.{Within, Exactly, Divided, Asked, Mapped, AlongRow, AlongColumn, None, ByNumber}
+use Rattle.mapping.specs.Ranges.{Answered}
 use Rattle.mapping.proofs.{Ends.ends_small, Quotients.whole_value_lem}
 use Rattle.mapping.proofs.{Range.quotient_ranged, Range.at_least, Range.at_most, Stepwise.moves}
 
@@ -34,7 +34,7 @@ unfolding of_int
 zero_within = fraction_within 0 1 (omega arith, omega arith)
 
 along_within : (levels : List ℕ) (nx v : ℕ) (e : Edge) → crossed_edge levels nx v e ≡ true
-    → Within 0 (fraction_shown (along_edge levels nx v e)) 1
+    → Within 0 (fraction_shown (Some (along_edge levels nx v e))) 1
 along_within levels nx v (Horizontal row col) h = fraction_within _ _ (num_den v _ _ (astride v _ _ h))
 along_within levels nx v (Vertical row col) h = fraction_within _ _ (num_den v _ _ (astride v _ _ h))
 
@@ -58,27 +58,20 @@ divided v a b w = record {
 }
 
 module _ (levels : List ℕ) (f : Frame) (v n : ℕ) where
-  -- the calls' refusals are those of the network and the contour level
-  asked_refused : asked_refusal (crossing_asked levels f v n) ≡ contour_refusal levels f v
-  asked_refused = by_cond (λ (a : Asked). asked_refusal a ≡ contour_refusal levels f v)
-      (eqb (contour_refusal levels f v) 0) _ _ (λ h. sym (eqb-true _ _ h)) (λ _. refl)
-
-  mapped_refused : mapped_refusal (mapped_of levels f v n) ≡ contour_refusal levels f v
-  mapped_refused = by_cond (λ (a : Mapped). mapped_refusal a ≡ contour_refusal levels f v)
-      (eqb (contour_refusal levels f v) 0) _ _ (λ h. sym (eqb-true _ _ h)) (λ _. refl)
-
   -- the answered fraction is never under 0 or over 1
-  pub fraction_range : Within 0 (asked_fraction (crossing_asked levels f v n)) 1
-  fraction_range =
-      by_cond (λ (a : Asked). Within 0 (asked_fraction a) 1) (eqb (contour_refusal levels f v) 0) _ _
-      (λ _. by_cond (λ (c : Crossing). Within 0 (fraction_shown c) 1) (is_crossed levels f v n) _ _
+  shown_within : Within 0 (fraction_shown (crossing_of levels f v n)) 1
+  shown_within =
+      by_cond (λ (c : Option Crossing). Within 0 (fraction_shown c) 1) (is_crossed levels f v n) _ _
       (λ h. along_within levels f.columns v (edge_at f.columns f.rows n) (in_network levels f v n h).1)
-      (λ _. zero_within))
       (λ _. zero_within)
+
+  pub fraction_range : (asked : Asked) → CrossingAsked levels f v n asked → Within 0 (asked_fraction asked) 1
+  fraction_range (Ok c) a = rw a.answer shown_within
+  fraction_range (Err why) a = zero_within
 
   module _ (z : contour_refusal levels f v ≡ 0) where
     abbrev Both : (Asked → Mapped → Type 0) → Type 0
-    Both P = P (crossing_asked levels f v n) (mapped_of levels f v n)
+    Both P = P (Ok (crossing_of levels f v n)) (Ok (located_of levels f v n))
 
     k : Checked levels f
     k = (contour_not_refused levels f v z).0
@@ -89,12 +82,12 @@ module _ (levels : List ℕ) (f : Frame) (v n : ℕ) where
     -- a property of the crossing and the map point of edge e, which is crossed
     crossed_at_rule : (P : Asked → Mapped → Type 0) (e : Edge) → edge_at f.columns f.rows n ≡ e
         → is_crossed levels f v n ≡ true
-        → P (Crossed (along_edge levels f.columns v e))
-        (Place (locate (along_edge levels f.columns v e) (row_of e) (col_of e) f)) → Both P
-    crossed_at_rule P e q h p = rw (eq-eqb (contour_refusal levels f v) 0 z, h, q) p
+        → P (Ok (Some (along_edge levels f.columns v e)))
+        (Ok (locate (Some (along_edge levels f.columns v e)) (row_of e) (col_of e) f)) → Both P
+    crossed_at_rule P e q h p = rw (h, q) p
 
     none_at_rule : is_crossed levels f v n ≡ false → Both (None levels f v)
-    none_at_rule h = rw (eq-eqb (contour_refusal levels f v) 0 z, h) (refl, refl)
+    none_at_rule h = rw h (refl, refl)
 
     -- the edge of the number, whether it is crossed, and that it is one
     is_crossed_rule : (b : Bool) → n < edges f.columns f.rows
@@ -108,8 +101,8 @@ module _ (levels : List ℕ) (f : Frame) (v n : ℕ) where
 
     along_row : (row col : ℕ) → row < f.rows → col + 1 < f.columns
         → crossed_edge levels f.columns v (Horizontal row col) ≡ true
-        → AlongRow levels f v row col (Crossed (along_edge levels f.columns v (Horizontal row col)))
-        (Place (locate (along_edge levels f.columns v (Horizontal row col)) row col f))
+        → AlongRow levels f v row col (Ok (Some (along_edge levels f.columns v (Horizontal row col))))
+        (Ok (locate (Some (along_edge levels f.columns v (Horizontal row col))) row col f))
     along_row row col h l x =
         let w = astride v _ _ x in
         let d = num_den v _ _ w in
@@ -123,8 +116,8 @@ module _ (levels : List ℕ) (f : Frame) (v n : ℕ) where
 
     along_column : (row col : ℕ) → row + 1 < f.rows → col < f.columns
         → crossed_edge levels f.columns v (Vertical row col) ≡ true
-        → AlongColumn levels f v row col (Crossed (along_edge levels f.columns v (Vertical row col)))
-        (Place (locate (along_edge levels f.columns v (Vertical row col)) row col f))
+        → AlongColumn levels f v row col (Ok (Some (along_edge levels f.columns v (Vertical row col))))
+        (Ok (locate (Some (along_edge levels f.columns v (Vertical row col))) row col f))
     along_column row col h l x =
         let w = astride v _ _ x in
         let d = num_den v _ _ w in
@@ -141,8 +134,8 @@ module _ (levels : List ℕ) (f : Frame) (v n : ℕ) where
         → edge_at f.columns f.rows m ≡ e → m < edges f.columns f.rows
         → crossed_at levels f.columns f.rows v m ≡ true
         → (crossed_edge levels f.columns v e ≡ true
-        → P (Crossed (along_edge levels f.columns v e))
-        (Place (locate (along_edge levels f.columns v e) (row_of e) (col_of e) f))) → Both P
+        → P (Ok (Some (along_edge levels f.columns v e)))
+        (Ok (locate (Some (along_edge levels f.columns v e)) (row_of e) (col_of e) f))) → Both P
     crossed_number P e m q i l c p =
         let at : edge_at f.columns f.rows n ≡ e = ap (edge_at f.columns f.rows) q ∙ i in
         let x : crossed_at levels f.columns f.rows v n ≡ true =
@@ -176,17 +169,20 @@ module _ (levels : List ℕ) (f : Frame) (v n : ℕ) where
           past = λ h. none_at_rule (rw (le-ltb n (edges f.columns f.rows) h));
         }
 
-  pub answered_by_number : Answered levels f v n (crossing_asked levels f v n) (mapped_of levels f v n)
-  answered_by_number = record {
-    asked_refusal_rule = rw asked_refused (contour_refused levels f v 0 (inl refl));
-    mapped_refusal_rule = rw mapped_refused (contour_refused levels f v 0 (inl refl));
-    fraction_range = fraction_range;
-    by_number = λ z. by_number (sym asked_refused ∙ z);
+  pub answered_by_number : (asked : Asked) (mapped : Mapped) → CrossingAsked levels f v n asked
+      → MapPointAsked levels f v n mapped → Answered levels f v n asked mapped
+  answered_by_number asked mapped a m = record {
+    asked_refusal_rule = rw a.number (contour_refused levels f v 0 (inl refl));
+    mapped_refusal_rule = rw m.number (contour_refused levels f v 0 (inl refl));
+    fraction_range = fraction_range asked a;
+    by_number = λ t.
+        let z : contour_refusal levels f v ≡ 0 = sym a.number ∙ t in
+        rw (answered asked a z, answered mapped m z) (by_number z);
   }
 
 -- ---- none exactly where the edge isn't in the network or isn't crossed
 
-along_some : (levels : List ℕ) (nx v : ℕ) (e : Edge) → which_of (along_edge levels nx v e) ≡ 0 → ⊥
+along_some : (levels : List ℕ) (nx v : ℕ) (e : Edge) → which_of (Some (along_edge levels nx v e)) ≡ 0 → ⊥
 along_some levels nx v (Horizontal row col) h = omega arith
 along_some levels nx v (Vertical row col) h = omega arith
 

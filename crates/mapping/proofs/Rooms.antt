@@ -1,13 +1,13 @@
 -- Calls that write map points and crossings into lent room: what they leave by each way out, and that two outcomes are
 -- equal. Assumes nothing.
 use mathlib.Core.{Path.◌≡◌, Bool.false, List.List}
-use Rattle.std.specs.Prelude.{ℕ, ◌*◌, ◌<◌, ◌≤◌}
+use Rattle.std.specs.Prelude.{ℕ, ◌*◌, ◌<◌}
 use lib.{Ieee.Float, ListN.length}
-use Rattle.room.specs.Room.{front, then_room}
-use Rattle.room.proofs.Answers.{write_both, short_first, short_second, one_outcome_two}
+use Rattle.room.specs.Room.{then_room}
+use Rattle.room.proofs.Answers.{short_first, short_second, one_outcome_two}
 use Rattle.network.specs.declared.Frame.{Frame}
 use Rattle.network.specs.Refusals.{contour_refusal}
-use Rattle.mapping.specs.{Many.numbers_of, Many.places_of, Many.Many, OneCrossing.OneCrossing}
+use Rattle.mapping.specs.{Many.Many, OneCrossing.OneCrossing}
 use Rattle.mapping.proofs.Fill.{length-numbers, length_places}
 
 -- past the check of a network that is right, 14 is what is left
@@ -17,12 +17,6 @@ then_short levels f v right = rw right
 
 module _ (levels : List ℕ) (f : Frame) (v : ℕ) (edges which : List ℕ) (places : List Float) where
   module _ (right : contour_refusal levels f v ≡ 0) where
-    pub accepted : {which' : List ℕ} {places' : List Float} → length edges ≤ length which
-        → 2 * length edges ≤ length places → which' ≡ front (numbers_of levels f v edges) which
-        → places' ≡ front (places_of levels f v edges) places → Many levels f v edges which places 0 which' places'
-    accepted h k p q =
-        write_both right (rw (length-numbers levels f v edges) h) (rw (length_places levels f v edges) k) p q
-
     pub short_places : length places < 2 * length edges → Many levels f v edges which places 14 which places
     short_places h = short_second (rw (length_places levels f v edges) h) (then_short levels f v right)
 

@@ -1,7 +1,10 @@
 -- Where a contour crosses an edge, for map layers: RULES, "Network and contours". Assumes nothing.
-use Rattle.std.specs.Prelude.{◌≡◌, ℕ, ◌+◌, Bool, false, cond, ◌&&◌, T, List, pos, ◌==◌, nat_lt, Float}
+use Rattle.std.specs.Prelude.{◌≡◌, ℕ, ◌+◌, Bool, false, cond, ◌&&◌, T, List, pos, nat_lt, Float}
+use Rattle.std.specs.Prelude.{Option, Some, None, Result, Ok, Err}
 use Rattle.std.specs.Float.{binary64}
 use Rattle.std.specs.Float.Ieee.{round, of_int, le}
+use Rattle.refusal.specs.declared.Refusal.{Refusal}
+use Rattle.refusal.specs.Refusal.{Answers}
 use Rattle.network.specs.declared.Edge.{Edge}
 use Rattle.network.specs.declared.Edge.TheVariants.{Horizontal, Vertical}
 use Rattle.network.specs.declared.Frame.{Frame}
@@ -9,9 +12,7 @@ use Rattle.network.specs.Edges.{level_at, edges, edge_at}
 use Rattle.network.specs.Crossed.{crossed_at, distance}
 use Rattle.network.specs.Refusals.{contour_refusal}
 use Rattle.mapping.specs.declared.Crossing.{Crossing}
-use Rattle.mapping.specs.declared.Crossing.TheVariants.{Nowhere, AlongHorizontal, AlongVertical}
-use Rattle.mapping.specs.declared.Asked.{Asked}
-use Rattle.mapping.specs.declared.Asked.TheVariants.{Crossed, Refused}
+use Rattle.mapping.specs.declared.Crossing.TheVariants.{AlongHorizontal, AlongVertical}
 
 -- the binary64 value of a whole number
 abbrev pub whole : ℕ → Float
@@ -39,35 +40,30 @@ abbrev pub is_crossed : (levels : List ℕ) (f : Frame) (v n : ℕ) → Bool
 is_crossed levels f v n = nat_lt n (edges f.columns f.rows) && crossed_at levels f.columns f.rows v n
 
 -- the crossing of the edge of a number: none exactly where that edge isn't in the network or isn't crossed
-abbrev pub crossing_of : (levels : List ℕ) (f : Frame) (v n : ℕ) → Crossing
+abbrev pub crossing_of : (levels : List ℕ) (f : Frame) (v n : ℕ) → Option Crossing
 crossing_of levels f v n =
-    cond (is_crossed levels f v n) (along_edge levels f.columns v (edge_at f.columns f.rows n)) Nowhere
+    cond (is_crossed levels f v n) (Some (along_edge levels f.columns v (edge_at f.columns f.rows n))) None
 
 -- a crossing's number and fraction: 0 none, 1 along a horizontal edge, 2 along a vertical edge
-abbrev pub which_of : Crossing → ℕ
-which_of Nowhere = 0
-which_of (AlongHorizontal f) = 1
-which_of (AlongVertical f) = 2
+abbrev pub which_of : Option Crossing → ℕ
+which_of None = 0
+which_of (Some (AlongHorizontal f)) = 1
+which_of (Some (AlongVertical f)) = 2
 
-abbrev pub fraction_shown : Crossing → Float
-fraction_shown Nowhere = whole 0
-fraction_shown (AlongHorizontal f) = f
-fraction_shown (AlongVertical f) = f
+abbrev pub fraction_shown : Option Crossing → Float
+fraction_shown None = whole 0
+fraction_shown (Some (AlongHorizontal f)) = f
+fraction_shown (Some (AlongVertical f)) = f
 
--- an answer's refusal, 0 for none, and its crossing's number and fraction: 0 and 0.0 where it is refused
-abbrev pub asked_refusal : Asked → ℕ
-asked_refusal (Crossed c) = 0
-asked_refusal (Refused n) = n
+-- an answer's crossing by number and fraction: 0 and 0.0 where the call refuses
+abbrev pub asked_which : Result (Option Crossing) Refusal → ℕ
+asked_which (Ok c) = which_of c
+asked_which (Err why) = 0
 
-abbrev pub asked_which : Asked → ℕ
-asked_which (Crossed c) = which_of c
-asked_which (Refused n) = 0
-
-abbrev pub asked_fraction : Asked → Float
-asked_fraction (Crossed c) = fraction_shown c
-asked_fraction (Refused n) = whole 0
+abbrev pub asked_fraction : Result (Option Crossing) Refusal → Float
+asked_fraction (Ok c) = fraction_shown c
+asked_fraction (Err why) = whole 0
 
 -- the call: 12, 13, 15, and then the crossing
-abbrev pub crossing_asked : (levels : List ℕ) (f : Frame) (v n : ℕ) → Asked
-crossing_asked levels f v n =
-    cond (contour_refusal levels f v == 0) (Crossed (crossing_of levels f v n)) (Refused (contour_refusal levels f v))
+abbrev pub CrossingAsked : (levels : List ℕ) (f : Frame) (v n : ℕ) → Result (Option Crossing) Refusal → Type 0
+CrossingAsked levels f v n = Answers (contour_refusal levels f v) (crossing_of levels f v n)

@@ -1,16 +1,18 @@
 -- What is answered for the edge of a number: RULES, "Network and contours", with its formulas written out.
 -- Assumes nothing.
-use Rattle.std.specs.Prelude.{◌≡◌, ℕ, ◌+◌, ◌-◌, ◌*◌, ◌<◌, ◌≤◌, false, T, List, Float}
+use Rattle.std.specs.Prelude.{◌≡◌, ℕ, ◌+◌, ◌-◌, ◌*◌, ◌<◌, ◌≤◌, false, T, List, Float, Option, Result}
 use Rattle.std.specs.Float.{binary64}
 use Rattle.std.specs.Float.Ieee.{round, le}
 use Rattle.std.specs.Float.Ieee.Exact.{HasValue}
+use Rattle.refusal.specs.declared.Refusal.{Refusal}
+use Rattle.refusal.specs.Refusal.{told}
 use Rattle.network.specs.declared.Frame.{Frame}
 use Rattle.network.specs.Numbering.{point_level, Parts, OneIn}
 use Rattle.network.specs.Ranges.{ContourRefused}
-use Rattle.mapping.specs.declared.Asked.{Asked}
-use Rattle.mapping.specs.declared.Mapped.{Mapped}
-use Rattle.mapping.specs.Fractions.{whole, asked_refusal, asked_which, asked_fraction}
-use Rattle.mapping.specs.Places.{mapped_refusal, mapped_shown}
+use Rattle.mapping.specs.declared.Crossing.{Crossing}
+use Rattle.mapping.specs.declared.Located.{Located}
+use Rattle.mapping.specs.Fractions.{whole, asked_which, asked_fraction}
+use Rattle.mapping.specs.Places.{mapped_shown}
 
 -- x lies from the whole number `low` to the whole number `high`
 abbrev pub Within : ℕ → Float → ℕ → Type 0
@@ -53,6 +55,13 @@ pub record Moves (index : ℕ) (fraction : Float) (spacing origin : ℕ) (x : Fl
   pub last : Nearest x (product_value.over + origin * product_value.under) product_value.under
   pub on_edge : Within (index * spacing + origin) x ((index + 1) * spacing + origin)
 
+-- what the two calls answer
+abbrev pub Asked : Type 0
+Asked = Result (Option Crossing) Refusal
+
+abbrev pub Mapped : Type 0
+Mapped = Result (Option Located) Refusal
+
 module _ (levels : List ℕ) (f : Frame) (v : ℕ) where
   abbrev pub level : ℕ → ℕ → ℕ
   level row col = point_level levels f.columns row col
@@ -92,7 +101,7 @@ module _ (levels : List ℕ) (f : Frame) (v : ℕ) where
 
   -- the two calls: 12, 13, 15, and then the answer for that number; the fraction is in its range in any case
   pub record Answered (n : ℕ) (asked : Asked) (mapped : Mapped) : Type 0 where
-    pub asked_refusal_rule : ContourRefused levels f v 0 (asked_refusal asked)
-    pub mapped_refusal_rule : ContourRefused levels f v 0 (mapped_refusal mapped)
+    pub asked_refusal_rule : ContourRefused levels f v 0 (told asked)
+    pub mapped_refusal_rule : ContourRefused levels f v 0 (told mapped)
     pub fraction_range : Within 0 (asked_fraction asked) 1
-    pub by_number : asked_refusal asked ≡ 0 → ByNumber n asked mapped
+    pub by_number : told asked ≡ 0 → ByNumber n asked mapped

@@ -4,12 +4,13 @@ use Rattle.std.specs.Prelude.{◌≡◌, ℕ, ◌+◌, ◌*◌, ◌<◌, ◌≤�
 use Rattle.network.specs.declared.Frame.{Frame}
 use Rattle.network.specs.Ranges.{RoomRefused}
 use Rattle.mapping.specs.declared.Shown.{Shown}
-use Rattle.mapping.specs.Fractions.{whole, asked_which, asked_fraction, crossing_asked}
-use Rattle.mapping.specs.Places.{mapped_shown, mapped_of}
+use Rattle.mapping.specs.Fractions.{whole, crossing_of, which_of, fraction_shown}
+use Rattle.mapping.specs.Places.{located_of, shown_of}
 
 module _ (levels : List ℕ) (f : Frame) (v : ℕ) where
+  -- what the call for one edge answers, which isn't refused where this one isn't
   abbrev pub shown_at : ℕ → Shown
-  shown_at n = mapped_shown (mapped_of levels f v n)
+  shown_at n = shown_of (located_of levels f v n)
 
   -- many edges, into room for numbers and room for coordinates
   pub record ManyInRoom (edges which : List ℕ) (places : List Float) (answer : ℕ) (which' : List ℕ)
@@ -31,8 +32,8 @@ module _ (levels : List ℕ) (f : Frame) (v : ℕ) where
       (fraction' : List Float) : Type 0 where
     pub refusal : RoomRefused levels f v ((1 ≤ length which) × (1 ≤ length fraction)) answer
     pub refused : (answer ≢ 0) → (which' ≡ which) × (fraction' ≡ fraction)
-    pub number : answer ≡ 0 → slice_index which' 0 ≡ asked_which (crossing_asked levels f v n)
-    pub place : answer ≡ 0 → slice_index_or fraction' 0 (whole 0) ≡ asked_fraction (crossing_asked levels f v n)
+    pub number : answer ≡ 0 → slice_index which' 0 ≡ which_of (crossing_of levels f v n)
+    pub place : answer ≡ 0 → slice_index_or fraction' 0 (whole 0) ≡ fraction_shown (crossing_of levels f v n)
     pub which_kept : answer ≡ 0 → (i : ℕ) → 1 ≤ i → slice_index which' i ≡ slice_index which i
     pub fraction_kept : answer ≡ 0
         → (i : ℕ) → 1 ≤ i → slice_index_or fraction' i (whole 0) ≡ slice_index_or fraction i (whole 0)

@@ -20,7 +20,7 @@ fn along(v: u32, a: u32, b: u32) -> f64
     requires { ((a < v) × (v ≤ b)) ⊎ ((b < v) × (v ≤ a)) }
     ensures { result ≡ fraction_of v a b }
 {
-    fraction(network::inner::apart(v, a), network::inner::apart(b, a))
+    fraction(v.abs_diff(a), b.abs_diff(a))
 }
 
 // The crossing of an edge that is crossed.
@@ -43,17 +43,17 @@ fn along_edge(levels: &[u32], nx: usize, ny: usize, v: u32, e: Edge) -> Crossing
 }
 
 // The crossing of the edge of a number, none where it is no edge or is not crossed.
-pub(crate) fn crossing_of(levels: &[u32], frame: Frame, v: u32, n: u32) -> Crossing
+pub(crate) fn crossing_of(levels: &[u32], frame: Frame, v: u32, n: u32) -> Option<Crossing>
     requires { Checked levels.now frame }
     ensures { result ≡ crossing_of levels.now frame v n }
 {
     let nx = frame.columns as usize;
     let ny = frame.rows as usize;
     let at = n as usize;
-    if at < network::inner::edge_count(nx, ny) {
-        if network::inner::crossed_at(levels, nx, ny, v, at) {
-            return along_edge(levels, nx, ny, v, network::inner::edge_at(nx, ny, at));
-        }
+    if at < network::inner::edge_count(nx, ny)
+        && network::inner::crossed_at(levels, nx, ny, v, at)
+    {
+        return Some(along_edge(levels, nx, ny, v, network::inner::edge_at(nx, ny, at)));
     }
-    Crossing::Nowhere
+    None
 }

@@ -2,33 +2,26 @@
 #![tactic(auto)]
 
 ghost use Rattle.std.specs.Prelude.{◌≡◌, ◌*◌, ◌≤◌, [], ◌∷◌, length};
+ghost use Rattle.refusal.specs.Refusal.{told};
 ghost use Rattle.room.specs.Room.{front};
 ghost use Rattle.network.specs.Edges.{Checked};
-ghost use Rattle.mapping.specs.Fractions.{which_of, fraction_shown, crossing_asked};
-ghost use Rattle.mapping.specs.Places.{shown_of, mapped_of};
+ghost use Rattle.mapping.specs.Fractions.{which_of, fraction_shown, CrossingAsked};
+ghost use Rattle.mapping.specs.Places.{shown_of, MapPointAsked};
 ghost use Rattle.mapping.specs.Many.{numbers_of, places_of, Many};
 ghost use Rattle.mapping.specs.OneCrossing.{OneCrossing};
 
 use network::Frame;
 use network::limits::MAX_NETWORK_LEVEL;
+use refusal::Refusal;
 
 mod edge;
 mod place;
 
-// Where a contour crosses an edge: not at all, or at a fraction of a horizontal or a vertical edge from its west or
-// south end.
+// Where a contour crosses an edge: at a fraction of a horizontal or a vertical edge from its west or south end.
 #[derive(Clone, Copy)]
 pub enum Crossing {
-    Nowhere,
     AlongHorizontal(f64),
     AlongVertical(f64),
-}
-
-// A crossing, or why it is refused.
-#[derive(Clone, Copy)]
-pub enum Asked {
-    Crossed(Crossing),
-    Refused(u32),
 }
 
 // A place on the map, in metres east and north.
@@ -38,19 +31,11 @@ pub struct MapPoint {
     pub y: f64,
 }
 
-// The map point of a crossing, if there is one, by the kind of its edge.
+// The map point of a crossing, by the kind of its edge.
 #[derive(Clone, Copy)]
 pub enum Located {
-    Off,
     OnHorizontal(MapPoint),
     OnVertical(MapPoint),
-}
-
-// A map point, or why it is refused.
-#[derive(Clone, Copy)]
-pub enum Mapped {
-    Place(Located),
-    Denied(u32),
 }
 
 // A map point by number and coordinates: 0 none, 1 on a horizontal edge, 2 on a vertical edge.
@@ -62,43 +47,42 @@ pub struct Shown {
 }
 
 // The number of a crossing: 0 none, 1 along a horizontal edge, 2 along a vertical edge.
-pub fn which_of(c: Crossing) -> u32
+pub fn which_of(c: Option<Crossing>) -> u32
     ensures { result ≡ which_of c }
 {
     match c {
-        Crossing::Nowhere => 0,
-        Crossing::AlongHorizontal(_) => 1,
-        Crossing::AlongVertical(_) => 2,
+        None => 0,
+        Some(Crossing::AlongHorizontal(_)) => 1,
+        Some(Crossing::AlongVertical(_)) => 2,
     }
 }
 
 // The fraction of a crossing, 0.0 where there is none.
-pub fn fraction_of(c: Crossing) -> f64
+pub fn fraction_of(c: Option<Crossing>) -> f64
     ensures { result ≡ fraction_shown c }
 {
     match c {
-        Crossing::Nowhere => 0.0,
-        Crossing::AlongHorizontal(f) => f,
-        Crossing::AlongVertical(f) => f,
+        None => 0.0,
+        Some(Crossing::AlongHorizontal(f) | Crossing::AlongVertical(f)) => f,
     }
 }
 
 // The number and coordinates of a map point, 0.0 and 0.0 where there is none.
-pub fn shown_of(l: Located) -> Shown
+pub fn shown_of(l: Option<Located>) -> Shown
     ensures { result ≡ shown_of l }
 {
     match l {
-        Located::Off => Shown {
+        None => Shown {
             which: 0,
             x: 0.0,
             y: 0.0,
         },
-        Located::OnHorizontal(p) => Shown {
+        Some(Located::OnHorizontal(p)) => Shown {
             which: 1,
             x: p.x,
             y: p.y,
         },
-        Located::OnVertical(p) => Shown {
+        Some(Located::OnVertical(p)) => Shown {
             which: 2,
             x: p.x,
             y: p.y,
@@ -106,26 +90,25 @@ pub fn shown_of(l: Located) -> Shown
     }
 }
 
-// The crossing at level v of the edge of a number.
-pub fn crossing_at(levels: &[u32], frame: Frame, v: u32, n: u32) -> Asked
-    ensures { result ≡ crossing_asked levels.now frame v n }
+// The crossing at level v of the edge of a number, if there is one.
+pub fn crossing_at(
+    levels: &[u32],
+    frame: Frame,
+    v: u32,
+    n: u32,
+) -> Result<Option<Crossing>, Refusal>
+    ensures { CrossingAsked levels.now frame v n result }
 {
-    let why = network::contour_refusal(levels, frame, v, MAX_NETWORK_LEVEL);
-    if why == 0 {
-        return Asked::Crossed(edge::crossing_of(levels, frame, v, n));
-    }
-    Asked::Refused(why)
+    network::contour_refusal(levels, frame, v, MAX_NETWORK_LEVEL)?;
+    Ok(edge::crossing_of(levels, frame, v, n))
 }
 
-// The map point of the crossing at level v of the edge of a number.
-pub fn map_point(levels: &[u32], frame: Frame, v: u32, n: u32) -> Mapped
-    ensures { result ≡ mapped_of levels.now frame v n }
+// The map point of the crossing at level v of the edge of a number, if there is one.
+pub fn map_point(levels: &[u32], frame: Frame, v: u32, n: u32) -> Result<Option<Located>, Refusal>
+    ensures { MapPointAsked levels.now frame v n result }
 {
-    let why = network::contour_refusal(levels, frame, v, MAX_NETWORK_LEVEL);
-    if why == 0 {
-        return Mapped::Place(place::locate_at(levels, frame, v, n));
-    }
-    Mapped::Denied(why)
+    network::contour_refusal(levels, frame, v, MAX_NETWORK_LEVEL)?;
+    Ok(place::locate_at(levels, frame, v, n))
 }
 
 // The map points of edges of a checked network, into room that suffices.
@@ -144,13 +127,11 @@ fn fill_points(
         × (places.new
         ≡ front (places_of levels.now frame v edges.now) places.old) }
 {
-    let mut i = 0;
-    while i < edges.len() {
-        let shown = shown_of(place::locate_at(levels, frame, v, edges[i]));
+    for (i, n) in edges.iter().enumerate() {
+        let shown = shown_of(place::locate_at(levels, frame, v, *n));
         which[i] = shown.which;
         places[2 * i] = shown.x;
         places[2 * i + 1] = shown.y;
-        i += 1;
     }
 }
 
@@ -162,21 +143,16 @@ pub fn map_points(
     edges: &[u32],
     which: &mut [u32],
     places: &mut [f64],
-) -> u32
+) -> Result<(), Refusal>
     ensures { Many levels.now frame v edges.now which.old
-        places.old result which.new places.new }
+        places.old (told result) which.new places.new }
 {
-    let why = network::contour_refusal(levels, frame, v, MAX_NETWORK_LEVEL);
-    if why == 0 {
-        if edges.len() <= which.len() {
-            if edges.len() <= places.len() / 2 {
-                fill_points(levels, frame, v, edges, which, places);
-                return 0;
-            }
-        }
-        return 14;
+    network::contour_refusal(levels, frame, v, MAX_NETWORK_LEVEL)?;
+    if which.len() < edges.len() || places.len() / 2 < edges.len() {
+        return Err(Refusal::TooLittleRoom);
     }
-    why
+    fill_points(levels, frame, v, edges, which, places);
+    Ok(())
 }
 
 // The crossing at level v of the edge of a number, as its number and its fraction in lent room.
@@ -187,23 +163,18 @@ pub fn put_crossing(
     n: u32,
     which: &mut [u32],
     fraction: &mut [f64],
-) -> u32
-    ensures { OneCrossing levels.now frame v n which.old fraction.old result
+) -> Result<(), Refusal>
+    ensures { OneCrossing levels.now frame v n which.old fraction.old (told result)
         which.new fraction.new }
 {
-    let why = network::contour_refusal(levels, frame, v, MAX_NETWORK_LEVEL);
-    if why == 0 {
-        if 1 <= which.len() {
-            if 1 <= fraction.len() {
-                let c = edge::crossing_of(levels, frame, v, n);
-                which[0] = which_of(c);
-                fraction[0] = fraction_of(c);
-                return 0;
-            }
-        }
-        return 14;
+    network::contour_refusal(levels, frame, v, MAX_NETWORK_LEVEL)?;
+    if which.is_empty() || fraction.is_empty() {
+        return Err(Refusal::TooLittleRoom);
     }
-    why
+    let c = edge::crossing_of(levels, frame, v, n);
+    which[0] = which_of(c);
+    fraction[0] = fraction_of(c);
+    Ok(())
 }
 
 // The map point of one edge, as its number and its coordinates in lent room.
@@ -214,8 +185,8 @@ pub fn put_map_point(
     n: u32,
     which: &mut [u32],
     place: &mut [f64],
-) -> u32
-    ensures { Many levels.now frame v (n ∷ []) which.old place.old result
+) -> Result<(), Refusal>
+    ensures { Many levels.now frame v (n ∷ []) which.old place.old (told result)
         which.new place.new }
 {
     let edges = [n];

@@ -26,13 +26,12 @@ fn stay(index: u32, spacing: u32, origin: u32) -> f64
 fn locate_crossing(c: Crossing, row: u32, col: u32, frame: Frame) -> Located
     requires { ((row < max_side) × (col < max_side))
         × ((frame.spacing ≤ max_spacing) × ((frame.west ≤ max_origin) × (frame.south ≤ max_origin))) }
-    ensures { result ≡ locate c row col frame }
+    ensures { Some result ≡ locate (Some c) row col frame }
 {
     let spacing = frame.spacing;
     let west = frame.west;
     let south = frame.south;
     match c {
-        Crossing::Nowhere => Located::Off,
         Crossing::AlongHorizontal(f) => Located::OnHorizontal(MapPoint {
             x: move_along(col, f, spacing, west),
             y: stay(row, spacing, south),
@@ -49,8 +48,7 @@ fn row_of(e: Edge) -> usize
     ensures { result ≡ row_of e }
 {
     match e {
-        Edge::Horizontal(row, _) => row,
-        Edge::Vertical(row, _) => row,
+        Edge::Horizontal(row, _) | Edge::Vertical(row, _) => row,
     }
 }
 
@@ -58,25 +56,16 @@ fn col_of(e: Edge) -> usize
     ensures { result ≡ col_of e }
 {
     match e {
-        Edge::Horizontal(_, col) => col,
-        Edge::Vertical(_, col) => col,
+        Edge::Horizontal(_, col) | Edge::Vertical(_, col) => col,
     }
 }
 
-// The map point of the edge of a number.
-pub(crate) fn locate_at(levels: &[u32], frame: Frame, v: u32, n: u32) -> Located
+// The map point of the edge of a number, if it is crossed.
+pub(crate) fn locate_at(levels: &[u32], frame: Frame, v: u32, n: u32) -> Option<Located>
     requires { Checked levels.now frame }
     ensures { result ≡ located_of levels.now frame v n }
 {
-    let nx = frame.columns as usize;
-    let ny = frame.rows as usize;
-    let at = n as usize;
-    if at < network::inner::edge_count(nx, ny) {
-        let c = edge::crossing_of(levels, frame, v, n);
-        let e = network::inner::edge_at(nx, ny, at);
-        let row = row_of(e) as u32;
-        let col = col_of(e) as u32;
-        return locate_crossing(c, row, col, frame);
-    }
-    Located::Off
+    let c = edge::crossing_of(levels, frame, v, n)?;
+    let e = network::inner::edge_at(frame.columns as usize, frame.rows as usize, n as usize);
+    Some(locate_crossing(c, row_of(e) as u32, col_of(e) as u32, frame))
 }

@@ -2,7 +2,6 @@
 // Each line of output has an answer and then what it should be.
 #![tactic(auto)]
 
-use mapping::{Asked, Mapped};
 use network::Frame;
 
 // The descriptor of standard output.
@@ -47,8 +46,8 @@ fn show(name: &[u8], answer: u32, should: u32) {
 fn which(spacing: u32, v: u32, edge: u32) -> u32 {
     let levels = hill();
     match mapping::crossing_at(&levels, frame(spacing), v, edge) {
-        Asked::Crossed(c) => mapping::which_of(c),
-        Asked::Refused(n) => 100 + n % 100,
+        Ok(c) => mapping::which_of(c),
+        Err(why) => 100 + why.number() % 100,
     }
 }
 
@@ -56,13 +55,8 @@ fn which(spacing: u32, v: u32, edge: u32) -> u32 {
 fn fraction_is(v: u32, edge: u32, f: f64) -> u32 {
     let levels = hill();
     match mapping::crossing_at(&levels, frame(100), v, edge) {
-        Asked::Crossed(c) => {
-            if mapping::fraction_of(c) == f {
-                return 1;
-            }
-            0
-        }
-        Asked::Refused(_) => 0,
+        Ok(c) => (mapping::fraction_of(c) == f) as u32,
+        Err(_) => 0,
     }
 }
 
@@ -70,16 +64,11 @@ fn fraction_is(v: u32, edge: u32, f: f64) -> u32 {
 fn place_is(spacing: u32, v: u32, edge: u32, x: f64, y: f64) -> u32 {
     let levels = hill();
     match mapping::map_point(&levels, frame(spacing), v, edge) {
-        Mapped::Place(l) => {
+        Ok(l) => {
             let shown = mapping::shown_of(l);
-            if shown.x == x {
-                if shown.y == y {
-                    return 1;
-                }
-            }
-            0
+            (shown.x == x && shown.y == y) as u32
         }
-        Mapped::Denied(_) => 0,
+        Err(_) => 0,
     }
 }
 

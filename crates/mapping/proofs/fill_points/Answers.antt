@@ -1,6 +1,6 @@
 use Rattle.std.specs.Prelude.{◌≡◌}
 use mathlib.Core.Path.{ap, ◌∙◌}
-use lib.{ListN.get_or, ListN.length-set, Seq.take_all}
+use lib.{ListN.get_or, ListN.length-set}
 use borrow.Author.Rules.{rules}
 use Rattle.mapping.specs.{Places.located_of, Places.shown_of}
 use Rattle.mapping.proofs.Fill.{numbers-none, places_none, numbers_turn, places_turn}
@@ -13,11 +13,8 @@ loop-i-init c =
       (
         search rules,
         (
-          search rules,
-          (
-            numbers-none a.levels.now a.frame a.v a.which.now a.edges.now,
-            places_none a.levels.now a.frame a.v a.places.now a.edges.now,
-          ),
+          numbers-none a.levels.now a.frame a.v a.which.now a.edges.now,
+          places_none a.levels.now a.frame a.v a.places.now a.edges.now,
         ),
       ),
     )
@@ -30,29 +27,14 @@ loop-i-preserved c =
     let e : c.shown_of-shown.result ≡ shown_of (located_of a.levels.now a.frame a.v
     (get_or a.edges.now l.i 0)) =
     c.shown_of-shown.ensures ∙ ap shown_of c.locate_at.ensures in (
-      search rules,
+      simp length-set (search rules),
       (
         simp length-set (search rules),
         (
-          simp length-set (search rules),
-          (
-            rw (e, l.invariant.1.1.1.0)
-                (numbers_turn a.levels.now a.frame a.v a.edges.now l.i test a.which.now
-                c.requires.1.0),
-            rw (e, l.invariant.1.1.1.1)
-                (places_turn a.levels.now a.frame a.v a.edges.now l.i test a.places.now
-                c.requires.1.1),
-          ),
+          rw (e, l.invariant.1.1.0)
+              (numbers_turn a.levels.now a.frame a.v a.edges.now l.i test a.which.now c.requires.1.0),
+          rw (e, l.invariant.1.1.1)
+              (places_turn a.levels.now a.frame a.v a.edges.now l.i test a.places.now c.requires.1.1),
         ),
       ),
     )
-
-pub returns : goal.returns
-returns c =
-    let l = c.loop-i in
-    let t = take_all l.i c.args.edges.now
-    c.loop-i-test.false in
-    (rw (← t) l.invariant.1.1.1.0, rw (← t) l.invariant.1.1.1.1)
-
-pub bounds-places-i-in-loop-i : goal.bounds-places-i-in-loop-i
-bounds-places-i-in-loop-i c = simp length-set (search rules)

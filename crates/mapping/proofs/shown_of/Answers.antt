@@ -4,9 +4,3 @@ use Rattle.mapping.proofs.shown_of.Goals as goal
 
 pub returns-in-None : goal.returns-in-None
 returns-in-None c = rw (c.in-None.is, zero_whole)
-
-pub returns-in-OnHorizontal : goal.returns-in-OnHorizontal
-returns-in-OnHorizontal c = rw c.in-OnHorizontal.is
-
-pub returns-in-OnVertical : goal.returns-in-OnVertical
-returns-in-OnVertical c = rw c.in-OnVertical.is
