@@ -51,17 +51,12 @@ fn bound_at(b: &[u64; 1000], powers: &[u64; 14], n: u32) -> u64
     }
 }
 
-// The decade of a mean energy: q with 10^(q+3) ≤ m < 10^(q+4), sought from the largest power down.
-fn decade_of(powers: &[u64; 14], m: u64) -> u32
-    requires { (1000 ≤ m) × (m ≤ max_mean) × (ArePowers powers.now) }
+// The decade of a mean energy: q with 10^(q+3) ≤ m < 10^(q+4).
+fn decade_of(m: u64) -> u32
+    requires { 1000 ≤ m }
     ensures { (10 ^ (result + 3) ≤ m) × (m < 10 ^ (result + 4)) }
 {
-    let thousands = m / 1000;
-    let mut q: u32 = 13;
-    while thousands < powers[q as usize] {
-        q -= 1;
-    }
-    q
+    m.ilog10() - 3
 }
 
 // The smallest level whose bound reaches a mean energy, by a walk through its decade; where no level of that decade
@@ -70,15 +65,13 @@ fn first_reaching(b: &[u64; 1000], powers: &[u64; 14], m: u64) -> u32
     requires { (1000 ≤ m) × (m ≤ max_mean) × (IsTableB b.now) × (ArePowers powers.now) }
     ensures { At result ≡ level_of m }
 {
-    let mut n = 1000 * decade_of(powers, m);
-    let next = n + 1000;
-    while n < next {
+    let first = 1000 * decade_of(m);
+    for n in first..first + 1000 {
         if m <= bound_at(b, powers, n) {
             return n;
         }
-        n += 1;
     }
-    n
+    first + 1000
 }
 
 // The level of a mean energy.
@@ -99,13 +92,7 @@ pub fn judge(level: Level, limit: u32) -> Verdict
     ensures { result ≡ verdict_of level limit }
 {
     match level {
-        Level::BelowZero => Verdict::Within,
-        Level::At(n) => {
-            if limit < n {
-                Verdict::Over
-            } else {
-                Verdict::Within
-            }
-        }
+        Level::At(n) if limit < n => Verdict::Over,
+        _ => Verdict::Within,
     }
 }

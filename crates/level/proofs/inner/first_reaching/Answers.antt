@@ -9,7 +9,7 @@ use Rattle.level.specs.{Limits.max_mean, Tables.table_b, Level.bound, Level.leve
 use Rattle.level.proofs.LevelLaws.{b_first, b_below, bound_at, bound_mono, bound_top, level_is}
 use Rattle.level.proofs.inner.first_reaching.Invariants.{Missed}
 use Rattle.level.proofs.inner.first_reaching.Goals as goal
-use Rattle.level.proofs.inner.first_reaching.Goals.{After-decade_of-n}
+use Rattle.level.proofs.inner.first_reaching.Goals.{After-decade_of-first}
 
 -- B(999) is below 10^7, so the last bound before decade q is below 10^(q+3), and bounds rise
 missed-before : (q m : ℕ) → 10 ^ (q + 3) ≤ m → Missed m (1000 * q)
@@ -37,44 +37,40 @@ found : (m n : ℕ) → 1000 ≤ m → m ≤ max_mean → Missed m n → m ≤ b
 found m n least most missed reached =
     sym (level_is m n least (omega (arith, in_tables m n most missed)) reached missed)
 
-before : (c : After-decade_of-n) → Missed c.args.m (1000 * c.decade_of-n.result)
-before c = missed-before _ _ c.decade_of-n.ensures.0
+before : (c : After-decade_of-first) → Missed c.args.m (1000 * c.decade_of-first.result)
+before c = missed-before _ _ c.decade_of-first.ensures.0
 
-fits : (c : After-decade_of-n) → 1000 * c.decade_of-n.result < 14000
+fits : (c : After-decade_of-first) → 1000 * c.decade_of-first.result < 14000
 fits c = in_tables _ _ c.requires.1 (before c)
 
 pub bound_at-requires : goal.bound_at-requires
 bound_at-requires c =
     let p = c.requires in
-    (in_tables _ _ p.1 c.loop-n.invariant.1, p.2, p.3)
+    (in_tables _ _ p.1 c.loop-n.invariant, p.2, p.3)
 
 pub returns-then-m-bound_at : goal.returns-then-m-bound_at
-returns-then-m-bound_at c = found _ _ (omega arith) (omega arith) c.loop-n.invariant.1 (omega arith)
+returns-then-m-bound_at c = found _ _ (omega arith) (omega arith) c.loop-n.invariant (omega arith)
 
 pub returns : goal.returns
 returns c =
-    let l = c.loop-n in
-    let d = c.decade_of-n in
-    let e : l.n ≡ 1000 * d.result + 1000 = omega arith in
-    found _ _ (omega arith) (omega arith) l.invariant.1 (rw e (next-reaches d.result _ d.ensures.1))
+    let d = c.decade_of-first in
+    let e : c.loop-n.n ≡ 1000 * d.result + 1000 = omega arith in
+    found _ _ (omega arith) (omega arith) (rw e at c.loop-n.invariant) (next-reaches d.result _ d.ensures.1)
 
-pub decade_of-n-requires : goal.decade_of-n-requires
-decade_of-n-requires c = (c.requires.0, c.requires.1, c.requires.3)
+pub decade_of-first-requires : goal.decade_of-first-requires
+decade_of-first-requires c = c.requires.0
 
-pub overflow_mul-n : goal.overflow_mul-n
-overflow_mul-n c = omega (arith, fits c)
+pub overflow_mul-first : goal.overflow_mul-first
+overflow_mul-first c = omega (arith, fits c)
 
-pub overflow_add-next : goal.overflow_add-next
-overflow_add-next c = omega (arith, fits c)
+pub overflow_add-n-end : goal.overflow_add-n-end
+overflow_add-n-end c = omega (arith, fits c)
+
+pub overflow_add-result : goal.overflow_add-result
+overflow_add-result c = omega (arith, fits (goal.at.overflow_add-result c).After-decade_of-first)
 
 pub loop-n-init : goal.loop-n-init
-loop-n-init c = (omega arith, before c)
-
-pub overflow_add-n : goal.overflow_add-n
-overflow_add-n c = omega (arith, fits (goal.at.overflow_add-n c).After-decade_of-n)
-
-pub loop-n-smaller : goal.loop-n-smaller
-loop-n-smaller c = omega arith
+loop-n-init c = before c
 
 pub loop-n-preserved : goal.loop-n-preserved
-loop-n-preserved c = (omega arith, below_more _ _ c.loop-n.invariant.1 (omega arith))
+loop-n-preserved c = below_more _ _ c.loop-n.invariant (omega arith)

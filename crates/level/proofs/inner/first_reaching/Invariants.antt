@@ -1,7 +1,6 @@
 -- `level::inner::first_reaching` meets its contract. Every level before the decade of m misses m, and the first level
--- of
--- the next decade reaches it. The loop's invariant: every level before n misses m. Assumes nothing.
-use Rattle.std.specs.Prelude.{ℕ, ◌-◌, ◌<◌, ◌≤◌}
+-- of the next decade reaches it. The loop's invariant: every level before n misses m. Assumes nothing.
+use Rattle.std.specs.Prelude.{ℕ, ◌<◌}
 use Rattle.level.specs.{Level.bound}
 use Rattle.level.proofs.inner.first_reaching.Given as goal
 
@@ -10,7 +9,4 @@ abbrev pub Missed : (m n : ℕ) → Type 0
 Missed m n = (j : ℕ) → j < n → bound j < m
 
 abbrev pub invariant-loop-n : goal.invariant-loop-n
-invariant-loop-n l = (l.n ≤ l.next) × Missed l.m l.n
-
-abbrev pub decreases-loop-n : goal.decreases-loop-n
-decreases-loop-n l = l.next - l.n
+invariant-loop-n l = Missed l.m l.n
