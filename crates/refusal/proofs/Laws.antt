@@ -115,3 +115,10 @@ one_answer (Ok y) (Ok z) a b = ap Ok (a.answer ∙ sym b.answer)
 one_answer (Ok y) (Err why) a b = absurd (let low = numbered why in omega (arith, a.number, b.number))
 one_answer (Err why) (Ok z) a b = absurd (let low = numbered why in omega (arith, a.number, b.number))
 one_answer (Err why) (Err more) a b = ap Err (same_number why more (a.number ∙ sym b.number))
+
+-- nor are there two outcomes of a call that only refuses or doesn't
+pub same_told : (r s : Result (Unit {0}) Refusal) → told r ≡ told s → r ≡ s
+same_told (Ok y) (Ok z) e = refl
+same_told (Ok y) (Err why) e = absurd (let low = numbered why in omega arith)
+same_told (Err why) (Ok z) e = absurd (let low = numbered why in omega arith)
+same_told (Err why) (Err more) e = ap Err (same_number why more e)
