@@ -1,5 +1,5 @@
 -- Laws of room that is lent: texts written into it, one past the other, and loops that copy an answer. Assumes nothing.
-use Prim.Native.Nat.{ℕ, zero, suc, ◌+◌, ◌≤◌, ◌<◌}
+use Prim.Native.Nat.{ℕ, zero, suc, ◌+◌, ◌-◌, ◌≤◌, ◌<◌}
 use mathlib.Core.Path.{◌≡◌, refl, sym, ap, ◌∙◌}
 use mathlib.Core.List.{List, [], ◌∷◌, ◌++◌, append_assoc, append-nil}
 use native.Mathlib.{Nat.add_assoc, Nat.add-zero, Nat.le_of_suc-le-suc, Nat.not-suc-le-zero, Numerals.add-one}
@@ -8,12 +8,23 @@ use lib.ListN.{length, get_or, take, drop, set, length-append, length-take, leng
 use lib.ListN.{drop_of_length-le}
 use lib.Seq.{set_split, take_at, append_snoc, drop-append-add, length-take-le, drop-drop, take-suc, take_all}
 use lib.Seq.{take-length}
+use borrow.Rule.Slice.PartMut.{put_mid, Post-is}
 use Rattle.room.specs.Room.{front, put, Wrote}
 
 -- a store is text of one byte
 pub put_one : (s : List ℕ) (at b : ℕ) → at < length s → set s at b ≡ put s at (b ∷ [])
 unfolding put
 put_one s at b h = rw (set_split s at b h, ← add-one at) (sym (append_snoc (take at s) b (drop (at + 1) s)))
+
+-- and so are the n bytes that a part of it now holds
+pub put_part : {A : Type 0} (a n : ℕ) (xs : List A) {ys zs : List A} → ys ≡ zs → length zs ≡ n
+    → put_mid a (a + n - a) xs ys ≡ put xs a zs
+unfolding put
+put_part {A} a n xs {ys} {zs} e l =
+    ap (λ (t : List A). take a xs ++ (ys ++ t)) (Post-is a (a + n) xs (omega arith))
+    ∙ ap (λ (t : List A). take a xs ++ (t ++ drop (a + n) xs)) e
+    ∙ ap (λ k. take a xs ++ (zs ++ drop (a + k) xs)) (sym l)
+    ∙ sym (append_assoc (take a xs) zs (drop (a + length zs) xs))
 
 pub length-put : (s : List ℕ) (at : ℕ) (t : List ℕ) → at + length t ≤ length s
     → length (put s at t) ≡ length s

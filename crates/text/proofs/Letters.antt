@@ -1,41 +1,27 @@
 -- Laws of letters that stand for their place. Assumes nothing.
-use Rattle.std.specs.Prelude.{ℕ, zero, suc, ◌+◌, ◌<◌, ◌≤◌}
+use Rattle.std.specs.Prelude.{ℕ, zero, suc, ◌+◌, ◌<◌}
 use mathlib.Core.{Path.◌≡◌, Path.refl, Path.sym, Path.ap, Path.◌∙◌, List.List, List.[], List.◌∷◌}
-use native.Mathlib.{Numerals.add-one, Omega.arith}
-use borrow.Author.Tests.{eq-eqb, ne_eqb, eqb-true}
-use lib.{ListN.length, ListN.get_or, ListN.drop, ListN.drop_of_length-le, Seq.drop-cons, Dec.eqb}
-use Rattle.std.specs.Prelude.{Option, Some, None}
+use native.Mathlib.{Omega.arith}
+use borrow.Author.Tests.{eq-eqb, ne_eqb, eqb-true, eqb-false, lt-ltb, le-ltb, ltb-true, ltb-false}
+use lib.{ListN.length, ListN.get_or, Dec.eqb, Dec.ltb}
+use Rattle.std.specs.Prelude.{Option, Some, None, position}
+use Rattle.std.specs.List.{position_or_len}
 use Rattle.text.proofs.Digits.{either, passed}
 use Rattle.text.specs.Letter.{later, place_of, letter_of, show_letter}
 
--- a place counted from further on
-abbrev pub moved : ℕ → Option ℕ → Option ℕ
-moved i None = None
-moved i (Some n) = Some (i + n)
-
-moved_later : (i : ℕ) (r : Option ℕ) → moved i (later r) ≡ moved (i + 1) r
-moved_later i None = refl
-moved_later i (Some n) = let e : i + suc n ≡ i + 1 + n = omega arith in ap Some e
-
-pub moved_none : (r : Option ℕ) → r ≡ moved 0 r
-moved_none None = refl
-moved_none (Some n) = let e : n ≡ 0 + n = omega arith in ap Some e
-
--- one letter further
-module _ (c : ℕ) (ls : List ℕ) (i : ℕ) where
-  pub place_hit : i < length ls → c ≡ get_or ls i 0 → moved i (place_of c (drop i ls)) ≡ Some i
-  unfolding place_of
-  place_hit h e = let z : i + 0 ≡ i = omega arith in rw (drop-cons ls i 0 h, eq-eqb c (get_or ls i 0) e, z)
-
-  pub place_miss : i < length ls → (c ≡ get_or ls i 0 → ⊥)
-      → moved i (place_of c (drop i ls)) ≡ moved (i + 1) (place_of c (drop (i + 1) ls))
-  unfolding place_of
-  place_miss h e = rw (drop-cons ls i 0 h, ne_eqb c (get_or ls i 0) e) (moved_later i (place_of c (drop (suc i) ls))
-      ∙ rw (add-one i))
-
-  pub place_end : length ls ≤ i → moved i (place_of c (drop i ls)) ≡ None
-  unfolding place_of
-  place_end h = rw (drop_of_length-le ls h)
+-- the first place of a byte is what `position` gives
+pub place_found : (c : ℕ) (ls : List ℕ) → position (λ l. eqb l c) ls ≡ place_of c ls
+unfolding place_of
+place_found c [] = refl
+place_found c (l ∷ ls) =
+    let q = position_or_len (λ l. eqb l c) ls in
+    either (eqb c l)
+    (λ yes. rw (yes, eq-eqb l c (sym (eqb-true c l yes)), lt-ltb 0 (length (l ∷ ls)) (omega arith)))
+    (λ no. rw (no, ne_eqb l c (λ e. eqb-false c l no (sym e)), ← place_found c ls)
+    (either (ltb q (length ls))
+    (λ low. rw (low, lt-ltb (1 + q) (length (l ∷ ls)) (omega (arith, ltb-true q (length ls) low)))
+    (let e : 1 + q ≡ suc q = omega arith in ap Some e))
+    (λ high. rw (high, le-ltb (1 + q) (length (l ∷ ls)) (omega (arith, ltb-false q (length ls) high))) refl)))
 
 -- a letter that was read is the text of its place
 later_got : (r : Option ℕ) (n : ℕ) → later r ≡ Some n → (m : ℕ) × (r ≡ Some m) × (n ≡ suc m)

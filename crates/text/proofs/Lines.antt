@@ -7,6 +7,8 @@ use borrow.Author.Tests.{le-leb, lt-leb, leb-true, leb-false}
 use lib.ListN.{length-append, length-drop, drop_of_length-le}
 use lib.Seq.{take-length, length-take-le, drop-cons, get_or-drop, take-append_seam, get_or-append_seam}
 use lib.Seq.{get_or-append-add}
+use Rattle.std.specs.List.{ends_with}
+use Rattle.std.proofs.lemmas.Bool.Decides.{nat_tests}
 use Rattle.text.specs.Line.{end_at, first_line, onto, lines_of, bare_line}
 use Rattle.text.proofs.Digits.{either}
 
@@ -57,6 +59,23 @@ lines_step (c ∷ d ∷ s) h =
 pub lines_none : lines_of [] ≡ []
 unfolding lines_of
 lines_none = refl
+
+-- a text ends with a CRLF where one stands two bytes before its end
+pub ends_bare : (s : List ℕ) → ends_with eqb s (13 ∷ 10 ∷ []) ≡ (leb 2 (length s) && end_at s (length s - 2))
+ends_bare [] = refl
+ends_bare (c ∷ []) = and-false (eqb 13 c)
+ends_bare (c ∷ d ∷ t) =
+    let s = c ∷ d ∷ t in
+    let n = length s - 2 in
+    let last : suc n ≡ n + 1 = sym (add-one n) in
+    let past : length s ≤ suc (suc n) = omega arith in
+    rw (
+      le-leb 2 (length s) (omega arith),
+      drop-cons s n 0 (omega arith),
+      drop-cons s (suc n) 0 (omega arith),
+      drop_of_length-le s past,
+      last,
+    ) (grind (arith, nat_tests))
 
 -- a line with its CRLF, without it
 pub bare_back : (t : List ℕ) → bare_line (t ++ (13 ∷ 10 ∷ [])) ≡ t

@@ -171,22 +171,19 @@ digits_long zero n = refl
 digits_long (suc d) n = ap length (digits_front_lem d n) ∙ ap suc (digits_long d (n % 10 ^ d))
 
 -- the first of k digits, where a unit has p parts: the digit, the parts of the next one, and the digits after it
-pub record Lead (k n p : ℕ) : Type 0 where
-  pub parts : p / 10 ≡ 10 ^ (k - 1)
-  pub some : 0 < p / 10
-  pub small : n / (p / 10) < 10
-  pub rest : n % (p / 10) < 10 ^ (k - 1)
-  pub text : show_digits k n ≡ ((48 + n / (p / 10)) ∷ []) ++ show_digits (k - 1) (n % (p / 10))
+pub record Lead (k n q : ℕ) : Type 0 where
+  pub some : 0 < q
+  pub small : n / q < 10
+  pub rest : n % q < 10 ^ (k - 1)
+  pub text : show_digits k n ≡ ((48 + n / q) ∷ []) ++ show_digits (k - 1) (n % q)
 
-pub lead : (k n p : ℕ) → 0 < k → p ≡ 10 ^ k → n < 10 ^ k → Lead k n p
-lead zero n p h e l = absurd (omega arith)
-lead (suc d) n p h e l =
+pub lead : (k n q : ℕ) → 0 < k → q ≡ 10 ^ (k - 1) → n < 10 ^ k → Lead k n q
+lead zero n q h e l = absurd (omega arith)
+lead (suc d) n q h e l =
     let same : suc d - 1 ≡ d = omega arith in
-    let ten = pow-succ' 10 d in
-    let parts : p / 10 ≡ 10 ^ d = omega arith in
-    let less : n < 10 * 10 ^ d = omega arith in
+    let parts : q ≡ 10 ^ d = rw same at e in
+    let less : n < 10 * 10 ^ d = omega (arith, pow-succ' 10 d) in
     record {
-      parts = rw same parts;
       some = omega (arith, parts_some d);
       small = rw parts ((div-lt_iff_lt-mul {k = 10 ^ d} {x = n} {y = 10} (parts_some d)).1 less);
       rest = rw (same, parts) (mod-lt n (parts_some d));

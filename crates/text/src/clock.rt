@@ -9,9 +9,7 @@ fn two_at(s: &[u8], at: usize, bound: u32) -> Option<u32>
     requires { at + 2 ≤ length s.now }
     ensures { result ≡ two_at s.now at bound }
 {
-    let Some(n) = digits(&s[at..at + 2]) else {
-        return None;
-    };
+    let n = digits(&s[at..at + 2])?;
     if n < bound { Some(n) } else { None }
 }
 
@@ -19,23 +17,11 @@ fn two_at(s: &[u8], at: usize, bound: u32) -> Option<u32>
 pub fn time(s: &[u8]) -> Option<u32>
     ensures { result ≡ time_of s.now }
 {
-    if s.len() != 8 {
+    if s.len() != 8 || s[2] != b':' || s[5] != b':' {
         return None;
     }
-    if s[2] != b':' {
-        return None;
-    }
-    if s[5] != b':' {
-        return None;
-    }
-    let Some(hour) = two_at(s, 0, 24) else {
-        return None;
-    };
-    let Some(minute) = two_at(s, 3, 60) else {
-        return None;
-    };
-    let Some(second) = two_at(s, 6, 60) else {
-        return None;
-    };
+    let hour = two_at(s, 0, 24)?;
+    let minute = two_at(s, 3, 60)?;
+    let second = two_at(s, 6, 60)?;
     Some(hour * 3600 + minute * 60 + second)
 }

@@ -1,7 +1,8 @@
 // Parts that ask something of their caller: a run of digits, a number with decimals, a letter among a few, where a
 // field or a line ends, and writers into a buffer that has room. A writer writes from a place on and answers the place
 // past its text.
-ghost use Rattle.std.specs.Prelude.{◌≡◌, ◌+◌, ◌*◌, ◌^◌, ◌<◌, ◌≤◌, [], ◌∷◌, length, drop};
+ghost use Rattle.std.specs.Prelude.{◌≡◌, ◌+◌, ◌*◌, ◌^◌, ◌<◌, ◌≤◌, ◌==◌, [], ◌∷◌, length, drop};
+ghost use Rattle.std.specs.Prelude.{position};
 ghost use Rattle.text.specs.Number.{digits_of, max_decimals, decimal_of, show_number, show_whole};
 ghost use Rattle.text.specs.Number.{show_digits, show_decimal, show_level, show_thousandths};
 ghost use Rattle.text.specs.Letter.{letter_of};
@@ -21,17 +22,11 @@ pub fn digits(s: &[u8]) -> Option<u32>
     ensures { result ≡ digits_of 0 s.now }
 {
     let mut value: u32 = 0;
-    let mut i = 0;
-    while i < s.len() {
-        let c = s[i];
-        if c < b'0' {
+    for c in s {
+        if *c < b'0' || b'9' < *c {
             return None;
         }
-        if b'9' < c {
-            return None;
-        }
-        value = value * 10 + (c - b'0') as u32;
-        i += 1;
+        value = value * 10 + (*c - b'0') as u32;
     }
     Some(value)
 }
@@ -41,13 +36,7 @@ fn power(d: usize) -> u32
     requires { d ≤ max_decimals }
     ensures { result ≡ 10 ^ d }
 {
-    let mut parts: u32 = 1;
-    let mut i = 0;
-    while i < d {
-        parts = parts * 10;
-        i += 1;
-    }
-    parts
+    10u32.pow(d as u32)
 }
 
 // A number with d decimals: one to three digits, a point and d digits, no needless leading zero; in parts of its unit.
@@ -56,23 +45,23 @@ pub fn decimal(s: &[u8], d: usize) -> Option<u32>
     ensures { result ≡ decimal_of d s.now }
 {
     let n = s.len();
-    if n < d + 2 {
-        return None;
-    }
-    if d + 4 < n {
+    if n < d + 2 || d + 4 < n {
         return None;
     }
     let point = n - (d + 1);
     if s[point] != b'.' {
         return None;
     }
-    let Some(units) = whole(&s[..point]) else {
-        return None;
-    };
-    let Some(parts) = digits(&s[point + 1..]) else {
-        return None;
-    };
+    let units = whole(&s[..point])?;
+    let parts = digits(&s[point + 1..])?;
     Some(units * power(d) + parts)
+}
+
+// The first place of a byte.
+fn place(s: &[u8], b: u8) -> Option<usize>
+    ensures { result ≡ position (λ c. c == b) s.now }
+{
+    s.iter().position(|c| *c == b)
 }
 
 // The place of a letter among a few.
@@ -83,15 +72,7 @@ pub fn letter(t: &[u8], letters: &[u8]) -> Option<u32>
     if t.len() != 1 {
         return None;
     }
-    let c = t[0];
-    let mut i = 0;
-    while i < letters.len() {
-        if c == letters[i] {
-            return Some(i as u32);
-        }
-        i += 1;
-    }
-    None
+    Some(place(letters, t[0])? as u32)
 }
 
 // The place of the next parting byte `d` at or after `at`, or the text's length.
@@ -99,14 +80,10 @@ pub fn field_end(s: &[u8], at: usize, d: u8) -> usize
     requires { at ≤ length s.now }
     ensures { result ≡ at + length (up_to d (drop at s.now)) }
 {
-    let mut i = at;
-    while i < s.len() {
-        if s[i] == d {
-            return i;
-        }
-        i += 1;
+    match place(&s[at..], d) {
+        Some(length) => at + length,
+        None => s.len(),
     }
-    i
 }
 
 // The place of the next CRLF at or after `at`, or the text's length.
@@ -114,14 +91,12 @@ pub fn line_end(s: &[u8], at: usize) -> usize
     requires { at ≤ length s.now }
     ensures { result ≡ at + length (first_line (drop at s.now)) }
 {
-    let mut i = at;
-    while i < s.len() {
+    for i in at..s.len() {
         if ends_line(s, i) {
             return i;
         }
-        i += 1;
     }
-    i
+    s.len()
 }
 
 // Whether a CRLF stands at `at`.
@@ -129,13 +104,7 @@ fn ends_line(s: &[u8], at: usize) -> bool
     requires { at < length s.now }
     ensures { result ≡ end_at s.now at }
 {
-    if s[at] != b'\r' {
-        return false;
-    }
-    if s.len() - at < 2 {
-        return false;
-    }
-    s[at + 1] == b'\n'
+    s[at..].starts_with(b"\r\n")
 }
 
 // One byte.
@@ -152,12 +121,8 @@ pub fn put_text(out: &mut [u8], at: usize, text: &[u8]) -> usize
     requires { at + length text.now ≤ length out.old }
     ensures { Wrote out.old at text.now out.new result }
 {
-    let mut i = 0;
-    while i < text.len() {
-        out[at + i] = text[i];
-        i += 1;
-    }
-    at + i
+    out[at..at + text.len()].copy_from_slice(text);
+    at + text.len()
 }
 
 // A number: the digits of its tenth, if there are any, then its last digit.
@@ -186,15 +151,12 @@ pub fn put_digits(out: &mut [u8], at: usize, n: u32, d: usize) -> usize
     requires { (d ≤ max_decimals) × (n < 10 ^ d) × (at + d ≤ length out.old) }
     ensures { Wrote out.old at (show_digits d n) out.new result }
 {
-    let mut parts = power(d);
     let mut left = n;
     let mut next = at;
-    let mut k = d;
-    while 0 < k {
-        parts = parts / 10;
+    for k in (0..d).rev() {
+        let parts = power(k);
         next = put_byte(out, next, b'0' + (left / parts) as u8);
         left = left % parts;
-        k -= 1;
     }
     next
 }

@@ -6,15 +6,9 @@ ghost use Rattle.text.specs.Line.{bare_line};
 pub fn bare_length(s: &[u8]) -> usize
     ensures { result ≡ length (bare_line s.now) }
 {
-    let n = s.len();
-    if n < 2 {
-        return n;
+    if s.ends_with(b"\r\n") {
+        s.len() - 2
+    } else {
+        s.len()
     }
-    if s[n - 2] != b'\r' {
-        return n;
-    }
-    if s[n - 1] != b'\n' {
-        return n;
-    }
-    n - 2
 }

@@ -4,20 +4,15 @@ ghost use Rattle.text.specs.Number.{whole_of, level_of, thousandths_of};
 
 use crate::inner::{decimal, digits};
 
-// A whole number: one to seven digits, no needless leading zero.
+// A whole number: one to seven digits, no needless leading zero. None is off its layout, here and below.
 pub fn whole(s: &[u8]) -> Option<u32>
     ensures { result ≡ whole_of s.now }
 {
-    if s.len() == 0 {
+    if s.is_empty() || 7 < s.len() {
         return None;
     }
-    if 7 < s.len() {
+    if 1 < s.len() && s[0] == b'0' {
         return None;
-    }
-    if 1 < s.len() {
-        if s[0] == b'0' {
-            return None;
-        }
     }
     digits(s)
 }
@@ -35,9 +30,6 @@ pub fn thousandths(s: &[u8]) -> Option<u32>
 {
     match decimal(s, 3) {
         Some(n) => Some(n),
-        None => match decimal(s, 2) {
-            Some(n) => Some(n * 10),
-            None => None,
-        },
+        None => Some(decimal(s, 2)? * 10),
     }
 }
