@@ -1,9 +1,10 @@
 -- Laws of an account: from the sums that the code makes, from the array of arrays, and four numbers in lent room.
 -- Assumes nothing.
-use mathlib.Core.{Path.◌≡◌, Path.refl, Bool.true, List.List, List.[], List.◌∷◌}
-use Rattle.std.specs.Prelude.{ℕ, suc, ◌+◌, ◌*◌, ◌<◌, ◌≤◌}
+use mathlib.Core.{Path.◌≡◌, Path.refl, Path.sym, Path.ap, Path.◌∙◌, Bool.true, List.List, List.◌++◌, List.append_assoc}
+use Rattle.std.specs.Prelude.{ℕ, ◌+◌, ◌-◌, ◌*◌, ◌<◌}
 use native.Mathlib.{Numerals.add-one, Omega.arith}
-use lib.{ListN.length, ListN.set, Seq.sets-eq}
+use lib.ListN.{length, take, drop}
+use borrow.Rule.Slice.PartMut.{put_mid, Post-is}
 use Rattle.movement.specs.Limits.{group_count}
 use Rattle.room.specs.Room.{front, put, Writes}
 use Rattle.room.proofs.Fronts.{front_grows}
@@ -17,15 +18,15 @@ use Rattle.load.specs.declared.sums.{Sums.Sums, Totals.Totals}
 use Rattle.load.specs.InnerSteps.{table, group_at, Scalable, Bounded, sums_of, totals_of, load_from}
 use Rattle.load.proofs.{BoundLaws.fits_next, SumsLaws.sums_totals, SumsLaws.from_table_rule, SumsLaws.from_shares}
 
--- four numbers stored one past the other
-pub put_four : (room : List ℕ) (at a b c d : ℕ) → at + 4 ≤ length room
-    → set (set (set (set room at a) (at + 1) b) (at + 2) c) (at + 3) d ≡ put room at (a ∷ b ∷ c ∷ d ∷ [])
+-- numbers copied to their place
+pub copied : (room : List ℕ) (at n : ℕ) {part numbers : List ℕ} → part ≡ numbers → length numbers ≡ n
+    → put_mid at (at + n - at) room part ≡ put room at numbers
 unfolding put
-put_four room at a b c d h =
-    let one : at + 1 ≡ suc at = omega arith in
-    let two : at + 2 ≡ suc (suc at) = omega arith in
-    let three : at + 3 ≡ suc (suc (suc at)) = omega arith in
-    rw (one, two, three) (sets-eq (a ∷ b ∷ c ∷ d ∷ []) room at h)
+copied room at n {part} {numbers} e l =
+    ap (λ (s : List ℕ). take at room ++ (part ++ s)) (Post-is at (at + n) room (omega arith))
+    ∙ ap (λ (s : List ℕ). take at room ++ (s ++ drop (at + n) room)) e
+    ∙ ap (λ k. take at room ++ (numbers ++ drop (at + k) room)) (sym l)
+    ∙ sym (append_assoc (take at room) numbers (drop (at + length numbers) room))
 
 -- a group that movements within the bounds give can be scaled
 pub group_scalable : (cs : List (List (List Group))) → Bounded cs → (g : ℕ) → g < group_count

@@ -5,14 +5,13 @@ use mathlib.Core.{Bool.Bool, Bool.true, Bool.false, Bool.cond, Bool.not, Bool.â—
 use native.Mathlib.Omega.{arith}
 use borrow.Author.Tests.{leb-true, ltb-true}
 use Rattle.level.specs.Level.{verdict_of}
-use Rattle.level.specs.declared.Level.{Level}
 use Rattle.movement.specs.Limits.{group_count}
 use Rattle.refusal.specs.Refuse.{refuse}
 use Rattle.refusal.specs.Refusal.{number_of}
 use Rattle.refusal.specs.declared.Refusal.{Refusal}
 use Rattle.refusal.proofs.Laws.{and_left, and_right, refuse_none, numbered}
 use Rattle.book_rules.specs.Columns.{Book, sound}
-use Rattle.load_rules.specs.declared.{Group.Group, Counts.Counts}
+use Rattle.load_rules.specs.declared.{Group.Group}
 use Rattle.load_rules.specs.{Shares.Share, Tally.tally, Tally.list_from}
 use Rattle.load_rules.specs.Factors.{sum_to, known_sum, unknown_sum, general_factor}
 use Rattle.load_rules.specs.Load.{counts_of, scaled_sum, total_of, days_fit, none_computed, load_refusal}

@@ -72,10 +72,8 @@ fn put_groups(groups: Groups, answer: &mut [u64])
     requires whole_from_in_bounds { whole_from ≤ length answer.old }
     ensures { answer.new ≡ front (groups_to (group_at groups) group_count) answer.old }
 {
-    let mut g = 0;
-    while g < GROUPS {
+    for g in 0..GROUPS {
         put_group(group_at(groups, g), 4 * g, answer);
-        g += 1;
     }
 }
 
@@ -85,10 +83,12 @@ fn put_group(c: Group, at: usize, answer: &mut [u64])
     requires at_in_bounds { at + 4 ≤ length answer.old }
     ensures { answer.new ≡ put answer.old at (group_numbers c) }
 {
-    answer[at] = c.computed as u64;
-    answer[at + 1] = c.missing as u64;
-    answer[at + 2] = c.energy;
-    answer[at + 3] = scaled_by(c.energy, c.computed + c.missing, c.computed);
+    answer[at..at + 4].copy_from_slice(&[
+        c.computed as u64,
+        c.missing as u64,
+        c.energy,
+        scaled_by(c.energy, c.computed + c.missing, c.computed),
+    ]);
 }
 
 // Writes the general factor, P, the total and the level behind the groups.
@@ -98,11 +98,12 @@ fn put_whole(s: Sums, t: Totals, answer: &mut [u64])
     ensures { answer.new ≡ put answer.old whole_from
         (whole_numbers (ratio (s.known + s.unknown) s.known) s.scaled t.total t.level) }
 {
-    let level = t.level;
-    answer[WHOLE_FROM] = (s.known + s.unknown) as u64;
-    answer[WHOLE_FROM + 1] = s.known as u64;
-    answer[WHOLE_FROM + 2] = s.scaled;
-    answer[WHOLE_FROM + 3] = t.total;
-    answer[WHOLE_FROM + 4] = level.given() as u64;
-    answer[WHOLE_FROM + 5] = level.value() as u64;
+    answer[WHOLE_FROM..ACCOUNT_NUMBERS].copy_from_slice(&[
+        (s.known + s.unknown) as u64,
+        s.known as u64,
+        s.scaled,
+        t.total,
+        t.level.given() as u64,
+        t.level.value() as u64,
+    ]);
 }

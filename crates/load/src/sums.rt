@@ -42,21 +42,18 @@ fn added_to(s: Sums, c: Group) -> Sums
     requires { Fitting s c }
     ensures { result ≡ added_to s c }
 {
-    let computed = c.computed;
-    let all = computed + c.missing;
-    let scaled = s.scaled + scaled_by(c.energy, all, computed);
-    if computed == 0 {
+    let all = c.computed + c.missing;
+    let scaled = s.scaled + scaled_by(c.energy, all, c.computed);
+    if c.computed == 0 {
+        let unknown = s.unknown + c.missing;
         return Sums {
-            scaled: scaled,
-            known: s.known,
-            unknown: s.unknown + c.missing,
+            scaled,
+            unknown,
+            ..s
         };
     }
-    Sums {
-        scaled: scaled,
-        known: s.known + all,
-        unknown: s.unknown,
-    }
+    let known = s.known + all;
+    Sums { scaled, known, ..s }
 }
 
 // The sums over all groups.
@@ -90,10 +87,7 @@ pub(crate) fn totals_of(s: Sums, days: u32) -> Totals
 {
     let total = scaled_by(s.scaled, s.known + s.unknown, s.known);
     let level = level::inner::level_of(level::inner::mean(total, days));
-    Totals {
-        total: total,
-        level: level,
-    }
+    Totals { total, level }
 }
 
 // V and U of each group, by its number.

@@ -44,16 +44,15 @@ fn with_row(
 {
     if mark == 0 {
         return Group {
-            computed: seen.computed,
             missing: seen.missing + 1,
-            energy: seen.energy,
+            ..seen
         };
     }
     let e = level::inner::energy(a, powers, level + movement::inner::group_weight(group));
     Group {
         computed: seen.computed + 1,
-        missing: seen.missing,
         energy: seen.energy + e,
+        ..seen
     }
 }
 
@@ -112,16 +111,13 @@ fn with_rows(
         ≡ flat (tally (book_shares points point (book_lent ids.now groups.now marks.now counts.now levels.now))) }
 {
     let mut cells = start;
-    let mut i = 0;
-    while i < ids.len() {
+    for i in 0..ids.len() {
         let at = i * points + point;
         if counts[at] != 0 {
             let group = groups[i];
             let g = group as usize;
-            let next = with_row(a, powers, cells[g], group, marks[i], levels[at]);
-            cells[g] = next;
+            cells[g] = with_row(a, powers, cells[g], group, marks[i], levels[at]);
         }
-        i += 1;
     }
     cells
 }

@@ -16,18 +16,15 @@ put_group-requires c =
     }
 
 pub loop-g-preserved : goal.loop-g-preserved
-loop-g-preserved c = (
-  omega arith,
-  omega arith,
-  c.put_group.ensures
-      ∙ rw (c.loop-g.invariant.2, c.group_at.ensures)
-      (groups_more (group_at c.args.groups) c.loop-g.g c.args.answer.now),
-)
+loop-g-preserved c =
+    c.put_group.ensures
+    ∙ rw (c.loop-g.invariant, c.group_at.ensures)
+    (groups_more (group_at c.args.groups) c.loop-g.g c.args.answer.now)
 
 pub returns : goal.returns
 returns c =
     let last : c.loop-g.g ≡ group_count = omega arith in
-    c.loop-g.invariant.2 ∙ ap (λ n. front (groups_to (group_at c.args.groups) n) c.args.answer.now) last
+    c.loop-g.invariant ∙ ap (λ n. front (groups_to (group_at c.args.groups) n) c.args.answer.now) last
 
 pub loop-g-init : goal.loop-g-init
-loop-g-init c = unfold groups_to in (omega arith, refl, refl)
+loop-g-init c = unfold groups_to in refl

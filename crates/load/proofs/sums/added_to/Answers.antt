@@ -25,12 +25,12 @@ overflow_add-scaled c =
       c.requires.movements,
     )
 
-pub returns-then-computed-eq0 : goal.returns-then-computed-eq0
+pub returns-then-c-eq0 : goal.returns-then-c-eq0
 unfolding added_to scaled_energy known unknown
-returns-then-computed-eq0 c =
-    rw (c.scaled_by.ensures, eq-eqb _ _ c.if-computed-eq0.true)
+returns-then-c-eq0 c =
+    rw (c.scaled_by.ensures, eq-eqb _ _ c.if-c-eq0.true)
     (simp add-zero)
 
 pub returns : goal.returns
 unfolding added_to scaled_energy known unknown
-returns c = rw (c.scaled_by.ensures, ne_eqb _ _ c.if-computed-eq0.false) (simp add-zero)
+returns c = rw (c.scaled_by.ensures, ne_eqb _ _ c.if-c-eq0.false) (simp add-zero)

@@ -19,18 +19,18 @@ row c =
     let a = c.args in
     row_at a.points a.point (book_lent a.ids.now a.groups.now a.marks.now a.counts.now a.levels.now)
     c.requires.levels_value c.requires.point_lt_points
-    c.loop-i.i c.loop-i-test.true
+    c.loop-i.i (omega arith)
 
-pub with_row-next-requires : goal.with_row-next-requires
+pub with_row-requires : goal.with_row-requires
 unfolding flat_at
-with_row-next-requires c =
+with_row-requires c =
     let g = get_or c.args.groups.now c.loop-i.i 0 in
     record {
       room_for_one = (
-        subst (λ cs. RoomForOne (flat_at cs g)) (sym c.loop-i.invariant.1)
-            (row (goal.at.with_row-next-requires c).In-loop-i).room,
-        (row (goal.at.with_row-next-requires c).In-loop-i).group<,
-        (row (goal.at.with_row-next-requires c).In-loop-i).level≤,
+        subst (λ cs. RoomForOne (flat_at cs g)) (sym c.loop-i.invariant)
+            (row (goal.at.with_row-requires c).In-loop-i).room,
+        (row (goal.at.with_row-requires c).In-loop-i).group<,
+        (row (goal.at.with_row-requires c).In-loop-i).level≤,
       );
       tables = c.requires.start_value.1;
     }
@@ -40,28 +40,26 @@ unfolding flat_at
 loop-i-preserved c =
     let p = c.args.points in
     let pt = c.args.point in
-    let i = c.loop-i.i in (
-      omega arith,
-      elim c.if-counts-at-ne0.branch [
-        | then-counts-at-ne0 w ↦ w.cells-is ∙ row_next p pt (book (goal.at.loop-i-preserved c).Start)
-            c.requires.levels_value c.requires.point_lt_points i c.loop-i-test.true
-            c.loop-i.cells w.with_row-next.result c.loop-i.invariant.1 w.if-counts-at-ne0.true w.with_row-next.ensures
-        | else-counts-at-ne0 w ↦ w.cells-is ∙ c.loop-i.invariant.1
-            ∙ ap (λ ss. flat (tally ss))
-            (row_skipped p pt (book (goal.at.loop-i-preserved c).Start) c.requires.levels_value
-            c.requires.point_lt_points i w.if-counts-at-ne0.false)
-      ],
-    )
+    let i = c.loop-i.i in
+    elim c.if-counts-at-ne0.branch [
+      | then-counts-at-ne0 w ↦ w.cells-is ∙ row_next p pt (book (goal.at.loop-i-preserved c).Start)
+          c.requires.levels_value c.requires.point_lt_points i (omega arith)
+          c.loop-i.cells w.with_row.result c.loop-i.invariant w.if-counts-at-ne0.true w.with_row.ensures
+      | else-counts-at-ne0 w ↦ w.cells-is ∙ c.loop-i.invariant
+          ∙ ap (λ ss. flat (tally ss))
+          (row_skipped p pt (book (goal.at.loop-i-preserved c).Start) c.requires.levels_value
+          c.requires.point_lt_points i w.if-counts-at-ne0.false)
+    ]
 
 pub returns : goal.returns
 unfolding book_shares
 returns c =
     let e : c.loop-i.i ≡ length c.args.ids.now = omega arith in
-    c.loop-i.invariant.1
+    c.loop-i.invariant
     ∙ ap (λ n. flat (tally (shares_to c.args.points c.args.point (book (goal.at.returns c).Start) n))) e
 
 pub loop-i-init : goal.loop-i-init
-loop-i-init c = unfold shares_to in (omega arith, c.requires.start_value.0)
+loop-i-init c = unfold shares_to in c.requires.start_value.0
 
 pub overflow_mul-at : goal.overflow_mul-at
 overflow_mul-at c = omega (arith, (row c).in_levels)

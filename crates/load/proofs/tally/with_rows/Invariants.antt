@@ -1,6 +1,6 @@
 -- `load::tally::with_rows` meets its contract: the invariant is the groups of the first rows. A sound book says that
 -- the next row fits. Assumes nothing.
-use Rattle.std.specs.Prelude.{◌≡◌, ◌-◌, ◌≤◌, length}
+use Rattle.std.specs.Prelude.{◌≡◌}
 use Rattle.book_rules.specs.Columns.{book_of}
 use Rattle.load_rules.specs.{Shares.shares_to, Tally.tally}
 use Rattle.load.specs.InnerSteps.{flat}
@@ -8,8 +8,4 @@ use Rattle.load.proofs.tally.with_rows.Given as goal
 
 abbrev pub invariant-loop-i : goal.invariant-loop-i
 invariant-loop-i l =
-    (l.i ≤ length l.ids)
-    × (l.cells ≡ flat (tally (shares_to l.points l.point (book_of l.ids l.groups l.marks l.counts l.levels) l.i)))
-
-abbrev pub decreases-loop-i : goal.decreases-loop-i
-decreases-loop-i l = length l.ids - l.i
+    l.cells ≡ flat (tally (shares_to l.points l.point (book_of l.ids l.groups l.marks l.counts l.levels) l.i))
