@@ -3,12 +3,13 @@ use mathlib.Core.{Path.◌≡◌, Path.refl, Path.sym, Path.ap, Path.subst, Path
 use Rattle.std.specs.Prelude.{ℕ, ◌+◌, ◌≤◌}
 use native.Mathlib.Omega.{arith}
 use lib.ListN.{length, take, length-append}
-use lib.Seq.{take-append-add, take-append-le, length-take-le}
+use lib.Seq.{take-append-add, take-append-le, length-take-le, take-length}
 use borrow.Rule.Slice.PartMut.{put_mid, post_of, take_put}
 use Rattle.channel.specs.declared.input.Arrived.{Arrived}
 use Rattle.channel.specs.declared.input.Arrived.TheVariants.{Bytes, End, Failed}
-use Rattle.channel.specs.System.{Origin}
-use Rattle.channel.specs.Input.{Came, Gave, Reads, Final, Fills, full, complete, failed}
+use Rattle.channel.specs.System.{Origin, First}
+use Rattle.channel.specs.declared.whole.Filled.TheVariants.{Complete, FailedAfter, Full}
+use Rattle.channel.specs.Input.{Came, Gave, Reads, Final, Fills}
 
 -- the first bytes of a buffer once a part from n on is replaced: the n before it, and the part's
 pub front_behind : (n m k : ℕ) (xs ys : List ℕ) → n ≤ length xs → k ≤ length ys
@@ -45,43 +46,27 @@ module _ {origin : Origin} {taken taken' : ℕ} {room : List ℕ} {r : Arrived} 
         rw (front_behind n m k text room h more.1) (more.4 (take n text) came),
       )
 
-  pub read_end : r ≡ End → Fills origin (record { size = n; state = complete }) (put_mid n m text room)
-  read_end e =
-      let last = gave_as reads End e in
-      record {
-        within = omega (arith, behind_fits n m 0 text room h (omega arith));
-        first = rw (take_put n m text room h) came.first;
-        ends = λ _. rw (take_put n m text room h) (last.1 (take n text) came);
-        fails = λ e. absurd (omega (arith, e));
-        fills = λ e. absurd (omega (arith, e));
-        known = omega arith;
-      }
+  -- the bytes before it are within the buffer, and are the first
+  kept : (n ≤ length (put_mid n m text room)) × First origin (take n (put_mid n m text room))
+  kept =
+      (omega (arith, behind_fits n m 0 text room h (omega arith)), rw (take_put n m text room h) came.first)
 
-  pub read_broken : 1 ≤ length room → r ≡ Failed
-      → Fills origin (record { size = n; state = failed }) (put_mid n m text room)
+  pub read_end : r ≡ End → Fills origin (Complete n) (put_mid n m text room)
+  read_end e =
+      let last = (gave_as reads End e).1 (take n text) came in
+      record { filling = (kept.0, kept.1, rw (take_put n m text room h) last) }
+
+  pub read_broken : 1 ≤ length room → r ≡ Failed → Fills origin (FailedAfter n) (put_mid n m text room)
   read_broken some e =
-      let last = gave_as reads Failed e in
-      record {
-        within = omega (arith, behind_fits n m 0 text room h (omega arith));
-        first = rw (take_put n m text room h) came.first;
-        ends = λ e. absurd (omega (arith, e));
-        fails = λ _. rw (take_put n m text room h) (last.1 some (take n text) came);
-        fills = λ e. absurd (omega (arith, e));
-        known = omega arith;
-      }
+      let last = (gave_as reads Failed e).1 some (take n text) came in
+      record { filling = (kept.0, kept.1, rw (take_put n m text room h) last) }
 
 -- the buffer is full
 pub filled_up : {origin : Origin} {taken : ℕ} (n : ℕ) (text : List ℕ) → n ≤ length text → length text ≤ n
-    → Came origin taken (take n text) → Fills origin (record { size = n; state = full }) text
+    → Came origin taken (take n text) → Fills origin Full text
 filled_up n text h f came =
-    record {
-      within = h;
-      first = came.first;
-      ends = λ e. absurd (omega (arith, e));
-      fails = λ e. absurd (omega (arith, e));
-      fills = λ _. omega arith;
-      known = omega arith;
-    }
+    let all : n ≡ length text = omega arith in
+    record { filling = rw (all, take-length text) at came.first }
 
 -- an end and a failure are final
 pub final : {origin : Origin} {taken taken' : ℕ} {room : List ℕ} (r : Arrived)

@@ -3,6 +3,7 @@ use Rattle.std.specs.Prelude.{◌≡◌, ℕ, ◌+◌, ◌-◌, ◌^◌, ◌<◌
 use Rattle.channel.specs.declared.input.Arrived.{Arrived}
 use Rattle.channel.specs.declared.input.Arrived.TheVariants.{Bytes, End, Failed}
 use Rattle.channel.specs.declared.whole.Filled.{Filled}
+use Rattle.channel.specs.declared.whole.Filled.TheVariants.{Complete, FailedAfter, Full}
 use Rattle.channel.specs.System.{Origin, First, Whole, Broken}
 use Rattle.channel.specs.System.Origin.{input, file}
 
@@ -41,20 +42,10 @@ pub record Final (origin : Origin) (r : Arrived) (taken' : ℕ) : Type 0 where
       → (old : List ℕ) → Came origin taken' old → 2 ^ 64 ≤ length old + 1
 
 -- All reads into a buffer: to the end, up to a read that failed, or until the buffer is full
-
-abbrev pub full : ℕ
-full = 0
-
-abbrev pub complete : ℕ
-complete = 1
-
-abbrev pub failed : ℕ
-failed = 2
+abbrev pub Filling : (origin : Origin) (r : Filled) (text : List ℕ) → Type 0
+Filling origin (Complete n) text = (n ≤ length text) × First origin (take n text) × Whole origin (take n text)
+Filling origin (FailedAfter n) text = (n ≤ length text) × First origin (take n text) × Broken origin (take n text)
+Filling origin Full text = First origin text
 
 pub record Fills (origin : Origin) (r : Filled) (text : List ℕ) : Type 0 where
-  pub within : r.size ≤ length text
-  pub first : First origin (take r.size text)
-  pub ends : r.state ≡ complete → Whole origin (take r.size text)
-  pub fails : r.state ≡ failed → Broken origin (take r.size text)
-  pub fills : r.state ≡ full → r.size ≡ length text
-  pub known : r.state ≤ failed
+  pub filling : Filling origin r text

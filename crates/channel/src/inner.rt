@@ -13,11 +13,6 @@ use std::io::{Error, ErrorKind, Read, Result};
 // The descriptor of standard output.
 const STDOUT_FILENO: i32 = 1;
 
-// A room or a read of so many bytes is of none.
-const NO_ROOM: usize = 0;
-
-const NO_BYTES: usize = 0;
-
 // Reads behind the `taken` bytes that came before, into the front of the room. Without room it fails: then nothing can
 // come, and that is no end, nor a read that failed. Behind an end or a failure the count is used up, and a further read
 // fails without being made. The source is the file that was opened under the name, or else standard input.
@@ -33,21 +28,17 @@ pub fn read_from(
     ensures { Reads (origin_of opened name.now) taken.old result taken.new
         room.new }
 {
-    if room.len() <= NO_ROOM {
-        *taken = u64::MAX;
-        return Arrived::Failed;
-    }
-    if u64::MAX - *taken <= room.len() as u64 {
+    if room.is_empty() || u64::MAX - *taken <= room.len() as u64 {
         *taken = u64::MAX;
         return Arrived::Failed;
     }
     match read_once(rt, source, room) {
+        Ok(0) => {
+            *taken = u64::MAX;
+            Arrived::End
+        }
         Ok(n) => {
-            if n <= NO_BYTES {
-                *taken = u64::MAX;
-                return Arrived::End;
-            }
-            *taken = *taken + n as u64;
+            *taken += n as u64;
             Arrived::Bytes(n)
         }
         Err(_) => {
@@ -77,6 +68,6 @@ pub fn write(sent: &mut usize, part: &[u8]) -> bool
     requires { sent.old + length part.now < 2 ^ 64 }
     ensures { Writes sent.old part.now result sent.new }
 {
-    *sent = *sent + part.len();
+    *sent += part.len();
     io::write_all(STDOUT_FILENO, part)
 }

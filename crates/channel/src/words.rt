@@ -25,8 +25,5 @@ pub fn argument_count(rt: &HostRuntime) -> usize
 pub fn argument(rt: &HostRuntime, i: usize, room: &mut [u8]) -> usize
     ensures { Named i result room.new }
 {
-    match rt.arg(i, room) {
-        Ok(n) => n,
-        Err(_) => 0,
-    }
+    rt.arg(i, room).unwrap_or(0)
 }

@@ -17,7 +17,7 @@ ghost use Rattle.contours_steps.specs.Sheet.{text_refusal, refused_at, max_text}
 ghost use Rattle.contours_steps.specs.Words.{Gathered, max_contour_levels, given_refusal};
 ghost use Rattle.contours_steps.specs.InnerDrawing.{Stored};
 
-use channel::whole::{COMPLETE, FAILED, Filled};
+use channel::whole::Filled;
 use contours_steps::inner::intake::{line_begun, overlong_line};
 use contours_steps::words::{Given, MAX_CONTOUR_LEVELS, words_refusal};
 use network::Frame;
@@ -73,15 +73,11 @@ fn answer(
     requires sent_value { sent.old ≡ 0 }
     ensures { Run MayWrite result sent.new }
 {
-    let size = read.size;
-    let state = read.state;
-    if state == COMPLETE {
-        return judged(rt, &text[..size], asked, given, sent);
+    match read {
+        Filled::Complete(size) => judged(rt, &text[..size], asked, given, sent),
+        Filled::FailedAfter(size) => failed(&text[..size], asked, given, sent),
+        Filled::Full => overlong(text, asked, given, sent),
     }
-    if state == FAILED {
-        return failed(&text[..size], asked, given, sent);
-    }
-    overlong(text, asked, given, sent)
 }
 
 // The bytes can't be read on, which is never taken for their end.

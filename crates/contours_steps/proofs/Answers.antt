@@ -4,10 +4,8 @@ use mathlib.Core.{Path.◌≡◌, Path.refl, Path.sym, Path.ap, Path.subst, Path
 use native.Mathlib.Omega.{arith}
 use borrow.Author.Tests.{eq-eqb, ne_eqb}
 use lib.{ListN.length, ListN.take, Seq.take-length}
-use Rattle.channel.specs.{System.First, Input.Fills, Input.complete, Input.failed, Due.Sends, Run.Run}
+use Rattle.channel.specs.{Due.Sends, Run.Run}
 use Rattle.channel.proofs.Running as running
-use Rattle.channel.specs.System.Origin.{input}
-use Rattle.channel.specs.declared.whole.Filled.{Filled}
 use Rattle.network.specs.declared.Frame.{Frame}
 use Rattle.contours_steps.specs.declared.words.Given.{Given}
 use Rattle.contours_steps.specs.Words.{Gathered}
@@ -16,13 +14,6 @@ use Rattle.contours_steps.specs.{Drawing.Accepted, Drawing.Refused}
 use Rattle.contours_steps.specs.Answer.{ReadWhole, ReadFailed, ReadFull, Answered, MayWrite}
 use Rattle.contours_steps.specs.Answer.TextFor.{whole, fails, full}
 use Rattle.contours_steps.proofs.Drawings.{refused_written, accepted_written}
-
--- what neither ended nor failed fills the room
-pub came_full : {r : Filled} {room : List ℕ} → Fills input r room → length room ≡ max_text
-    → (r.state ≡ complete → ⊥) → (r.state ≡ failed → ⊥) → ReadFull room
-came_full {r} {room} k long not-whole not-failed =
-    let e : r.size ≡ length room = k.fills (omega (arith, k.known)) in
-    (subst (First input) (ap (λ (n : ℕ). take n room) e ∙ take-length room) k.first, long)
 
 -- ---- what may then be written
 

@@ -1,4 +1,3 @@
-pub mod Opening
 pub mod Texts
 pub mod Cleared
 pub mod Runs

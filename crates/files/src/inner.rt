@@ -16,7 +16,7 @@ ghost use Rattle.files.specs.InnerSteps.{Sized, AnsweredIn, WrittenIn, Told};
 ghost use Rattle.files.specs.Kinds.{telling_of};
 
 use crate::{feed, sentences};
-use channel::whole::{FAILED, read_file};
+use channel::whole::{Filled, read_file};
 use explain_text::inner::put_explained;
 use movement::limits::MAX_POINTS;
 use register::limits_csv::LimitsFile;
@@ -39,12 +39,11 @@ fn limits_text(rt: &HostRuntime, text: &mut [u8]) -> usize
     requires { length text.old ≡ limits_room }
     ensures { IsPrefixLen result text.new × Opened (take result text.new) }
 {
-    let read = read_file(rt, "limits.csv", text);
-    let state = read.state;
-    if state == FAILED {
-        return 0;
+    match read_file(rt, "limits.csv", text) {
+        Filled::Complete(size) => size,
+        Filled::FailedAfter(_) => 0,
+        Filled::Full => text.len(),
     }
-    read.size
 }
 
 // The text that answers limits.csv and the register, at the front of the buffer.

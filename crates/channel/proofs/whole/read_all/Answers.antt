@@ -2,5 +2,5 @@
 use Rattle.channel.specs.System.{standard_input}
 use Rattle.channel.proofs.whole.read_all.Goals as goal
 
-pub fill-requires : goal.fill-requires
-fill-requires c = standard_input
+pub fill_from-requires : goal.fill_from-requires
+fill_from-requires c = standard_input

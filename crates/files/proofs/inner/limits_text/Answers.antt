@@ -1,21 +1,22 @@
 -- `files::inner::limits_text` meets its contract: all of limits.csv, as much as there is room for, or none.
 -- Assumes nothing.
-use Rattle.std.specs.Prelude.{◌≡◌}
-use mathlib.Core.Path.{refl, sym, ◌∙◌}
-use native.Mathlib.Omega.{arith}
-use lib.{ListN.length, Seq.length-take-le}
-use Rattle.report_rules.specs.Report.Opened.{unread}
-use Rattle.files.proofs.Opening.{opened}
-use borrow.Author.Rules.{rules}
+use Rattle.std.proofs.Common.{◌≡◌, refl, sym, arith, rules, length}
+use lib.Seq.{length-take-le, take-length}
+use Rattle.report_rules.specs.Report.Opened.{all, cut, unread}
 use Rattle.files.proofs.inner.limits_text.Goals as goal
 
-pub returns-then-state-eq-FAILED : goal.returns-then-state-eq-FAILED
-returns-then-state-eq-FAILED c =
-    let k = c.read_file-read.ensures in
-    ((omega arith, refl), unread _ (k.fails c.if-state-eq-FAILED.true) refl)
+pub returns-in-Complete : goal.returns-in-Complete
+returns-in-Complete c =
+    let came = (rw c.in-Complete.is at c.read_file.ensures).filling in
+    ((came.0, sym (length-take-le _ _ came.0)), all came.2)
 
-pub returns : goal.returns
-returns c =
-    let k = c.read_file-read.ensures in
-    let long : length c.read_file-read.new.text ≡ length c.args.text.now = search rules in
-    ((k.within, sym (length-take-le _ _ k.within)), opened k c.if-state-eq-FAILED.false (long ∙ c.requires))
+pub returns-in-FailedAfter : goal.returns-in-FailedAfter
+returns-in-FailedAfter c =
+    let came = (rw c.in-FailedAfter.is at c.read_file.ensures).filling in
+    ((omega arith, refl), unread _ came.2 refl)
+
+pub returns-in-Full : goal.returns-in-Full
+returns-in-Full c =
+    let first = (rw c.in-Full.is at c.read_file.ensures).filling in
+    let long : length c.read_file.new.text ≡ length c.args.text.now = search rules in
+    rw (take-length c.read_file.new.text) ((omega arith, refl), cut first (omega (arith, long, c.requires)))

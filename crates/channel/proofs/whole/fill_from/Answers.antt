@@ -3,8 +3,8 @@ use borrow.Rule.Slice.PartMut.{put_mid}
 use Rattle.channel.specs.System.{none_came}
 use Rattle.channel.specs.Input.{Came, origin_of}
 use Rattle.channel.proofs.Behind.{read_more, read_end, read_broken, filled_up}
-use Rattle.channel.proofs.whole.fill.Goals as goal
-use Rattle.channel.proofs.whole.fill.Goals.{In-Bytes}
+use Rattle.channel.proofs.whole.fill_from.Goals as goal
+use Rattle.channel.proofs.whole.fill_from.Goals.{In-Bytes}
 
 -- what a read that gave bytes gave
 more : (c : In-Bytes) → let n = c.loop-n.n in let m = length c.loop-n.text - n in let now = put_mid n m c.loop-n.text
