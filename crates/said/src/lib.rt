@@ -5,7 +5,6 @@
 
 pub mod clock;
 pub mod field;
-pub mod inner;
 pub mod note;
 pub mod odd;
 pub mod part;

@@ -1,6 +1,5 @@
-// A sentence, put together in a buffer so that it goes out in one write. Each part is put at a place and answers the
-// place past it; what finds no room is left out.
-ghost use Rattle.std.specs.Prelude.{◌<◌};
+// A sentence, put together in a buffer so that it goes out in one write. What finds no room is left out.
+ghost use Rattle.std.specs.Prelude.{◌<◌, ◌≤◌};
 
 use sentence::MAX_SENTENCE;
 use text::inner::put_number;
@@ -9,125 +8,123 @@ use text::inner::put_number;
 const STDERR_FILENO: i32 = 2;
 
 // Room for any sentence.
-pub const ROOM: usize = 2048;
+const ROOM: usize = 2048;
 
 // The most bytes of a text that are shown, and the most digits that a number has.
 const SHOWN: usize = 100;
 
 const MAX_DIGITS: usize = 20;
 
-// One byte.
-pub fn byte(out: &mut [u8; ROOM], at: usize, b: u8) -> usize {
-    if at < ROOM {
-        out[at] = b;
-        return at + 1;
-    }
-    at
-}
-
-// A text as it stands.
-pub fn words(out: &mut [u8; ROOM], from: usize, text: &[u8]) -> usize {
-    let mut at = from;
-    let mut i = 0;
-    while i < text.len() {
-        at = byte(out, at, text[i]);
-        i += 1;
-    }
-    at
-}
-
-// A number.
-pub fn number(out: &mut [u8; ROOM], at: usize, n: u64) -> usize {
-    let mut digits = [0u8; MAX_DIGITS];
-    let size = put_number(&mut digits, 0, n);
-    words(out, at, &digits[..size])
-}
-
-// A level of a network, with its three decimals.
-pub fn thousandths(out: &mut [u8; ROOM], at: usize, v: u32) -> usize {
-    let units = number(out, at, (v / 1000) as u64);
-    let point = byte(out, units, b'.');
-    let tenth = byte(out, point, b'0' + (v / 100 % 10) as u8);
-    let hundredth = byte(out, tenth, b'0' + (v / 10 % 10) as u8);
-    byte(out, hundredth, b'0' + (v % 10) as u8)
+// A sentence as far as it is put together.
+#[derive(Drop)]
+pub struct Note {
+    text: [u8; ROOM],
+    size: usize,
+    ghost fits: { size ≤ 2048 },
 }
 
 // A digit of a byte's two in base 16.
 fn half(n: u8) -> u8
     requires { n < 16 }
 {
-    if n < 10 {
-        return b'0' + n;
-    }
-    b'a' + (n - 10)
+    if n < 10 { b'0' + n } else { b'a' + (n - 10) }
 }
 
-// A byte of a text: as \xNN where it can't be printed.
-fn shown_byte(out: &mut [u8; ROOM], at: usize, b: u8) -> usize {
-    if 31 < b {
-        if b < 127 {
-            return byte(out, at, b);
+impl Note {
+    // Nothing yet.
+    pub fn new() -> Note {
+        Note {
+            text: [0; ROOM],
+            size: 0,
         }
     }
-    let start = words(out, at, b"\\x");
-    let first = byte(out, start, half(b / 16));
-    byte(out, first, half(b % 16))
-}
 
-// A text of a file, as it can be shown: cut after its first 100 bytes.
-pub fn shown(out: &mut [u8; ROOM], from: usize, text: &[u8]) -> usize {
-    let mut at = from;
-    let mut i = 0;
-    while i < text.len() {
-        if i == SHOWN {
-            return words(out, at, b"..");
+    // `file, line N: ` before a sentence.
+    pub fn at_line(file: &[u8], line: u64) -> Note {
+        let mut note = Note::new();
+        note.shown(file);
+        note.words(b", line ");
+        note.number(line);
+        note.words(b": ");
+        note
+    }
+
+    // One byte.
+    pub fn byte(&mut self, b: u8) {
+        if self.size < ROOM {
+            self.text[self.size] = b;
+            self.size += 1;
         }
-        at = shown_byte(out, at, text[i]);
-        i += 1;
     }
-    at
-}
 
-// `file, line N: ` before a sentence.
-pub fn place(out: &mut [u8; ROOM], file: &[u8], line: u64) -> usize {
-    let name = shown(out, 0, file);
-    let word = words(out, name, b", line ");
-    let end = number(out, word, line);
-    words(out, end, b": ")
-}
-
-// The general sentence of a refusal.
-pub fn general(out: &mut [u8; ROOM], at: usize, refusal: u32) -> usize {
-    let mut room = [0u8; MAX_SENTENCE];
-    let n = sentence::put_sentence(&mut room, refusal);
-    words(out, at, &room[..n])
-}
-
-// ` (number)` behind a sentence.
-pub fn rule(out: &mut [u8; ROOM], at: usize, refusal: u32) -> usize {
-    let open = words(out, at, b" (");
-    let end = number(out, open, refusal as u64);
-    words(out, end, b")\n")
-}
-
-// The line that a sentence is about, below it; none where it has no bytes.
-pub fn below(out: &mut [u8; ROOM], at: usize, line: &[u8]) -> usize {
-    if line.len() == 0 {
-        return at;
+    // A text as it stands.
+    pub fn words(&mut self, text: &[u8]) {
+        let n = text.len().min(ROOM - self.size);
+        let end = self.size + n;
+        self.text[self.size..end].copy_from_slice(&text[..n]);
+        self.size = end;
     }
-    let start = words(out, at, b"    ");
-    let end = shown(out, start, line);
-    byte(out, end, b'\n')
-}
 
-// The one write.
-pub fn send(out: &[u8; ROOM], size: usize) {
-    send_front(out, size);
-}
-
-fn send_front(out: &[u8], size: usize) {
-    if out.len() < size {
-        return;
+    // A number.
+    pub fn number(&mut self, n: u64) {
+        let mut digits = [0u8; MAX_DIGITS];
+        let size = put_number(&mut digits, 0, n);
+        self.words(&digits[..size]);
     }
-    io::write_all(STDERR_FILENO, &out[0..size]);
+
+    // A level of a network, with its three decimals.
+    pub fn thousandths(&mut self, v: u32) {
+        self.number((v / 1000) as u64);
+        self.byte(b'.');
+        self.byte(b'0' + (v / 100 % 10) as u8);
+        self.byte(b'0' + (v / 10 % 10) as u8);
+        self.byte(b'0' + (v % 10) as u8);
+    }
+
+    // A byte of a text: as \xNN where it can't be printed.
+    fn shown_byte(&mut self, b: u8) {
+        match b {
+            32..=126 => self.byte(b),
+            _ => {
+                self.words(b"\\x");
+                self.byte(half(b / 16));
+                self.byte(half(b % 16));
+            }
+        }
+    }
+
+    // A text of a file, as it can be shown: cut after its first 100 bytes.
+    pub fn shown(&mut self, text: &[u8]) {
+        for b in text.iter().take(SHOWN) {
+            self.shown_byte(*b);
+        }
+        if SHOWN < text.len() {
+            self.words(b"..");
+        }
+    }
+
+    // The general sentence of a refusal.
+    pub fn general(&mut self, refusal: u32) {
+        let mut room = [0u8; MAX_SENTENCE];
+        let n = sentence::put_sentence(&mut room, refusal);
+        self.words(&room[..n]);
+    }
+
+    // The end of a refusal's sentence: its number, and below it the line that it is about, unless that has no bytes.
+    pub fn end(mut self, refusal: u32, line: &[u8]) {
+        self.words(b" (");
+        self.number(refusal as u64);
+        self.words(b")\n");
+        if !line.is_empty() {
+            self.words(b"    ");
+            self.shown(line);
+            self.byte(b'\n');
+        }
+        self.send();
+    }
+
+    // The one write.
+    pub fn send(&self) {
+        io::write_all(STDERR_FILENO, &self.text[..self.size]);
+    }
 }

@@ -1,131 +1,85 @@
 // The columns and the lines of a text.
 ghost use Rattle.std.specs.Prelude.{◌≤◌, length};
+ghost use Rattle.std.specs.Iterator.{at_most};
 
-use crate::inner::{column_end, row_end};
+use text::inner::line_end;
 
-// A part of a text.
+// Column number k, counted from 0; an empty one where there is none.
+pub fn column(s: &[u8], k: usize, d: u8) -> &[u8] {
+    s.split(|b| *b == d).nth(k).unwrap_or(&[])
+}
+
+// The lines of a text, each without its CRLF.
 #[derive(Clone, Copy)]
-pub struct Part {
-    pub start: usize,
-    pub end: usize,
+pub struct Lines<'a> {
+    rest: &'a [u8],
 }
 
-// Column number k, counted from 0; an empty one at the end where there is none.
-pub fn column(s: &[u8], k: usize, d: u8) -> Part
-    ensures { (result.start ≤ result.end) × (result.end ≤ length s.now) }
-{
-    let mut start = 0;
-    let mut end = column_end(s, 0, d);
-    let mut left = k;
-    while 0 < left {
-        if s.len() <= end {
-            return Part { start: end, end };
-        }
-        start = end + 1;
-        end = column_end(s, start, d);
-        left -= 1;
+impl<'a> Lines<'a> {
+    pub fn of(text: &'a [u8]) -> Lines<'a> {
+        Lines { rest: text }
     }
-    Part { start, end }
 }
 
-// Line number k, counted from 1; an empty one at the end where there is none.
-pub fn line(s: &[u8], k: u64) -> Part
-    ensures { (result.start ≤ result.end) × (result.end ≤ length s.now) }
-{
-    let mut start = 0;
-    let mut end = row_end(s, 0);
-    let mut left = k;
-    while 1 < left {
-        if s.len() - end < 2 {
-            return Part { start: end, end };
+impl<'a> Iterator for Lines<'a> {
+    type Item = &'a [u8];
+
+    ghost remaining = { λ s. at_most (length s.rest.now) };
+
+    fn next(&mut self) -> Option<&'a [u8]> {
+        if self.rest.is_empty() {
+            return None;
         }
-        start = end + 2;
-        end = row_end(s, start);
-        left -= 1;
+        let rest = self.rest;
+        let end = row_end(rest);
+        self.rest = if rest.len() - end < 2 {
+            &[]
+        } else {
+            &rest[end + 2..]
+        };
+        Some(&rest[..end])
     }
-    Part { start, end }
+}
+
+// The place of the first CRLF, or the text's length.
+fn row_end(s: &[u8]) -> usize
+    ensures { result ≤ length s.now }
+{
+    line_end(s, 0)
+}
+
+// Line number k, counted from 1; an empty one where there is none.
+pub fn line(s: &[u8], k: u64) -> &[u8] {
+    Lines::of(s)
+        .nth(k.saturating_sub(1) as usize)
+        .unwrap_or(&[])
+}
+
+// What stands behind the first `count` lines.
+pub fn behind(s: &[u8], count: usize) -> &[u8] {
+    let mut lines = Lines::of(s);
+    for _ in 0..count {
+        lines.next();
+    }
+    lines.rest
 }
 
 // Of the `left` bytes from `at` on the first line, and whether all of it is there; `ended` says whether the bytes are
 // the last. An empty one where they don't stand in the text.
-#[derive(Clone, Copy)]
-pub struct Cut {
-    pub start: usize,
-    pub end: usize,
-    pub whole: bool,
-}
-
-pub fn first_line(s: &[u8], at: usize, left: usize, ended: bool) -> Cut
-    ensures { (result.start ≤ result.end) × (result.end ≤ length s.now) }
-{
-    if s.len() < at {
-        return Cut {
-            start: 0,
-            end: 0,
-            whole: ended,
-        };
-    }
-    if s.len() - at < left {
-        return Cut {
-            start: at,
-            end: at,
-            whole: ended,
-        };
-    }
-    let size = row_end(&s[at..at + left], 0);
-    Cut {
-        start: at,
-        end: at + size,
-        whole: either(ended, size < left),
-    }
-}
-
-// Whether one of the two holds.
-fn either(a: bool, b: bool) -> bool {
-    if a {
-        return true;
-    }
-    b
+pub fn first_line(s: &[u8], at: usize, left: usize, ended: bool) -> (&[u8], bool) {
+    let Some(part) = s.get(at..).and_then(|rest| rest.get(..left)) else {
+        return (&[], ended);
+    };
+    let end = row_end(part);
+    (&part[..end], ended || end < left)
 }
 
 // The number of the last column, counted from 0.
 pub fn last(s: &[u8], d: u8) -> usize {
-    let mut count = 0;
-    let mut i = 0;
-    while i < s.len() {
-        if s[i] == d {
-            count += 1;
-        }
-        i += 1;
-    }
-    count
-}
-
-// Whether a byte stands in a text.
-pub fn has(s: &[u8], b: u8) -> bool {
-    column_end(s, 0, b) < s.len()
+    s.iter().filter(|b| **b == d).count()
 }
 
 // Whether a text has digits and nothing else.
 pub fn is_digits(s: &[u8]) -> bool {
-    let mut i = 0;
-    while i < s.len() {
-        let c = s[i];
-        if c < b'0' {
-            return false;
-        }
-        if b'9' < c {
-            return false;
-        }
-        i += 1;
-    }
-    0 < i
-}
-
-// One more, as far as a number goes.
-pub fn one_more(n: u64) -> u64 {
-    if n < u64::MAX {
-        return n + 1;
-    }
-    n
+    !s.is_empty() && s.iter().all(|b| b.is_ascii_digit())
 }

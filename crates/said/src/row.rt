@@ -1,83 +1,86 @@
 // A line of a CSV file beside the header that the file should have: the names of its columns, counted from 0, and what
 // is wrong with one.
 use crate::field::found;
-use crate::note::{ROOM, number, words};
-use crate::part::{column, one_more};
-use text::same::same_text;
+use crate::note::Note;
+use crate::part::{column, last};
 
-// The name of column k.
-pub fn name(out: &mut [u8; ROOM], at: usize, header: &[u8], k: usize) -> usize {
-    let part = column(header, k, b',');
-    let start = part.start;
-    let end = part.end;
-    words(out, at, &header[start..end])
+#[derive(Clone, Copy)]
+pub struct Row<'a> {
+    pub header: &'a [u8],
+    pub line: &'a [u8],
 }
 
-// The names up to column k.
-pub fn names(out: &mut [u8; ROOM], at: usize, header: &[u8], k: usize) -> usize {
-    let part = column(header, k, b',');
-    let end = part.end;
-    words(out, at, &header[0..end])
-}
-
-// Whether column k of a line has the name that it should have.
-pub fn is_named(line: &[u8], k: usize, header: &[u8]) -> bool {
-    let mine = column(line, k, b',');
-    let start = mine.start;
-    let end = mine.end;
-    let its = column(header, k, b',');
-    let from = its.start;
-    let to = its.end;
-    same_text(&line[start..end], &header[from..to])
-}
-
-// What column k has.
-fn column_found(out: &mut [u8; ROOM], at: usize, line: &[u8], k: usize) -> usize {
-    let part = column(line, k, b',');
-    let start = part.start;
-    let end = part.end;
-    found(out, at, &line[start..end])
-}
-
-// Column k with its name, and what was expected.
-pub fn column_is(
-    out: &mut [u8; ROOM],
-    at: usize,
-    header: &[u8],
-    line: &[u8],
-    k: usize,
-    expected: &[u8],
-) -> usize {
-    let title = name(out, at, header, k);
-    let next = column_found(out, title, line, k);
-    words(out, next, expected)
-}
-
-// A line that should be the header, of which column k isn't.
-pub fn misnamed(out: &mut [u8; ROOM], at: usize, header: &[u8], line: &[u8], k: usize) -> usize {
-    let word = words(out, at, b"column ");
-    let place = number(out, word, one_more(k as u64));
-    let next = column_found(out, place, line, k);
-    let comma = words(out, next, b", expected ");
-    name(out, comma, header, k)
-}
-
-// A wrong number of columns: the last is number `got`, and should be number `end`.
-pub fn count_off(out: &mut [u8; ROOM], at: usize, header: &[u8], got: usize, end: usize) -> usize {
-    let start = words(out, at, b"the number of columns is ");
-    let middle = number(out, start, one_more(got as u64));
-    let comma = words(out, middle, b", expected ");
-    let colon = number(out, comma, one_more(end as u64));
-    let list = words(out, colon, b": ");
-    names(out, list, header, end)
-}
-
-// A line without bytes; the first line may also be missing.
-pub fn empty(out: &mut [u8; ROOM], at: usize, header: &[u8], end: usize, first: bool) -> usize {
-    if first {
-        let next = words(out, at, b"the line is empty or missing, expected ");
-        return names(out, next, header, end);
+impl<'a> Row<'a> {
+    // The name that column k should have, and what it has.
+    pub fn name(&self, k: usize) -> &'a [u8] {
+        column(self.header, k, b',')
     }
-    let next = words(out, at, b"the line is empty, expected ");
-    names(out, next, header, end)
+
+    pub fn field(&self, k: usize) -> &'a [u8] {
+        column(self.line, k, b',')
+    }
+
+    // The names up to column k.
+    pub fn names(&self, note: &mut Note, k: usize) {
+        let titles = self.header.split(|b| *b == b',');
+        for (i, title) in titles.take(k.saturating_add(1)).enumerate() {
+            if 0 < i {
+                note.byte(b',');
+            }
+            note.words(title);
+        }
+    }
+
+    // The number of the last column.
+    pub fn last(&self) -> usize {
+        last(self.line, b',')
+    }
+
+    // Whether column k has the name that it should have.
+    pub fn is_named(&self, k: usize) -> bool {
+        self.field(k) == self.name(k)
+    }
+
+    // Column k with its name, and what was expected.
+    pub fn column_is(&self, note: &mut Note, k: usize, expected: &[u8]) {
+        note.words(self.name(k));
+        found(note, self.field(k));
+        note.words(expected);
+    }
+
+    // A line that should be the header, of which column k isn't.
+    pub fn misnamed(&self, note: &mut Note, k: usize) {
+        note.words(b"column ");
+        note.number((k as u64).saturating_add(1));
+        found(note, self.field(k));
+        note.words(b", expected ");
+        note.words(self.name(k));
+    }
+
+    // A wrong number of columns: the last should be number `end`.
+    pub fn count_off(&self, note: &mut Note, end: usize) {
+        note.words(b"the number of columns is ");
+        note.number((self.last() as u64).saturating_add(1));
+        note.words(b", expected ");
+        note.number((end as u64).saturating_add(1));
+        note.words(b": ");
+        self.names(note, end);
+    }
+
+    // A line of which not all bytes are there: a row has at most so many.
+    pub fn too_long(&self, note: &mut Note, most: u64) {
+        note.words(b"the line is longer than any row, which has up to ");
+        note.number(most);
+        note.words(b" bytes and CRLF");
+    }
+
+    // A line without bytes; the first line may also be missing.
+    pub fn empty(&self, note: &mut Note, end: usize, first: bool) {
+        note.words(if first {
+            b"the line is empty or missing, expected "
+        } else {
+            b"the line is empty, expected "
+        });
+        self.names(note, end);
+    }
 }

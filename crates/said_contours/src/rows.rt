@@ -1,137 +1,49 @@
-// The rows of a network and their values: the first one that is not as it should be.
-ghost use Rattle.std.specs.Prelude.{◌≤◌, length};
-
+// The rows of a network and their values: which of them is not as it should be.
+use crate::header::number_of;
 use network::limits::MAX_NETWORK_LEVEL;
-use said::inner::{column_end, row_end};
-use said::part::{last, one_more};
-use text::same::same_text;
+use said::part::{Lines, behind, last};
 
-// A row or a value: its number, counted from 1, and its part of the text. Where none was found, `number` is that of the
-// last.
+// A network's file and text, what stands for no data, and how many lines stand before its rows.
 #[derive(Clone, Copy)]
-pub struct Place {
-    pub found: bool,
-    pub number: u64,
-    pub start: usize,
-    pub end: usize,
+pub(crate) struct Network<'a> {
+    pub(crate) file: &'a [u8],
+    pub(crate) text: &'a [u8],
+    pub(crate) nodata: &'a [u8],
+    pub(crate) before: u64,
 }
 
-// What is looked for: a value that is none, a level over 150.000 or no data, a row without so many values, or nothing.
-#[derive(Clone, Copy)]
-pub enum Sought {
-    Off,
-    Over,
-    Misfit(u32),
-    Nothing,
-}
+impl<'a> Network<'a> {
+    // The text of its rows.
+    pub(crate) fn body(&self) -> &'a [u8] {
+        behind(self.text, self.before as usize)
+    }
 
-// Whether a text is a level.
-fn is_level(t: &[u8]) -> bool {
-    match text::number::thousandths(t) {
-        Some(_) => true,
-        None => false,
+    // How many rows it has.
+    pub(crate) fn row_count(&self) -> u64 {
+        Lines::of(self.body()).count() as u64
+    }
+
+    // The values in a row and the rows that its header asks for.
+    pub(crate) fn columns(&self) -> u64 {
+        number_of(self.text, 1) as u64
+    }
+
+    pub(crate) fn rows(&self) -> u64 {
+        number_of(self.text, 2) as u64
     }
 }
 
-// Whether a text is a level over 150.000.
-pub(crate) fn is_over(t: &[u8]) -> bool {
-    match text::number::thousandths(t) {
-        Some(v) => MAX_NETWORK_LEVEL < v,
-        None => false,
-    }
+// How many values a row has.
+pub(crate) fn values_in(row: &[u8]) -> u64 {
+    (last(row, b' ') as u64).saturating_add(1)
 }
 
-// Whether a value is sought.
-fn is_sought(t: &[u8], nodata: &[u8], sought: Sought) -> bool {
-    let same = same_text(t, nodata);
-    match sought {
-        Sought::Off => {
-            if same {
-                return false;
-            }
-            !is_level(t)
-        }
-        Sought::Over => {
-            if same {
-                return true;
-            }
-            is_over(t)
-        }
-        Sought::Misfit(_) => false,
-        Sought::Nothing => false,
-    }
+// Whether a value is none.
+pub(crate) fn is_off(t: &[u8], nodata: &[u8]) -> bool {
+    t != nodata && text::number::thousandths(t).is_none()
 }
 
-// The first value of a row that is sought.
-pub(crate) fn first_value(row: &[u8], nodata: &[u8], sought: Sought) -> Place
-    ensures { (result.start ≤ result.end) × (result.end ≤ length row.now) }
-{
-    let mut number = 1;
-    let mut at = 0;
-    loop {
-        let end = column_end(row, at, b' ');
-        if is_sought(&row[at..end], nodata, sought) {
-            return Place {
-                found: true,
-                number,
-                start: at,
-                end,
-            };
-        }
-        if row.len() <= end {
-            return Place {
-                found: false,
-                number,
-                start: at,
-                end,
-            };
-        }
-        number = one_more(number);
-        at = end + 1;
-    }
-}
-
-// Whether a row is sought: it has another number of values, or a value that is sought.
-fn is_row_sought(row: &[u8], nodata: &[u8], sought: Sought) -> bool {
-    match sought {
-        Sought::Misfit(columns) => one_more(last(row, b' ') as u64) != columns as u64,
-        Sought::Off => first_value(row, nodata, sought).found,
-        Sought::Over => first_value(row, nodata, sought).found,
-        Sought::Nothing => false,
-    }
-}
-
-// The first of some rows that is sought.
-pub(crate) fn first_row(text: &[u8], nodata: &[u8], sought: Sought) -> Place
-    ensures { (result.start ≤ result.end) × (result.end ≤ length text.now) }
-{
-    let mut number = 0;
-    let mut at = 0;
-    while at < text.len() {
-        let end = row_end(text, at);
-        number = one_more(number);
-        if is_row_sought(&text[at..end], nodata, sought) {
-            return Place {
-                found: true,
-                number,
-                start: at,
-                end,
-            };
-        }
-        if text.len() - end < 2 {
-            return Place {
-                found: false,
-                number,
-                start: end,
-                end,
-            };
-        }
-        at = end + 2;
-    }
-    Place {
-        found: false,
-        number,
-        start: at,
-        end: at,
-    }
+// Whether a value is a level over 150.000 or no data.
+pub(crate) fn is_over(t: &[u8], nodata: &[u8]) -> bool {
+    t == nodata || text::number::thousandths(t).is_some_and(|v| MAX_NETWORK_LEVEL < v)
 }

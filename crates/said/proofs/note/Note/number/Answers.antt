@@ -1,4 +1,4 @@
--- `said::note::number` is safe: a number has at most 20 digits. Assumes nothing.
+-- `said::note::Note::number` is safe: a number has at most 20 digits. Assumes nothing.
 use mathlib.Core.Path.{sym}
 use Rattle.std.specs.Prelude.{◌≤◌}
 use native.Mathlib.Omega.{arith}
@@ -6,8 +6,8 @@ use lib.{ListN.length, Seq.length-take-le}
 use Rattle.room.proofs.Laws.{wrote_fits}
 use Rattle.text.specs.Number.{show_number}
 use Rattle.text.proofs.Shown.{number_short}
-use Rattle.said.proofs.note.number.Goals as goal
-use Rattle.said.proofs.note.number.Goals.{Start}
+use Rattle.said.proofs.note.Note.number.Goals as goal
+use Rattle.said.proofs.note.Note.number.Goals.{Start}
 
 few : (s : Start) → length (show_number s.args.n) ≤ 20
 few s = number_short s.args.n
