@@ -1,37 +1,12 @@
 -- A piece of a text, and the bytes of it that wait at the front of the buffer. Assumes nothing.
 use mathlib.Core.{Path.◌≡◌, Path.sym, Path.ap, Path.◌∙◌, List.List, List.◌++◌}
-use Rattle.std.specs.Prelude.{ℕ, suc, ◌+◌, ◌-◌, ◌<◌, ◌≤◌, length, get_or, take, drop, set}
-use native.Mathlib.{Numerals.add-one, Omega.arith}
-use lib.ListN.{length-drop}
-use lib.Seq.{drop_at, drop-drop, length-take-le, take-add, drop-set-lt, get_or-drop, take-suc, take-suc-set}
+use Rattle.std.specs.Prelude.{ℕ, ◌+◌, ◌-◌, ◌<◌, ◌≤◌, length, take, drop}
+use native.Mathlib.{Omega.arith}
+use lib.Seq.{drop_at, length-take-le, take-add}
 use Rattle.text.specs.Line.{lines_of}
 use Rattle.stream.specs.Reading.{Step, Reading, off_at, Longest}
 use Rattle.stream.specs.InnerTaken.{LinesTaken, PieceTaken}
 use Rattle.stream.proofs.{Readings.stuck, Readings.onward_refused, LongLines.onward_long}
-
--- one byte more is moved to the front
-pub front_next : (xs ys : List ℕ) (from n i : ℕ) → from + n ≤ length xs → i < n → length ys ≡ length xs
-    → take i ys ≡ take i (drop from xs) → drop i ys ≡ drop i xs
-    → (take (i + 1) (set ys i (get_or ys (from + i) 0)) ≡ take (i + 1) (drop from xs))
-    × (drop (i + 1) (set ys i (get_or ys (from + i) 0)) ≡ drop (i + 1) xs)
-front_next xs ys from n i fits l len front back =
-    let short : i < length ys = omega arith in
-    let inside : i < length (drop from xs) = omega (arith, length-drop from xs) in
-    let same : get_or ys (from + i) 0 ≡ get_or (drop from xs) i 0 =
-    let c : from + i ≡ i + from = omega arith in
-    ap (λ (k : ℕ). get_or ys k 0) c ∙ sym (get_or-drop i ys from 0)
-    ∙ ap (λ (q : List ℕ). get_or q from 0) back ∙ get_or-drop i xs from 0
-    ∙ ap (λ (k : ℕ). get_or xs k 0) (sym c) ∙ sym (get_or-drop from xs i 0) in (
-      rw (add-one i, take-suc-set ys i (get_or ys (from + i) 0) short, front, same)
-          (sym (take-suc (drop from xs) i 0 inside)),
-      rw (add-one i, drop-set-lt (suc i) ys i (get_or ys (from + i) 0) (omega arith)) (rest short),
-    )
-  where
-    rest : i < length ys → drop (suc i) ys ≡ drop (suc i) xs
-    rest short =
-        let a : drop 1 (drop i ys) ≡ drop (i + 1) ys = drop-drop 1 i ys in
-        let b : drop 1 (drop i xs) ≡ drop (i + 1) xs = drop-drop 1 i xs in
-        rw add-one at (sym a ∙ ap (drop 1) back ∙ b)
 
 -- the bytes that wait, as the buffer has them
 pub waiting : (bytes : List ℕ) (at len : ℕ) → at ≤ len → len ≤ length bytes

@@ -1,8 +1,39 @@
-// Parts of every reading: a read that failed, and the bytes that wait.
+// Parts of every reading: the turn that a piece, an end or a read that failed makes, and the bytes that wait.
 ghost use Rattle.std.specs.Prelude.{◌≡◌, ◌+◌, ◌≤◌, length, take, drop};
-ghost use Rattle.stream.specs.Feeding.{failed_at};
+ghost use Rattle.stream.specs.Feeding.{turn_of, ended_at, failed_at};
 
-use crate::{FAILED, Turn};
+use crate::{Feed, Piece, State, Turn};
+use refusal::Refusal;
+
+// A piece was taken: the text is read on, or a line of it is refused.
+pub fn turned(piece: Piece) -> Turn
+    ensures { result ≡ turn_of piece }
+{
+    let state = match piece.refusal {
+        Ok(()) => State::Going,
+        Err(_) => State::Stopped,
+    };
+    Turn {
+        at: piece.at,
+        left: piece.left,
+        line: piece.line,
+        refusal: piece.refusal,
+        state,
+    }
+}
+
+// The text has ended; its last line began `left` bytes before.
+pub fn ended(feed: Feed, left: usize) -> Turn
+    ensures { result ≡ ended_at feed left }
+{
+    Turn {
+        at: 0,
+        left,
+        line: feed.line,
+        refusal: feed.refusal,
+        state: State::Ended,
+    }
+}
 
 // The text can't be read on. That is never taken for the end, or lines would drop out unseen.
 pub fn failed(line: u64) -> Turn
@@ -12,8 +43,8 @@ pub fn failed(line: u64) -> Turn
         at: 0,
         left: 0,
         line,
-        refusal: 16,
-        state: FAILED,
+        refusal: Err(Refusal::OffLayout),
+        state: State::Failed,
     }
 }
 
@@ -22,9 +53,5 @@ pub fn to_front(bytes: &mut [u8], from: usize, n: usize)
     requires { from + n ≤ length bytes.old }
     ensures { take n bytes.new ≡ take n (drop from bytes.old) }
 {
-    let mut i = 0;
-    while i < n {
-        bytes[i] = bytes[from + i];
-        i += 1;
-    }
+    bytes.copy_within(from..from + n, 0);
 }

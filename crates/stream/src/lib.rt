@@ -2,6 +2,8 @@
 // read of all pieces is what is read of the whole.
 #![tactic(auto)]
 
+use refusal::Refusal;
+
 pub mod inner;
 
 // Where the reading of a piece stands: the bytes before `at` are read; `line` is the number of the next line, or of the
@@ -10,7 +12,7 @@ pub mod inner;
 pub struct Feed {
     pub at: usize,
     pub line: u64,
-    pub refusal: u32,
+    pub refusal: Result<(), Refusal>,
 }
 
 // The same once a piece is taken: `left` bytes of the next line wait at the front of the buffer. Where a line is
@@ -20,7 +22,16 @@ pub struct Piece {
     pub at: usize,
     pub left: usize,
     pub line: u64,
-    pub refusal: u32,
+    pub refusal: Result<(), Refusal>,
+}
+
+// A reading is to be read on, or it was read to its end, refused before it, or failed.
+#[derive(Clone, Copy, PartialEq, Eq)]
+pub enum State {
+    Going,
+    Ended,
+    Stopped,
+    Failed,
 }
 
 // Where the reading of all stands: `left` bytes wait in front of the buffer for the end of line `line`, and `state`
@@ -30,15 +41,6 @@ pub struct Turn {
     pub at: usize,
     pub left: usize,
     pub line: u64,
-    pub refusal: u32,
-    pub state: u32,
+    pub refusal: Result<(), Refusal>,
+    pub state: State,
 }
-
-// The states of a reading: to be read on, read to its end, refused before it, and failed.
-pub const READING: u32 = 0;
-
-pub const ENDED: u32 = 1;
-
-pub const STOPPED: u32 = 2;
-
-pub const FAILED: u32 = 3;
