@@ -1,6 +1,7 @@
 // The calls on a book that is known to be sound. Each keeps it sound (book_rules, proofs/Kept.antt), so a caller that
 // makes many calls checks once.
 ghost use Rattle.std.specs.Prelude.{◌≡◌, true};
+ghost use Rattle.refusal.specs.Refusal.{told};
 ghost use Rattle.book_rules.specs.Columns.{book_lent, sound};
 ghost use Rattle.book_rules.specs.Calls.{Call, Called};
 
@@ -9,6 +10,7 @@ use crate::refusals::{enter_refusal, supply_refusal, take_back_refusal, withdraw
 use crate::rows::{row_in, row_out};
 use column::inner::{copy_at, fill_at};
 use movement::inner::group_of;
+use refusal::Refusal;
 
 // Enters a movement, which counts where `given` says: its row goes in at its place, not computed.
 pub fn enter(
@@ -24,18 +26,15 @@ pub fn enter(
     time: u32,
     mass: u32,
     given: &[u32],
-) -> u32
+) -> Result<(), Refusal>
     requires { sound points (book_lent ids.old groups.old marks.old counts.old levels.old) ≡ true }
     ensures { Called points (book_lent ids.old groups.old marks.old counts.old levels.old)
-        (Call.enter identity ty kind time mass given.now) result
+        (Call.enter identity ty kind time mass given.now) (told result)
         (book_lent ids.new groups.new marks.new counts.new levels.new) }
 {
     let at = place_of(ids, identity);
     let rows = standing_rows(ids);
-    let not_entered = enter_refusal(ids, at, rows, points, identity, ty, kind, time, mass, given);
-    if not_entered != 0 {
-        return not_entered;
-    }
+    enter_refusal(ids, at, rows, points, identity, ty, kind, time, mass, given)?;
     row_in(
         ids,
         groups,
@@ -49,7 +48,7 @@ pub fn enter(
         group_of(ty, kind, time),
         given,
     );
-    0
+    Ok(())
 }
 
 // Supplies all levels of a standing movement, replacing earlier ones.
@@ -62,20 +61,17 @@ pub fn supply(
     points: usize,
     identity: u32,
     given: &[u32],
-) -> u32
+) -> Result<(), Refusal>
     requires { sound points (book_lent ids.now groups.now marks.old counts.now levels.old) ≡ true }
     ensures { Called points (book_lent ids.now groups.now marks.old counts.now levels.old)
-        (Call.supply identity given.now) result
+        (Call.supply identity given.now) (told result)
         (book_lent ids.now groups.now marks.new counts.now levels.new) }
 {
     let at = place_of(ids, identity);
-    let not_supplied = supply_refusal(ids, counts, at, points, identity, given);
-    if not_supplied != 0 {
-        return not_supplied;
-    }
+    supply_refusal(ids, counts, at, points, identity, given)?;
     fill_at(marks, at, 1, 1);
     copy_at(levels, at * points, given);
-    0
+    Ok(())
 }
 
 // Takes the levels of a movement back: it is no longer computed.
@@ -87,20 +83,17 @@ pub fn take_back(
     levels: &mut [u32],
     points: usize,
     identity: u32,
-) -> u32
+) -> Result<(), Refusal>
     requires { sound points (book_lent ids.now groups.now marks.old counts.now levels.old) ≡ true }
     ensures { Called points (book_lent ids.now groups.now marks.old counts.now levels.old)
-        (Call.take_back identity) result
+        (Call.take_back identity) (told result)
         (book_lent ids.now groups.now marks.new counts.now levels.new) }
 {
     let at = place_of(ids, identity);
-    let not_taken_back = take_back_refusal(ids, marks, at, identity);
-    if not_taken_back != 0 {
-        return not_taken_back;
-    }
+    take_back_refusal(ids, marks, at, identity)?;
     fill_at(marks, at, 1, 0);
     fill_at(levels, at * points, points, 0);
-    0
+    Ok(())
 }
 
 // Withdraws a movement: later rows move down.
@@ -112,18 +105,15 @@ pub fn withdraw(
     levels: &mut [u32],
     points: usize,
     identity: u32,
-) -> u32
+) -> Result<(), Refusal>
     requires { sound points (book_lent ids.old groups.old marks.old counts.old levels.old) ≡ true }
     ensures { Called points (book_lent ids.old groups.old marks.old counts.old levels.old)
-        (Call.withdraw identity) result
+        (Call.withdraw identity) (told result)
         (book_lent ids.new groups.new marks.new counts.new levels.new) }
 {
     let at = place_of(ids, identity);
-    let not_withdrawn = withdraw_refusal(ids, at, identity);
-    if not_withdrawn != 0 {
-        return not_withdrawn;
-    }
+    withdraw_refusal(ids, at, identity)?;
     let rows = standing_rows(ids);
     row_out(ids, groups, marks, counts, levels, points, at, rows);
-    0
+    Ok(())
 }

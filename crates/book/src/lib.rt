@@ -7,9 +7,11 @@ mod place;
 mod refusals;
 mod rows;
 
+ghost use Rattle.refusal.specs.Refusal.{told};
 ghost use Rattle.book_rules.specs.Columns.{book_lent};
 ghost use Rattle.book_rules.specs.Calls.{Call, Called};
 
+use refusal::Refusal;
 use soundness::is_sound;
 
 // Enters a movement, which counts where `given` says: its row goes in at its place, not computed.
@@ -26,13 +28,13 @@ pub fn enter(
     time: u32,
     mass: u32,
     given: &[u32],
-) -> u32
+) -> Result<(), Refusal>
     ensures { Called points (book_lent ids.old groups.old marks.old counts.old levels.old)
-        (Call.enter identity ty kind time mass given.now) result
+        (Call.enter identity ty kind time mass given.now) (told result)
         (book_lent ids.new groups.new marks.new counts.new levels.new) }
 {
     if !is_sound(ids, groups, marks, counts, levels, points) {
-        return 9;
+        return Err(Refusal::NotSound);
     }
     inner::enter(
         ids, groups, marks, counts, levels, points, identity, ty, kind, time, mass, given,
@@ -49,13 +51,13 @@ pub fn supply(
     points: usize,
     identity: u32,
     given: &[u32],
-) -> u32
+) -> Result<(), Refusal>
     ensures { Called points (book_lent ids.now groups.now marks.old counts.now levels.old)
-        (Call.supply identity given.now) result
+        (Call.supply identity given.now) (told result)
         (book_lent ids.now groups.now marks.new counts.now levels.new) }
 {
     if !is_sound(ids, groups, marks, counts, levels, points) {
-        return 9;
+        return Err(Refusal::NotSound);
     }
     inner::supply(ids, groups, marks, counts, levels, points, identity, given)
 }
@@ -69,13 +71,13 @@ pub fn take_back(
     levels: &mut [u32],
     points: usize,
     identity: u32,
-) -> u32
+) -> Result<(), Refusal>
     ensures { Called points (book_lent ids.now groups.now marks.old counts.now levels.old)
-        (Call.take_back identity) result
+        (Call.take_back identity) (told result)
         (book_lent ids.now groups.now marks.new counts.now levels.new) }
 {
     if !is_sound(ids, groups, marks, counts, levels, points) {
-        return 9;
+        return Err(Refusal::NotSound);
     }
     inner::take_back(ids, groups, marks, counts, levels, points, identity)
 }
@@ -89,13 +91,13 @@ pub fn withdraw(
     levels: &mut [u32],
     points: usize,
     identity: u32,
-) -> u32
+) -> Result<(), Refusal>
     ensures { Called points (book_lent ids.old groups.old marks.old counts.old levels.old)
-        (Call.withdraw identity) result
+        (Call.withdraw identity) (told result)
         (book_lent ids.new groups.new marks.new counts.new levels.new) }
 {
     if !is_sound(ids, groups, marks, counts, levels, points) {
-        return 9;
+        return Err(Refusal::NotSound);
     }
     inner::withdraw(ids, groups, marks, counts, levels, points, identity)
 }

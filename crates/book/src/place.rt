@@ -11,10 +11,7 @@ use movement::limits::MAX_IDENTITY;
 fn goes_before(x: u32, y: u32) -> bool
     ensures { result ≡ (y == 0 || nat_le x y) }
 {
-    if y == 0 {
-        return true;
-    }
-    x <= y
+    y == 0 || x <= y
 }
 
 // The place of identity x: the first row that is unused or not lower, or the number of rows.
@@ -22,17 +19,7 @@ pub(crate) fn place_of(ids: &[u32], x: u32) -> usize
     requires { rising ids.now ≡ true }
     ensures { result ≡ place_of x ids.now }
 {
-    let mut low = 0;
-    let mut high = ids.len();
-    while low < high {
-        let middle = low + (high - low) / 2;
-        if goes_before(x, ids[middle]) {
-            high = middle;
-        } else {
-            low = middle + 1;
-        }
-    }
-    low
+    ids.partition_point(|y| !goes_before(x, *y))
 }
 
 // How many rows stand: the place of an identity that no row has.
@@ -50,8 +37,5 @@ pub(crate) fn stands_at(ids: &[u32], at: usize, x: u32) -> bool
     requires le_x { 1 ≤ x }
     ensures { result ≡ stands x ids.now }
 {
-    if at < ids.len() {
-        return ids[at] == x;
-    }
-    false
+    at < ids.len() && ids[at] == x
 }

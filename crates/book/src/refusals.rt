@@ -1,11 +1,13 @@
-// What refuses a call on a sound book, 0 where nothing does. `at` is the place of its identity.
+// What refuses a call on a sound book. `at` is the place of its identity.
 ghost use Rattle.std.specs.Prelude.{◌≡◌, ◌*◌, length};
+ghost use Rattle.refusal.specs.Refusal.{told};
 ghost use Rattle.book_rules.specs.Columns.{index_of};
 ghost use Rattle.book_rules.specs.Calls.{enter_refusal, supply_refusal, take_back_refusal, withdraw_refusal};
 ghost use Rattle.book_rules.specs.InnerRows.{Placed};
 
 use crate::place::stands_at;
 use movement::rules::{counts_fit, identity_fits, levels_fit, movement_refusal, zero_elsewhere};
+use refusal::Refusal;
 
 // `rows` rows stand.
 pub(crate) fn enter_refusal(
@@ -19,28 +21,25 @@ pub(crate) fn enter_refusal(
     time: u32,
     mass: u32,
     given: &[u32],
-) -> u32
+) -> Result<(), Refusal>
     requires placed { Placed ids.now at identity }
     requires rows_value { rows ≡ index_of 0 ids.now }
-    ensures { result ≡ enter_refusal points ids.now identity ty kind time mass given.now }
+    ensures { told result ≡ enter_refusal points ids.now identity ty kind time mass given.now }
 {
     if !counts_fit(given, points) {
-        return 9;
+        return Err(Refusal::NotSound);
     }
-    let refused = movement_refusal(ty, kind, time, mass);
-    if refused != 0 {
-        return refused;
-    }
+    movement_refusal(ty, kind, time, mass)?;
     if !identity_fits(identity) {
-        return 3;
+        return Err(Refusal::WrongIdentity);
     }
     if stands_at(ids, at, identity) {
-        return 4;
+        return Err(Refusal::AlreadyStands);
     }
-    if rows < ids.len() {
-        return 0;
+    if rows == ids.len() {
+        return Err(Refusal::NoUnusedRow);
     }
-    6
+    Ok(())
 }
 
 // A row that stands says for each point whether it counts there.
@@ -51,54 +50,55 @@ pub(crate) fn supply_refusal(
     points: usize,
     identity: u32,
     given: &[u32],
-) -> u32
+) -> Result<(), Refusal>
     requires placed { Placed ids.now at identity }
     requires counts_len { length counts.now ≡ length ids.now * points }
-    ensures { result
+    ensures { told result
         ≡ supply_refusal points ids.now counts.now identity given.now }
 {
     if !identity_fits(identity) {
-        return 3;
+        return Err(Refusal::WrongIdentity);
     }
     if !levels_fit(given, points) {
-        return 7;
+        return Err(Refusal::WrongLevels);
     }
     if !stands_at(ids, at, identity) {
-        return 5;
+        return Err(Refusal::DoesNotStand);
     }
     let start = at * points;
-    let end = start + points;
-    if !zero_elsewhere(&counts[start..end], given) {
-        return 19;
+    if !zero_elsewhere(&counts[start..start + points], given) {
+        return Err(Refusal::LevelElsewhere);
     }
-    0
+    Ok(())
 }
 
-pub(crate) fn withdraw_refusal(ids: &[u32], at: usize, identity: u32) -> u32
+pub(crate) fn withdraw_refusal(ids: &[u32], at: usize, identity: u32) -> Result<(), Refusal>
     requires { Placed ids.now at identity }
-    ensures { result ≡ withdraw_refusal ids.now identity }
+    ensures { told result ≡ withdraw_refusal ids.now identity }
 {
     if !identity_fits(identity) {
-        return 3;
+        return Err(Refusal::WrongIdentity);
     }
     if !stands_at(ids, at, identity) {
-        return 5;
+        return Err(Refusal::DoesNotStand);
     }
-    0
+    Ok(())
 }
 
 // A row that stands has a mark.
-pub(crate) fn take_back_refusal(ids: &[u32], marks: &[u32], at: usize, identity: u32) -> u32
+pub(crate) fn take_back_refusal(
+    ids: &[u32],
+    marks: &[u32],
+    at: usize,
+    identity: u32,
+) -> Result<(), Refusal>
     requires placed { Placed ids.now at identity }
     requires marks_len { length marks.now ≡ length ids.now }
-    ensures { result ≡ take_back_refusal ids.now marks.now identity }
+    ensures { told result ≡ take_back_refusal ids.now marks.now identity }
 {
-    let refused = withdraw_refusal(ids, at, identity);
-    if refused != 0 {
-        return refused;
-    }
+    withdraw_refusal(ids, at, identity)?;
     if marks[at] != 1 {
-        return 8;
+        return Err(Refusal::NoLevelsHeld);
     }
-    0
+    Ok(())
 }

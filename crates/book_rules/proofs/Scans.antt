@@ -5,7 +5,7 @@ use mathlib.Core.{Bool.false≢true, Logic.⊎_elim}
 use mathlib.Core.List.{List, [], ◌∷◌}
 use Prim.Native.Nat.{ℕ, zero, suc, ◌+◌, ◌-◌, ◌*◌, ◌≤◌, ◌<◌}
 use native.Mathlib.{Nat.mul-le-mul, Nat.mul-le-mul_right, Nat.suc-mul, Numerals.add-one, Omega.arith}
-use lib.{ListN.length, ListN.take, ListN.drop, ListN.get_or, ListN.drop_of_length-le, ListN.length-drop, Seq.drop-drop}
+use lib.{ListN.length, ListN.take, ListN.drop, ListN.get_or, ListN.drop_of_length-le, Seq.drop-drop}
 use mir.{Syntax.w64, Val.Fits}
 use Rattle.std.specs.List.{IsAllAdjacentAnswer}
 use Rattle.std.proofs.lemmas.Bool.{cases_Bool}

@@ -1,13 +1,16 @@
 -- Laws for the binary search of a place: identities rise, so a row that the place is not after has the place at or
 -- before it. Assumes nothing.
 use mathlib.Core.Path.{◌≡◌, refl, sym, ap, ◌∙◌}
-use mathlib.Core.Bool.{Bool, true, false, cond, ◌&&◌, ◌||◌, true≢false, or-true}
+use mathlib.Core.Bool.{Bool, true, false, cond, not, ◌&&◌, ◌||◌, true≢false, or-true}
 use mathlib.Core.List.{List, [], ◌∷◌}
 use Prim.Native.Nat.{ℕ, zero, suc, ◌+◌, ◌≤◌, ◌<◌}
-use native.Mathlib.{Nat.le_of_suc-le-suc, Nat.not-suc-le-zero, Omega.arith}
+use native.Mathlib.{Nat.le_of_suc-le-suc, Nat.not-suc-le-zero, Nat.not-le_of_lt, Omega.arith}
 use lib.{ListN.length, ListN.get_or, Dec.eqb, Dec.leb, Dec.ltb}
 use borrow.Author.Tests.{ltb-true, leb-true, leb-false, eqb-true, eqb-false, le-leb, lt-leb, lt-ltb, le-ltb}
 use borrow.Author.Tests.{eq-eqb, ne_eqb}
+use Rattle.std.specs.List.Sorted.{IsPartitionedBy, IsPartitionPoint}
+use Rattle.std.proofs.lemmas.Bool.{not-false, not-true}
+use Rattle.std.proofs.lemmas.List.{get_or_default}
 use Rattle.refusal.specs.Range.{all_within}
 use Rattle.refusal.proofs.Laws.{and_left, and_right}
 use Rattle.book_rules.specs.Columns.{first_at, index_of, place_of, stands, rising, followed, follows}
@@ -119,6 +122,45 @@ place_before x xs i h e = first_before (reached x) xs i h e
 pub place-within : (x : ℕ) (xs : List ℕ) → place_of x xs ≤ length xs
 unfolding place_of
 place-within x xs = first_within_lem (reached x) xs
+
+pub index_within : (x : ℕ) (xs : List ℕ) → index_of x xs ≤ length xs
+unfolding index_of
+index_within x xs = first_within_lem (λ y. eqb y x) xs
+
+-- so rows that are not reached come first
+pub place_parts : (x : ℕ) (xs : List ℕ) → rising xs ≡ true → IsPartitionedBy (λ y. not (reached x y)) xs
+place_parts x xs r i j d h k e = by (reached x (get_or xs i d)) refl
+  where
+    by : (t : Bool) → reached x (get_or xs i d) ≡ t → not t ≡ true
+    by false f = refl
+    by true f =
+        let low = place_before x xs i (omega arith) (rw (get_or_default xs i 0 d (omega arith)) f) in
+        let high = place_after x xs j r k (rw (get_or_default xs j 0 d k) (not-true (reached x (get_or xs j d)) e)) in
+        absurd (omega arith)
+
+-- and where they end is the place
+pub place_parted : (x : ℕ) (xs : List ℕ) (i : ℕ) → i ≤ length xs
+    → IsPartitionPoint (λ y. not (reached x y) ≡ true) (λ y. not (reached x y) ≡ false) xs i → i ≡ place_of x xs
+unfolding place_of
+place_parted x xs i h p = by (leb i (place_of x xs)) refl (leb (place_of x xs) i) refl
+  where
+    early : place_of x xs < i → ⊥
+    early l =
+        let k = place_of x xs in
+        true≢false (sym (first_passes (reached x) xs (omega arith))
+        ∙ not-true (reached x (get_or xs k 0)) (p.0 k 0 (omega arith) l))
+
+    late : i < place_of x xs → ⊥
+    late l =
+        let within = place-within x xs in
+        let low = place_before x xs i (omega arith) (not-false (reached x (get_or xs i 0)) (p.1 i 0 (omega arith)
+        (omega arith))) in
+        not-le_of_lt l low
+
+    by : (a : Bool) → leb i (place_of x xs) ≡ a → (b : Bool) → leb (place_of x xs) i ≡ b → i ≡ place_of x xs
+    by true e true f = omega (arith, leb-true i _ e, leb-true _ i f)
+    by true e false f = absurd (late (leb-false _ i f))
+    by false e b f = absurd (early (leb-false i _ e))
 
 -- the place of an identity over all others is the first unused row
 pub place_last : (top : ℕ) (xs : List ℕ) → all_within top xs ≡ true → place_of (top + 1) xs ≡ index_of 0 xs

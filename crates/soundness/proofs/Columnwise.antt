@@ -3,9 +3,9 @@
 use mathlib.Core.{Path.◌≡◌, Path.refl, Path.sym, Path.ap, Path.◌∙◌, Bool.Bool, Bool.true, Bool.false, Bool.cond}
 use mathlib.Core.{Bool.◌&&◌, Bool.◌||◌, Bool.and-true, Bool.and-false, Bool.true≢false}
 use mathlib.Core.List.{List, [], ◌∷◌}
-use Prim.Native.Nat.{ℕ, zero, suc, ◌+◌, ◌-◌, ◌*◌, ◌≤◌, ◌<◌}
+use Prim.Native.Nat.{ℕ, zero, suc, ◌+◌, ◌-◌, ◌*◌}
 use native.Mathlib.{Nat.zero-mul, Nat.suc-mul, Omega.arith}
-use lib.{ListN.length, ListN.take, ListN.drop, ListN.get_or, ListN.length-drop, Seq.drop-drop, Dec.eqb, Dec.leb}
+use lib.{ListN.length, ListN.take, ListN.drop, ListN.length-drop, Seq.drop-drop, Dec.eqb, Dec.leb}
 use lib.{Dec.ltb}
 use borrow.Author.Tests.{lt-ltb, lt-leb, ne_eqb}
 use Rattle.std.specs.List.{fold, zip}

@@ -65,16 +65,21 @@ fn cells_sound(counts: &[u32], levels: &[u32]) -> bool
     requires { length levels.now ≡ length counts.now }
     ensures { result ≡ cells_sound 1 1 counts.now levels.now }
 {
-    counts.iter().zip(levels).fold(true, |sound, (count, level)| {
-        sound & (*count <= MAX_COUNT) & (*level <= top_level(*count))
-    })
+    counts
+        .iter()
+        .zip(levels)
+        .fold(true, |sound, (count, level)| {
+            sound & (*count <= MAX_COUNT) & (*level <= top_level(*count))
+        })
 }
 
 // Whether no level is over `top`. It reads them all: to pass over the rows that may have levels costs more.
 fn row_within(levels: &[u32], top: u32) -> bool
     ensures { result ≡ all_within top levels.now }
 {
-    levels.iter().fold(true, |within, level| within & (*level <= top))
+    levels
+        .iter()
+        .fold(true, |within, level| within & (*level <= top))
 }
 
 // Whether all values are zero, where `says` is.

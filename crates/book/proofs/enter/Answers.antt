@@ -5,9 +5,3 @@ use Rattle.book.proofs.enter.Goals as goal
 
 pub returns-then-not-is_sound : goal.returns-then-not-is_sound
 returns-then-not-is_sound c = unsound (settled c.is_sound.ensures c.if-not-is_sound.true)
-
-pub enter-requires : goal.enter-requires
-enter-requires c = settled c.is_sound.ensures c.if-not-is_sound.false
-
-pub returns : goal.returns
-returns c = c.enter.ensures

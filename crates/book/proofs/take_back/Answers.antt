@@ -5,9 +5,3 @@ use Rattle.book.proofs.take_back.Goals as goal
 
 pub returns-then-not-is_sound : goal.returns-then-not-is_sound
 returns-then-not-is_sound c = unsound (settled c.is_sound.ensures c.if-not-is_sound.true)
-
-pub take_back-requires : goal.take_back-requires
-take_back-requires c = settled c.is_sound.ensures c.if-not-is_sound.false
-
-pub returns : goal.returns
-returns c = c.take_back.ensures

@@ -1,5 +1,6 @@
 -- `book::place::stands_at` meets its contract. Assumes nothing.
-use mathlib.Core.Path.{sym}
+use mathlib.Core.Path.{sym, ◌∙◌}
+use borrow.Author.Tests.{le-ltb}
 use Rattle.book_rules.proofs.Search.{stands_here, stands_past}
 use Rattle.book.proofs.place.stands_at.Goals as goal
 
@@ -9,7 +10,7 @@ returns-then-at-ids c =
     c.requires.le_x c.requires.placed.rising= c.requires.placed.place
     c.if-at-ids.true
 
-pub returns : goal.returns
-returns c =
-    sym (stands_past c.args.x c.args.ids.now c.args.at
+pub returns-else-at-ids : goal.returns-else-at-ids
+returns-else-at-ids c =
+    le-ltb _ _ c.if-at-ids.false ∙ sym (stands_past c.args.x c.args.ids.now c.args.at
     c.requires.placed.place c.if-at-ids.false)

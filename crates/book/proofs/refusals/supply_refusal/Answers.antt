@@ -82,8 +82,8 @@ returns-then-not-stands_at c =
 pub overflow_mul-start : goal.overflow_mul-start
 overflow_mul-start c = omega (arith, space c)
 
-pub overflow_add-end : goal.overflow_add-end
-overflow_add-end c = omega (arith, space c)
+pub overflow_add-start : goal.overflow_add-start
+overflow_add-start c = omega (arith, space c)
 
 pub offset_bounds-counts-start : goal.offset_bounds-counts-start
 offset_bounds-counts-start c = omega (arith, space c)

@@ -1,47 +1,42 @@
 -- `book::refusals::take_back_refusal` meets its contract: it is refused as a withdrawal is, and then for the mark.
 -- Assumes nothing.
-use Rattle.std.specs.Prelude.{◌≡◌, ◌<◌, length}
+use Rattle.std.specs.Prelude.{◌<◌, length}
 use mathlib.Core.Path.{refl, sym, ◌∙◌}
 use native.Mathlib.Omega.{arith}
 use borrow.Author.{Tests.eq-eqb, Tests.ne_eqb}
-use Rattle.book_rules.specs.{Columns.index_of, Calls.withdraw_refusal}
-use Rattle.book_rules.proofs.Accepted.{withdrawn, take_back_mark, take_back_refused}
+use Rattle.std.proofs.lemmas.Result.{err_from_is_err_and}
+use Rattle.refusal.proofs.Laws.{numbered}
+use Rattle.book_rules.proofs.Accepted.{Stood, withdrawn, take_back_mark, take_back_refused}
 use Rattle.book.proofs.Stood.{stood_index, stood_below}
 use Rattle.book.proofs.refusals.take_back_refusal.Goals as goal
-use Rattle.book.proofs.refusals.take_back_refusal.Goals.{Else-refused-ne0}
+use Rattle.book.proofs.refusals.take_back_refusal.Goals.{Start}
 
-ok : (c : Else-refused-ne0)
-    → withdraw_refusal c.args.ids.now
-    c.args.identity ≡ 0
-ok c = sym c.withdraw_refusal-refused.ensures ∙ c.if-refused-ne0.false
+row : (s : Start) → Stood s.args.ids.now s.args.identity → s.args.at < length s.args.marks.now
+row s w = omega (arith, stood_below s.requires.placed w, s.requires.marks_len)
 
--- the row is that of the identity
-same : (c : Else-refused-ne0)
-    → index_of c.args.identity
-    c.args.ids.now ≡ c.args.at
-same c = stood_index c.requires.placed (withdrawn _ _ (ok c))
-
-row : (c : Else-refused-ne0)
-    → c.args.at < length c.args.marks.now
-row c = omega (arith, stood_below c.requires.placed (withdrawn _ _ (ok c)))
-
-pub returns-then-refused-ne0 : goal.returns-then-refused-ne0
-returns-then-refused-ne0 c =
-    let said = c.withdraw_refusal-refused.ensures in
-    said ∙ take_back_refused _ _ _ (λ e. c.if-refused-ne0.true (said ∙ e))
+pub returns-in_err-withdraw_refusal : goal.returns-in_err-withdraw_refusal
+returns-in_err-withdraw_refusal c =
+    let p = err_from_is_err_and c.from_residual.result c.from_residual.ensures.1 in
+    let said = c.in_err-withdraw_refusal.ensures in
+    let low = numbered c.in_err-withdraw_refusal.field-0.0 in
+    rw (p.1, p.2) (said ∙ take_back_refused _ _ _ (λ e. omega arith))
 
 pub returns-then-marks-at-ne1 : goal.returns-then-marks-at-ne1
 returns-then-marks-at-ne1 c =
-    sym (take_back_mark _ _ _ (ok (goal.at.returns-then-marks-at-ne1 c).Else-refused-ne0)
-    ∙ rw (same (goal.at.returns-then-marks-at-ne1 c).Else-refused-ne0, ne_eqb _ _ c.if-marks-at-ne1.true) refl)
+    let none = sym c.in_ok-withdraw_refusal.ensures in
+    sym (take_back_mark _ _ _ none
+    ∙ rw (stood_index c.requires.placed (withdrawn _ _ none), ne_eqb _ _ c.if-marks-at-ne1.true) refl)
 
 pub returns : goal.returns
 returns c =
-    sym (take_back_mark _ _ _ (ok (goal.at.returns c).Else-refused-ne0)
-    ∙ rw (same (goal.at.returns c).Else-refused-ne0, eq-eqb _ _ c.if-marks-at-ne1.false) refl)
+    let none = sym c.in_ok-withdraw_refusal.ensures in
+    sym (take_back_mark _ _ _ none
+    ∙ rw (stood_index c.requires.placed (withdrawn _ _ none), eq-eqb _ _ c.if-marks-at-ne1.false) refl)
 
 pub offset_bounds-marks-at : goal.offset_bounds-marks-at
-offset_bounds-marks-at c = let r = row c in omega arith
+offset_bounds-marks-at c =
+    let r = row (goal.at.offset_bounds-marks-at c).Start (withdrawn _ _ (sym c.in_ok-withdraw_refusal.ensures)) in
+    omega arith
 
 pub bounds-marks-at : goal.bounds-marks-at
-bounds-marks-at c = omega (arith, row (goal.at.bounds-marks-at c).Else-refused-ne0)
+bounds-marks-at c = row (goal.at.bounds-marks-at c).Start (withdrawn _ _ (sym c.in_ok-withdraw_refusal.ensures))
