@@ -67,9 +67,6 @@ along_fits {nx} {ny} d =
     let h' : nx - 1 ≤ 255 = omega arith in
     (rw one-mul at one, (mul-le-mul_right (nx - 1) (omega arith), mul-le-mul d.low h'))
 
-pub up_fits : {nx ny : ℕ} → Sides nx ny → (row : ℕ) → row + 1 < ny → row * nx ≤ 65280
-up_fits d row l = let r : row ≤ 255 = omega (arith, d.low) in mul-le-mul r d.narrow
-
 pub rows_swept : (g : Picture) → Sides g.nx g.ny → (d₀ d₁ d₂ : Desk)
     → Sweeps g false 0 (g.nx - 1) d₀ d₁
     → Sweeps g false ((g.ny - 1) * (g.nx - 1)) (g.ny * (g.nx - 1)) d₁ d₂
@@ -97,14 +94,6 @@ ends_swept g k row h d₀ d₁ d₂ r i j =
     sweep_skips g w (w + 1) (w + (g.nx - 1)) d₀ d₁ (omega arith)
     (λ n p q. inner_columns g k row n h (omega (arith, a)) (omega (arith, a))) first in
     rw (a, b) (sweep_goes_on g false w (w + (g.nx - 1)) d₀ d₁ d₂ across j)
-
-pub border_swept : (g : Picture) (d₀ d₁ d₂ : Desk)
-    → Sweeps g false 0 (number_of g.nx g.ny (Vertical 0 0)) d₀ d₁
-    → Sweeps g false (number_of g.nx g.ny (Vertical 0 0)) (number_of g.nx g.ny (Vertical (g.ny - 1) 0))
-    d₁ d₂ → Sweeps g false 0 (edges_in g) d₀ d₂
-border_swept g d₀ d₁ d₂ i j =
-    let e : number_of g.nx g.ny (Vertical (g.ny - 1) 0) ≡ edges_in g = add-zero (edges_in g) in
-    subst (λ (n : ℕ). Sweeps g false 0 n d₀ d₂) e (sweep_joins g false 0 _ _ d₀ d₁ d₂ i j)
 
 pub all_swept : (g : Picture) (list edges' counts closed : List ℕ) (d₁ d₂ : Desk)
     → list ≡ crossed_to g (edges_in g) → Sweeps g false 0 (edges_in g) (desk list edges' counts closed 0 0) d₁

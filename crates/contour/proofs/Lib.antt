@@ -1,4 +1,3 @@
-pub mod Exits
 pub mod Tracing
 pub mod Listings
 pub mod Borders

@@ -10,14 +10,14 @@ use Rattle.room.proofs.{Laws.length-put, Fronts.front_more_rule, Fronts.front_gr
 use Rattle.network.proofs.Refusals.{both}
 use Rattle.contour_rules.specs.Picture.{Picture}
 use Rattle.contour_rules.specs.Crossings.{crossed_at, enters_at, next_at, edges_in}
-use Rattle.contour_rules.specs.Contours.{Contour, bit, waits, waiting, contour_from, without, Listing, try}
-use Rattle.contour_rules.specs.Contours.{swept, none_listed, all_listed, contours_of, crossed_to, edges_of}
+use Rattle.contour_rules.specs.Contours.{Contour, bit, waits, waiting, contour_from, without, Listing}
+use Rattle.contour_rules.specs.Contours.{swept, none_listed, crossed_to, edges_of}
 use Rattle.contour_rules.specs.Contours.{counts_of, closed_of}
 use Rattle.contour_rules.proofs.Waiting.{clash, stays_out, length_without, waiting-without, waiting_le, follow_on}
 use Rattle.contour_rules.proofs.Waiting.{length_crossed, crossed_waits_all}
 use Rattle.contour_rules.proofs.Sums.{edges_append, counts_append, closed_append, length_counts, length_closed}
 use Rattle.contour.specs.InnerWalk.{Traced}
-use Rattle.contour.specs.InnerDesk.{Desk, desk, Holds, Room, Grows, Sweeps, Listed, added, tried}
+use Rattle.contour.specs.InnerDesk.{Desk, desk, Holds, Room, Grows, Sweeps, added, tried}
 
 -- ---- one contour more
 
@@ -116,18 +116,6 @@ module _ (g : Picture) (closes : Bool) (d : Desk) (n end : ℕ) (list' edges' : 
 -- ---- an edge tried
 
 module _ (g : Picture) (closes : Bool) (n : ℕ) (d : Desk) where
-  pub try_starts : (d' : Desk) → ((closes || enters_at g n) && waits d.list n) ≡ true
-      → Grows g (added g closes n) d d' → Grows g (tried g closes n) d d'
-  try_starts d' t i = record {
-    room = i.room;
-    holds =
-        λ l old h. subst (λ (k : Listing). Holds k old d')
-        (sym (ap (λ (b : Bool). cond b (added g closes n l) l) (same l old h))) (i.holds l old h);
-  }
-    where
-      same : (l : Listing) (old : Desk) → Holds l old d → ((closes || enters_at g n) && waits l.list n) ≡ true
-      same l old h = ap (λ (m : List ℕ). (closes || enters_at g n) && waits m n) (sym h.the_list) ∙ t
-
   pub try_passes : Room g d → ((closes || enters_at g n) && waits d.list n) ≡ false
       → Grows g (tried g closes n) d d
   try_passes r t = record {
@@ -156,33 +144,12 @@ module _ (g : Picture) (closes : Bool) where
       → Sweeps g closes n to d d' → Sweeps g closes from to d₀ d'
   sweep_joins from n to d₀ d d' i j = record { room = j.room; holds = λ l old h. j.holds l old (i.holds l old h) }
 
--- edges that don't wait may be passed over
-pub none_wait : (g : Picture) (closes : Bool) (l : Listing) (n k : ℕ)
-    → ((m : ℕ) → n ≤ m → m < n + k → waits (swept g closes l n).list m ≡ false)
-    → swept g closes l (n + k) ≡ swept g closes l n
-unfolding swept
-none_wait g closes l n zero h = ap (swept g closes l) (add-zero n)
-none_wait g closes l n (suc k) h =
-    let i : swept g closes l (n + k) ≡ swept g closes l n =
-    none_wait g closes l n k (λ m p q. h m p (omega arith)) in
-    ap (swept g closes l) (add-suc n k) ∙ ap (λ (x : Listing). try g closes x (n + k)) i
-    ∙ ap (λ (b : Bool). cond b (added g closes (n + k) (swept g closes l n)) (swept g closes l n))
-    (ap (λ (b : Bool). (closes || enters_at g (n + k)) && b) (h (n + k) (omega arith) (omega arith))
-    ∙ and-false (closes || enters_at g (n + k)))
-
-pub sweep_waits : (g : Picture) (closes : Bool) (from n to : ℕ) (d₀ d : Desk) → n ≤ to
-    → ((m : ℕ) → n ≤ m → m < to → waits d.list m ≡ false) → Sweeps g closes from n d₀ d
-    → Sweeps g closes from to d₀ d
-sweep_waits g closes from n to d₀ d h f i =
-    let e : n + (to - n) ≡ to = omega arith in
-    record {
-      room = i.room;
-      holds = λ l old k.
-          let j = i.holds l old k in
-          subst (λ (x : Listing). Holds x old d)
-          (sym (none_wait g closes l n (to - n) (λ m p q. ap (λ (x : List ℕ). waits x m) (sym j.the_list)
-          ∙ f m p (omega (arith, e)))) ∙ ap (swept g closes l) e) j;
-    }
+-- an edge that doesn't wait may be passed over
+pub sweep_passes : (g : Picture) (closes : Bool) (from n : ℕ) (d₀ d : Desk) → waits d.list n ≡ false
+    → Sweeps g closes from n d₀ d → Sweeps g closes from (n + 1) d₀ d
+sweep_passes g closes from n d₀ d h i =
+    let t = ap (λ (b : Bool). (closes || enters_at g n) && b) h ∙ and-false (closes || enters_at g n) in
+    sweep_goes_on g closes from n d₀ d d i (try_passes g closes n d i.room t)
 
 -- edges where no contour enters may be passed over
 pub none_enter : (g : Picture) (l : Listing) (n k : ℕ)
@@ -212,26 +179,6 @@ unfolding edges_of counts_of closed_of
 none_held g list edges counts closed h =
     record { the_list = h; the_edges = refl; the_counts = refl; the_closed = refl; edge_places = refl; contours = refl }
 
--- buffers keep their lengths
-pub record Same (d₀ d : Desk) : Type 0 where
-  pub list_long : length d.list ≡ length d₀.list
-  pub edges_long : length d.edges ≡ length d₀.edges
-  pub counts_long : length d.counts ≡ length d₀.counts
-  pub closed_long : length d.closed ≡ length d₀.closed
-
-pub same_self : (d : Desk) → Same d d
-same_self d = record { list_long = refl; edges_long = refl; counts_long = refl; closed_long = refl }
-
-pub same_after : {d₀ d d' : Desk} → Same d₀ d → Same d d' → Same d₀ d'
-same_after p q = record {
-  list_long = q.list_long ∙ p.list_long;
-  edges_long = q.edges_long
-      ∙ p.edges_long;
-  counts_long = q.counts_long ∙ p.counts_long;
-  closed_long = q.closed_long
-      ∙ p.closed_long;
-}
-
 -- ---- all contours
 
 -- the crossed edges wait, and there is room for every edge
@@ -248,18 +195,3 @@ first_room g list edges counts closed h p q r =
       for_counts = omega (arith, waiting_le list);
       for_closed = omega (arith, waiting_le list);
     }
-
--- once all are listed
-pub all_held : (g : Picture) (old d : Desk) → Holds (all_listed g) old d → Room g d → Same old d
-    → Listed (contours_of g) old.edges old.counts old.closed d.edges d.counts d.closed d.at
-    d.made
-all_held g old d h r s = record {
-  the_edges = h.the_edges;
-  the_counts = h.the_counts;
-  the_closed = h.the_closed;
-  edge_places = h.edge_places;
-  contours = h.contours;
-  edges_fit = omega (arith, r.for_edges, s.edges_long);
-  counts_fit_rule = omega (arith, r.for_counts, s.counts_long);
-  closed_fit = omega (arith, r.for_closed, s.closed_long);
-}

@@ -2,7 +2,7 @@
 use mathlib.Core.{Path.◌≡◌, Path.sym, Path.ap, Path.◌∙◌, Path.subst, Bool.Bool, Bool.true, Bool.false}
 use Rattle.std.specs.Prelude.{ℕ, ◌+◌, ◌-◌, ◌*◌, ◌<◌, ◌≤◌, List, ◌++◌}
 use mathlib.Core.List.{append-nil}
-use native.Mathlib.{Nat.add-zero, Nat.zero-mul, Nat.one-mul, Nat.add-mul, Omega.arith}
+use native.Mathlib.{Nat.add-zero, Omega.arith}
 use lib.{ListN.length, ListN.drop, ListN.set, ListN.length-append, ListN.length-drop, Seq.drop-length}
 use Rattle.network.specs.Edges.{number_of, WithinEdge}
 use Rattle.network.proofs.Numbers.{at_number, number_lt}
@@ -18,22 +18,10 @@ pub row_within : (up : Bool) (nx ny row col : ℕ) → row < row_count up ny →
 row_within true nx ny row col h k = (omega arith, k)
 row_within false nx ny row col h k = (h, omega arith)
 
-pub width_some : (up : Bool) (nx : ℕ) → 2 ≤ nx → (0 < row_width up nx) × (row_width up nx ≤ nx)
-width_some true nx h = (omega arith, omega arith)
-width_some false nx h = (omega arith, omega arith)
-
 pub row_number : (up : Bool) (nx ny row col : ℕ)
     → number_of nx ny (edge_in up row col) ≡ number_of nx ny (edge_in up row 0) + col
 row_number true nx ny row col = omega arith
 row_number false nx ny row col = omega arith
-
-one_more : (row k : ℕ) → (row + 1) * k ≡ row * k + k
-one_more row k = add-mul row 1 k ∙ ap (λ (x : ℕ). row * k + x) (one-mul k)
-
-pub next_row : (up : Bool) (nx ny row : ℕ)
-    → number_of nx ny (edge_in up row 0) + row_width up nx ≡ number_of nx ny (edge_in up (row + 1) 0)
-next_row true nx ny row = omega (arith, one_more row nx)
-next_row false nx ny row = omega (arith, one_more row (nx - 1))
 
 -- the edge of a number along a row, and whether it is crossed
 pub row_crossed : (g : Picture) → 2 ≤ g.nx → (up : Bool) (row col n : ℕ) → row < row_count up g.ny
@@ -46,9 +34,6 @@ row_crossed g k up row col n h l e =
       subst (λ (j : ℕ). j < edges_in g) (sym i) (number_lt g.nx g.ny k (edge_in up row col) w),
     )
 
-pub fills_none : (g : Picture) (n : ℕ) (list : List ℕ) → Fills g n (n + 0) list list
-fills_none g n list = rw add-zero (λ d h. h)
-
 pub fills_more : (g : Picture) (first col : ℕ) (list₀ list : List ℕ) (x : ℕ)
     → Fills g first (first + col) list₀ list → first + col < length list → x ≡ bit (crossed_at g (first + col))
     → Fills g first (first + (col + 1)) list₀ (set list (first + col) x)
@@ -60,17 +45,6 @@ fills_more g first col list₀ list x i h e = λ d k.
     ∙ ap (λ (j : ℕ). n + j) (length-drop n d) in
     let a : first + (col + 1) ≡ n + 1 = omega arith in
     rw (a, f) (crossed_more g d n x (omega (arith, m)) e)
-
-pub fills_on : (g : Picture) (a b c : ℕ) (l₀ l₁ l₂ : List ℕ) → Fills g a b l₀ l₁
-    → Fills g b c l₁ l₂ → Fills g a c l₀ l₂
-fills_on g a b c l₀ l₁ l₂ i j = λ d h. j d (i d h)
-
--- both kinds of rows are all edges
-pub first_along : (nx ny : ℕ) → 0 ≡ number_of nx ny (edge_in false 0 0)
-first_along nx ny = rw (zero-mul, add-zero)
-
-pub first_up : (nx ny : ℕ) → ny * (nx - 1) ≡ number_of nx ny (edge_in true 0 0)
-first_up nx ny = rw (zero-mul, add-zero, add-zero)
 
 pub fills_all : (g : Picture) (l₀ l₁ l₂ : List ℕ) → length l₀ ≡ edges_in g
     → Fills g 0 (number_of g.nx g.ny (edge_in false (row_count false g.ny) 0)) l₀ l₁

@@ -1,12 +1,12 @@
 -- Inner steps: no promise uses them. The buffers while contours are listed, and what they hold. Assumes nothing.
-use Rattle.std.specs.Prelude.{◌≡◌, ℕ, ◌+◌, ◌<◌, ◌≤◌, Bool, false, List, length}
+use Rattle.std.specs.Prelude.{◌≡◌, ℕ, ◌+◌, ◌≤◌, Bool, List, length}
 use Rattle.std.specs.Borrow.{Bor, MutBor}
 use Rattle.room.specs.Lent.{Lent, LentRoom}
 use Rattle.room.specs.Room.{front}
 use Rattle.network.specs.Edges.{edges as edge_count}
 use Rattle.contour_rules.specs.Picture.{Picture, picture}
 use Rattle.contour_rules.specs.Crossings.{edges_in}
-use Rattle.contour_rules.specs.Contours.{Contour, Listing, waits, waiting, contour_from, add, try, swept}
+use Rattle.contour_rules.specs.Contours.{Contour, Listing, waiting, contour_from, add, try, swept}
 use Rattle.contour_rules.specs.Contours.{edges_of, counts_of, closed_of}
 use Rattle.contour.specs.declared.inner.Progress.{Progress}
 use Rattle.contour.specs.InnerWalk.{OnlyCrossed}
@@ -82,12 +82,6 @@ tried g closes n l = try g closes l n
 pub record Sweeps (g : Picture) (closes : Bool) (from to : ℕ) (d d' : Desk) : Type 0 where
   pub room : Room g d'
   pub holds : (l : Listing) (old : Desk) → Holds (swept g closes l from) old d → Holds (swept g closes l to) old d'
-
--- none of the edges from `from` to before r waits
-pub record FirstWaiting (list : List ℕ) (from last r : ℕ) : Type 0 where
-  pub low : from ≤ r
-  pub high : r ≤ last
-  pub none : (m : ℕ) → from ≤ m → m < r → waits list m ≡ false
 
 -- these contours were listed at the fronts of buffers, which had room for them
 pub record Listed (cs : List Contour) (edges counts closed edges' counts' closed' : List ℕ) (at made : ℕ)

@@ -2,23 +2,13 @@
 ghost use Rattle.std.specs.Prelude.{◌≡◌, ◌<◌, true};
 ghost use Rattle.network.specs.Edges.{Sized, edges as edge_count};
 ghost use Rattle.contour_rules.specs.Crossings.{ahead_of, edge_of};
-ghost use Rattle.contour_rules.specs.Contours.{bit, waits};
+ghost use Rattle.contour_rules.specs.Contours.{waits};
 ghost use Rattle.contour.specs.InnerDesk.{picture_now, picture_before, desk_now, desk_before, desk_after};
 ghost use Rattle.contour.specs.InnerDesk.{Room, Grows, added, tried};
 
 use crate::inner::Progress;
 use crate::walk::Stand;
 use crate::{start, walk};
-
-// 1 for a contour that closes.
-fn closed_mark(closes: bool) -> u32
-    ensures { result ≡ bit closes }
-{
-    if closes {
-        return 1;
-    }
-    0
-}
 
 // Lists the contour that starts at an edge.
 fn add_contour(
@@ -44,7 +34,7 @@ fn add_contour(
     let made = so_far.contours;
     let end = walk::trace(levels, nx, ny, v, start, list, edges, at);
     counts[made] = (end - at) as u32;
-    closed[made] = closed_mark(closes);
+    closed[made] = u32::from(closes);
     Progress {
         edges: end,
         contours: made + 1,

@@ -67,10 +67,8 @@ fn sweep_sides(
         (desk_before list edges counts closed before) (desk_after list edges counts closed result) }
 {
     let mut so_far = before;
-    let mut row = 0;
-    while row + 1 < ny {
+    for row in 0..ny - 1 {
         so_far = sweep_ends(levels, nx, ny, v, row, list, edges, counts, closed, so_far);
-        row += 1;
     }
     so_far
 }

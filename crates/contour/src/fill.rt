@@ -1,50 +1,35 @@
-// The waiting list at first, and buffers filled from the front.
-ghost use Rattle.std.specs.Prelude.{◌≡◌, ◌+◌, ◌<◌, ◌≤◌, ◌++◌, length, take, drop};
+// The waiting list at first.
+ghost use Rattle.std.specs.Prelude.{◌≡◌, ◌+◌, ◌<◌, ◌≤◌, length};
 ghost use Rattle.network.specs.Edges.{Sized, number_of, edges as edge_count};
-ghost use Rattle.contour_rules.specs.Contours.{bit, crossed_to};
+ghost use Rattle.contour_rules.specs.Contours.{crossed_to};
 ghost use Rattle.contour.specs.InnerDesk.{picture_before};
 ghost use Rattle.contour.specs.InnerFill.{edge_in, row_width, row_count, Fills};
 
 use network::Edge;
-
-// 1 for an edge that is crossed.
-fn crossed_mark(crossed: bool) -> u8
-    ensures { result ≡ bit crossed }
-{
-    if crossed {
-        return 1;
-    }
-    0
-}
 
 // How many edges a row has, and how many rows of edges there are: up to the next row, or along the row.
 fn row_width(up: bool, nx: usize) -> usize
     requires { 2 ≤ nx }
     ensures { result ≡ row_width up nx }
 {
-    if up {
-        return nx;
-    }
-    nx - 1
+    if up { nx } else { nx - 1 }
 }
 
 fn row_count(up: bool, ny: usize) -> usize
     requires { 2 ≤ ny }
     ensures { result ≡ row_count up ny }
 {
-    if up {
-        return ny - 1;
-    }
-    ny
+    if up { ny - 1 } else { ny }
 }
 
 fn edge_in(up: bool, row: usize, col: usize) -> Edge
     ensures { result ≡ edge_in up row col }
 {
     if up {
-        return Edge::Vertical(row, col);
+        Edge::Vertical(row, col)
+    } else {
+        Edge::Horizontal(row, col)
     }
-    Edge::Horizontal(row, col)
 }
 
 // Fills the waiting list for the edges of a row, the first of which has the number `first`.
@@ -63,12 +48,9 @@ fn fill_row(
     ensures { Fills (picture_before levels nx ny v) first (first + row_width up nx)
         list.old list.new }
 {
-    let width = row_width(up, nx);
-    let mut col = 0;
-    while col < width {
+    for col in 0..row_width(up, nx) {
         let crossed = network::inner::crossed_edge(levels, nx, ny, v, edge_in(up, row, col));
-        list[first + col] = crossed_mark(crossed);
-        col += 1;
+        list[first + col] = u8::from(crossed);
     }
 }
 
@@ -80,13 +62,10 @@ fn fill_rows(levels: &[u32], nx: usize, ny: usize, v: u32, up: bool, first: usiz
         (number_of nx ny (edge_in up (row_count up ny) 0)) list.old list.new }
 {
     let width = row_width(up, nx);
-    let rows = row_count(up, ny);
-    let mut row = 0;
     let mut n = first;
-    while row < rows {
+    for row in 0..row_count(up, ny) {
         fill_row(levels, nx, ny, v, up, row, n, list);
         n += width;
-        row += 1;
     }
 }
 
@@ -97,16 +76,4 @@ pub(crate) fn fill_list(levels: &[u32], nx: usize, ny: usize, v: u32, list: &mut
 {
     fill_rows(levels, nx, ny, v, false, 0, list);
     fill_rows(levels, nx, ny, v, true, ny * (nx - 1), list);
-}
-
-// Copies the first n numbers of `from` to the front of `to`.
-pub(crate) fn copy_front(from: &[u32], n: usize, to: &mut [u32])
-    requires { (n ≤ length from.now) × (n ≤ length to.old) }
-    ensures { to.new ≡ take n from.now ++ drop n to.old }
-{
-    let mut i = 0;
-    while i < n {
-        to[i] = from[i];
-        i += 1;
-    }
 }

@@ -2,6 +2,7 @@
 #![tactic(auto)]
 
 ghost use Rattle.std.specs.Prelude.{◌≡◌, ◌≤◌, ◌&&◌, [], ◌∷◌, length, take, nat_le};
+ghost use Rattle.refusal.specs.Refusal.{told};
 ghost use Rattle.room.specs.Room.{front};
 ghost use Rattle.network.specs.Limits.{max_edges};
 ghost use Rattle.network.specs.Edges.{Sized};
@@ -12,6 +13,7 @@ ghost use Rattle.contour.specs.InnerDesk.{picture_before, RoomForAll};
 use crate::inner::Progress;
 use network::Frame;
 use network::limits::{MAX_EDGES, MAX_NETWORK_LEVEL};
+use refusal::Refusal;
 
 mod add;
 mod border;
@@ -30,26 +32,11 @@ fn put_sizes(sizes: &mut [u32], got: Progress)
     sizes[1] = got.contours as u32;
 }
 
-// Whether the marks of m contours and the two sizes fit.
-fn marks_fit(m: usize, closed: usize, sizes: usize) -> bool
-    ensures { result ≡ (nat_le m closed && nat_le 2 sizes) }
-{
-    if m <= closed {
-        return 2 <= sizes;
-    }
-    false
-}
-
 // Whether n edges, m contours and the two sizes fit.
 fn room_for(n: usize, m: usize, edges: usize, counts: usize, closed: usize, sizes: usize) -> bool
     ensures { result ≡ (nat_le n edges && nat_le m counts && nat_le m closed && nat_le 2 sizes) }
 {
-    if n <= edges {
-        if m <= counts {
-            return marks_fit(m, closed, sizes);
-        }
-    }
-    false
+    n <= edges && m <= counts && m <= closed && 2 <= sizes
 }
 
 // Hands what was listed apart out to the caller's buffers, or refuses where one of them is too small.
@@ -62,25 +49,25 @@ fn hand_out(
     counts: &mut [u32],
     closed: &mut [u32],
     sizes: &mut [u32],
-) -> u32
+) -> Result<(), Refusal>
     requires { (got.edges ≤ max_edges) × ((got.contours ≤ max_edges)
         × ((got.edges ≤ length all_edges.now) × ((got.contours ≤ length all_counts.now)
         × (got.contours ≤ length all_closed.now)))) }
-    ensures { outcome_left result edges counts closed sizes ≡ handed_out 0
+    ensures { outcome_left (told result) edges counts closed sizes ≡ handed_out 0
         (answer_from (take got.edges all_edges.now)
         (take got.contours all_counts.now) (take got.contours all_closed.now))
         (lists_before edges counts closed sizes) }
 {
     let n = got.edges;
     let m = got.contours;
-    if room_for(n, m, edges.len(), counts.len(), closed.len(), sizes.len()) {
-        fill::copy_front(all_edges, n, edges);
-        fill::copy_front(all_counts, m, counts);
-        fill::copy_front(all_closed, m, closed);
-        put_sizes(sizes, got);
-        return 0;
+    if !room_for(n, m, edges.len(), counts.len(), closed.len(), sizes.len()) {
+        return Err(Refusal::TooLittleRoom);
     }
-    14
+    edges[..n].copy_from_slice(&all_edges[..n]);
+    counts[..m].copy_from_slice(&all_counts[..m]);
+    closed[..m].copy_from_slice(&all_closed[..m]);
+    put_sizes(sizes, got);
+    Ok(())
 }
 
 // Lists the contours apart and hands them out: for buffers that may be too small.
@@ -93,9 +80,9 @@ fn list_apart(
     counts: &mut [u32],
     closed: &mut [u32],
     sizes: &mut [u32],
-) -> u32
+) -> Result<(), Refusal>
     requires { Sized levels.now nx ny }
-    ensures { outcome_left result edges counts closed sizes ≡ handed_out 0
+    ensures { outcome_left (told result) edges counts closed sizes ≡ handed_out 0
         (answer_of (contours_of (picture_before levels nx ny v))) (lists_before edges counts closed sizes) }
 {
     let mut all_edges = [0u32; MAX_EDGES];
@@ -132,15 +119,14 @@ fn list_straight(
     counts: &mut [u32],
     closed: &mut [u32],
     sizes: &mut [u32],
-) -> u32
+)
     requires { Sized levels.now nx ny
         × (RoomForAll nx ny edges counts closed × (2 ≤ length sizes.old)) }
-    ensures { outcome_left result edges counts closed sizes ≡ handed_out 0
+    ensures { outcome_left 0 edges counts closed sizes ≡ handed_out 0
         (answer_of (contours_of (picture_before levels nx ny v))) (lists_before edges counts closed sizes) }
 {
     let got = inner::list_contours(levels, nx, ny, v, edges, counts, closed);
     put_sizes(sizes, got);
-    0
 }
 
 // The contours of a checked network. Where each buffer has room for every edge they are listed straight into the
@@ -154,9 +140,9 @@ fn list_out(
     counts: &mut [u32],
     closed: &mut [u32],
     sizes: &mut [u32],
-) -> u32
+) -> Result<(), Refusal>
     requires { Sized levels.now nx ny }
-    ensures { outcome_left result edges counts closed sizes ≡ handed_out 0
+    ensures { outcome_left (told result) edges counts closed sizes ≡ handed_out 0
         (answer_of (contours_of (picture_before levels nx ny v))) (lists_before edges counts closed sizes) }
 {
     let total = network::inner::edge_count(nx, ny);
@@ -168,14 +154,15 @@ fn list_out(
         closed.len(),
         sizes.len(),
     ) {
-        return list_straight(levels, nx, ny, v, edges, counts, closed, sizes);
+        list_straight(levels, nx, ny, v, edges, counts, closed, sizes);
+        return Ok(());
     }
     list_apart(levels, nx, ny, v, edges, counts, closed, sizes)
 }
 
 // The contours at level v of a network of levels, from the south row, west to east. Their edges, one contour after the
 // other, go to `edges`, the number of edges of each to `counts`, 1 to `closed` for each that closes and 0 for each that
-// doesn't, and to `sizes` how many edges and contours there are. Returns 0, or the refusal's number.
+// doesn't, and to `sizes` how many edges and contours there are.
 pub fn contours(
     levels: &[u32],
     frame: Frame,
@@ -184,15 +171,12 @@ pub fn contours(
     counts: &mut [u32],
     closed: &mut [u32],
     sizes: &mut [u32],
-) -> u32
-    ensures { outcome_left result edges counts closed sizes
+) -> Result<(), Refusal>
+    ensures { outcome_left (told result) edges counts closed sizes
         ≡ outcome_due levels frame v edges counts closed sizes }
 {
-    let why = network::contour_refusal(levels, frame, v, MAX_NETWORK_LEVEL);
-    if why == 0 {
-        let nx = frame.columns as usize;
-        let ny = frame.rows as usize;
-        return list_out(levels, nx, ny, v, edges, counts, closed, sizes);
-    }
-    why
+    network::contour_refusal(levels, frame, v, MAX_NETWORK_LEVEL)?;
+    let nx = frame.columns as usize;
+    let ny = frame.rows as usize;
+    list_out(levels, nx, ny, v, edges, counts, closed, sizes)
 }

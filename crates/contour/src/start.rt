@@ -16,8 +16,9 @@ fn first_in(levels: &[u32], nx: usize, ny: usize, v: u32, e: Edge) -> bool
     ensures { result ≡ first_in (picture_before levels nx ny v) e }
 {
     match e {
-        Edge::Horizontal(row, col) => network::inner::inside(levels, nx, ny, v, row, col),
-        Edge::Vertical(row, col) => network::inner::inside(levels, nx, ny, v, row, col),
+        Edge::Horizontal(row, col) | Edge::Vertical(row, col) => {
+            network::inner::inside(levels, nx, ny, v, row, col)
+        }
     }
 }
 
@@ -50,24 +51,11 @@ fn enters_at(levels: &[u32], nx: usize, ny: usize, v: u32, n: usize) -> bool
     ensures { result ≡ enters_at (picture_before levels nx ny v) n }
 {
     let e = network::inner::edge_at(nx, ny, n);
-    if network::inner::crossed_edge(levels, nx, ny, v, e) {
-        return outside(walk::across(nx, ny, !first_in(levels, nx, ny, v, e), e));
-    }
-    false
+    network::inner::crossed_edge(levels, nx, ny, v, e)
+        && outside(walk::across(nx, ny, !first_in(levels, nx, ny, v, e), e))
 }
 
-// Whether contours start at the edge: an open one where it enters, a closed one at any edge that waits.
-fn may_start(levels: &[u32], nx: usize, ny: usize, v: u32, closes: bool, n: usize) -> bool
-    requires { Sized levels.now nx ny × (n < edge_count nx ny) }
-    ensures { result ≡ (closes || enters_at (picture_before levels nx ny v) n) }
-{
-    if closes {
-        return true;
-    }
-    enters_at(levels, nx, ny, v, n)
-}
-
-// Whether a contour starts at the edge, which must wait.
+// Whether a contour starts at the edge, which must wait: an open one where it enters, a closed one at any.
 pub(crate) fn starts_here(
     levels: &[u32],
     nx: usize,
@@ -81,8 +69,5 @@ pub(crate) fn starts_here(
     ensures { result
         ≡ ((closes || enters_at (picture_before levels nx ny v) n) && waits list.now n) }
 {
-    if walk::still_waits(list, n) {
-        return may_start(levels, nx, ny, v, closes, n);
-    }
-    false
+    walk::still_waits(list, n) && (closes || enters_at(levels, nx, ny, v, n))
 }

@@ -37,22 +37,16 @@ fn corner_in(levels: &[u32], nx: usize, ny: usize, v: u32, row: usize, col: usiz
     }
 }
 
-fn wide(x: u32) -> u64
-    ensures { (result ≡ x) × (result < 4294967296) }
-{
-    x as u64
-}
-
 // Whether a saddle of the square cuts off its two out corners.
 fn cuts_out(levels: &[u32], nx: usize, ny: usize, v: u32, row: usize, col: usize) -> bool
     requires { Sized levels.now nx ny × WithinSquare nx ny row col }
     ensures { result ≡ cut_of levels.now nx v row col }
 {
-    let south = wide(network::inner::level(levels, nx, ny, row, col))
-        + wide(network::inner::level(levels, nx, ny, row, col + 1));
-    let north = wide(network::inner::level(levels, nx, ny, row + 1, col + 1))
-        + wide(network::inner::level(levels, nx, ny, row + 1, col));
-    4 * wide(v) <= south + north
+    let south = u64::from(network::inner::level(levels, nx, ny, row, col))
+        + u64::from(network::inner::level(levels, nx, ny, row, col + 1));
+    let north = u64::from(network::inner::level(levels, nx, ny, row + 1, col + 1))
+        + u64::from(network::inner::level(levels, nx, ny, row + 1, col));
+    4 * u64::from(v) <= south + north
 }
 
 // The side by which a line leaves the square that it entered by `s`. The corners are added up at a saddle only.
@@ -65,19 +59,18 @@ fn exit_side(levels: &[u32], nx: usize, ny: usize, v: u32, row: usize, col: usiz
     let on_left = turned(across);
     let right = corner_in(levels, nx, ny, v, row, col, across);
     let left = corner_in(levels, nx, ny, v, row, col, on_left);
-    if right {
-        if left {
-            return on_right;
+    match (right, left) {
+        (true, true) => on_right,
+        (true, false) => {
+            if cuts_out(levels, nx, ny, v, row, col) {
+                on_right
+            } else {
+                on_left
+            }
         }
-        if cuts_out(levels, nx, ny, v, row, col) {
-            return on_right;
-        }
-        return on_left;
+        (false, true) => across,
+        (false, false) => on_left,
     }
-    if left {
-        return across;
-    }
-    on_left
 }
 
 // The square's edge at a side.
@@ -200,10 +193,7 @@ fn step(levels: &[u32], nx: usize, ny: usize, v: u32, ahead: Ahead) -> Stand
 pub(crate) fn still_waits(list: &[u8], n: usize) -> bool
     ensures { result ≡ waits list.now n }
 {
-    if n < list.len() {
-        return list[n] == 1;
-    }
-    false
+    n < list.len() && list[n] == 1
 }
 
 // Writes the contour from an edge on into `edges` from the place `from` on, and takes its edges from the waiting list.

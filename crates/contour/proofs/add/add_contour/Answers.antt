@@ -3,6 +3,7 @@ use native.Mathlib.Omega.{arith}
 use Rattle.network.proofs.Numbers.{edges_le}
 use Rattle.contour_rules.specs.Picture.{Picture, picture}
 use Rattle.contour.specs.InnerDesk.{Desk, desk}
+use Rattle.contour.proofs.Buffers.{byte_bit}
 use Rattle.contour.proofs.Listings.{count_fits, end_fits, grown}
 use Rattle.contour.proofs.add.add_contour.Goals as goal
 use Rattle.contour.proofs.add.add_contour.Goals.{Start}
@@ -36,6 +37,6 @@ bounds-closed-made c =
 
 pub returns : goal.returns
 returns c =
-    rw c.closed_mark.ensures (grown (pictured (goal.at.returns c).Start) c.args.closes
+    rw (c.from.ensures, byte_bit c.args.closes) (grown (pictured (goal.at.returns c).Start) c.args.closes
     (first (goal.at.returns c).Start) _ _ _ _ c.requires.1.1.1
     c.requires.1.0 c.trace-end.ensures)

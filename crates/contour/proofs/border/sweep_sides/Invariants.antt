@@ -1,9 +1,7 @@
 -- `contour::border::sweep_sides` meets its contract. Assumes nothing.
 use mathlib.Core.{Bool.false}
-use Rattle.std.specs.Prelude.{◌-◌, ◌<◌}
 use Rattle.contour_rules.specs.Picture.{picture}
 use Rattle.contour.specs.InnerDesk.{desk, Sweeps}
-use Rattle.contour.proofs.Listings.{Same}
 use Rattle.network.specs.Edges.{number_of}
 use Rattle.network.specs.declared.Edge.TheVariants.{Vertical}
 use Rattle.contour.proofs.border.sweep_sides.Given as goal
@@ -15,10 +13,3 @@ invariant-loop-row l =
     (desk l.initial.list l.initial.edges l.initial.counts l.initial.closed l.initial.so_far.edges
     l.initial.so_far.contours)
     (desk l.list l.edges l.counts l.closed l.so_far.edges l.so_far.contours)
-    × (Same (desk l.initial.list l.initial.edges l.initial.counts l.initial.closed l.initial.so_far.edges
-    l.initial.so_far.contours)
-    (desk l.list l.edges l.counts l.closed l.so_far.edges l.so_far.contours) × (l.row < l.ny))
-
-abbrev pub decreases-loop-row : goal.decreases-loop-row
-decreases-loop-row l =
-    l.ny - l.row

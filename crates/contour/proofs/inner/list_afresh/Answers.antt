@@ -1,6 +1,6 @@
 -- `contour::inner::list_afresh` meets its contract. Assumes nothing.
 use Rattle.contour_rules.specs.Picture.{Picture, picture}
-use Rattle.contour.proofs.Listings.{first_room, all_held}
+use Rattle.contour.proofs.Listings.{first_room}
 use Rattle.contour.proofs.inner.list_afresh.Goals as goal
 use Rattle.contour.proofs.inner.list_afresh.Goals.{Start}
 
@@ -17,14 +17,3 @@ list_all-requires c =
             c.args.closed.now f c.requires.1.1.0 c.requires.1.1.1.0 c.requires.1.1.1.1,
       ),
     )
-
-pub returns : goal.returns
-returns c =
-    let t = c.list_all in
-    all_held (pictured (goal.at.returns c).Start) _ _ t.ensures.0 t.ensures.1
-    (record {
-      list_long = t.auto.list;
-      edges_long = t.auto.edges;
-      counts_long = t.auto.counts;
-      closed_long = t.auto.closed;
-    })

@@ -1,5 +1,4 @@
 -- `contour::inner::list_all` meets its contract. Assumes nothing.
-use native.Mathlib.{Omega.arith, Nat.le_of_eq}
 use Rattle.contour_rules.specs.Picture.{Picture, picture}
 use Rattle.contour.proofs.Borders.{all_swept}
 use Rattle.contour.proofs.inner.list_all.Goals as goal
@@ -7,10 +6,6 @@ use Rattle.contour.proofs.inner.list_all.Goals.{Start}
 
 abbrev pictured : Start → Picture
 pictured s = picture s.args.levels.now s.args.nx s.args.ny s.args.v
-
-pub sweep_range-requires : goal.sweep_range-requires
-sweep_range-requires c =
-    (c.requires.0, (omega arith, (le_of_eq c.edge_count-total.ensures, c.list_open-open.ensures.room)))
 
 pub returns : goal.returns
 returns c =

@@ -1,5 +1,4 @@
 -- `contour::start::stand_at` meets its contract. Assumes nothing.
-use mathlib.Core.Path.{refl}
 use Rattle.network.specs.Edges.{WithinEdge}
 use Rattle.network.proofs.Numbers.{found_within}
 use Rattle.contour.proofs.start.stand_at.Goals as goal
@@ -15,6 +14,3 @@ first_in-left-requires c = (c.requires.0, within c)
 
 pub across-requires : goal.across-requires
 across-requires c = (c.requires.0.sides, within (goal.at.across-requires c).After-edge_at-e)
-
-pub returns : goal.returns
-returns c = (refl, simp (c.across.ensures, c.first_in-left.ensures, c.edge_at-e.ensures))

@@ -5,7 +5,7 @@ use Rattle.network.specs.Edges.{edges}
 use Rattle.network.proofs.Numbers.{edges_le}
 use Rattle.contour_rules.specs.{Picture.picture, Contours.waits}
 use Rattle.contour_rules.proofs.Waiting.{waits_lt, waiting-set}
-use Rattle.contour.proofs.Tracing.{ahead_within, begins, fits, goes_on, ended}
+use Rattle.contour.proofs.Tracing.{ahead_within, fits, goes_on, ended}
 use Rattle.contour.proofs.walk.trace.Goals as goal
 use Rattle.contour.proofs.walk.trace.Goals.{In-loop-here}
 
@@ -31,17 +31,9 @@ room-here : (c : In-loop-here)
     → c.loop-here.at < length c.loop-here.edges
 room-here c = fits _ _ _ _ _ _ _ _ _ _ c.loop-here.invariant (waits-here c)
 
-pub bounds-list-n : goal.bounds-list-n
-bounds-list-n c = waits_lt c.loop-here.list c.loop-here.here.edge
-    (waits-here c)
-
 pub overflow_cast-edges : goal.overflow_cast-edges
 overflow_cast-edges c =
     omega (arith, below c, edges_le c.args.nx c.args.ny c.requires.0.sides.narrow c.requires.0.sides.low)
-
-pub offset_bounds-edges-at : goal.offset_bounds-edges-at
-offset_bounds-edges-at c =
-    omega (arith, room-here c, c.loop-here.invariant.as_long, c.well_formed.1.1.1.1.1.1.0)
 
 pub step-here-requires : goal.step-here-requires
 step-here-requires c =
@@ -69,17 +61,5 @@ returns c =
     ended _ _ _ _ _ _ _ _ _ _ c.loop-here.invariant (omega (arith, c.requires.1.room))
     (sym c.still_waits.ensures ∙ c.loop-here-test.false)
 
-pub loop-here-init : goal.loop-here-init
-loop-here-init c = begins _ _ _ _ _ _ c.requires.1
-
 pub bounds-edges-at : goal.bounds-edges-at
 bounds-edges-at c = room-here c
-
-pub overflow_add-at : goal.overflow_add-at
-overflow_add-at c = omega (arith, room-here c, c.loop-here.invariant.as_long)
-
-pub shape_of-list : goal.shape_of-list
-shape_of-list c = c.loop-here.invariant.as_many
-
-pub shape_of-edges : goal.shape_of-edges
-shape_of-edges c = c.loop-here.invariant.as_long

@@ -1,9 +1,0 @@
--- `contour::walk::south_of` meets its contract. Assumes nothing.
-use borrow.Author.{Tests.eq-eqb, Tests.ne_eqb}
-use Rattle.contour.proofs.walk.south_of.Goals as goal
-
-pub returns-then-row-eq0 : goal.returns-then-row-eq0
-returns-then-row-eq0 c = rw (eq-eqb _ _ c.if-row-eq0.true)
-
-pub returns : goal.returns
-returns c = rw (ne_eqb _ _ c.if-row-eq0.false)
