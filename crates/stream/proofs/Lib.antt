@@ -5,3 +5,4 @@ pub mod Pieces
 pub mod Turns
 pub mod Firsts
 pub mod Failing
+pub mod Told

@@ -1,7 +1,11 @@
 -- Inner steps: no promise uses them. What each step of a reading leaves, from a line to a piece of the bytes.
 -- Assumes nothing.
-use Rattle.std.specs.Prelude.{◌≡◌, ℕ, ◌+◌, ◌≤◌, List, length, drop}
+use Rattle.std.specs.Prelude.{◌≡◌, ℕ, ◌+◌, ◌≤◌, cond, List, length, drop, ◌==◌}
 use Rattle.stream.specs.Reading.{Step, Reading, read_on, closing, Onward, Unended}
+
+-- the line to read next, past a line that was taken or refused
+abbrev pub next_line : (n refusal : ℕ) → ℕ
+next_line n refusal = cond (refusal == 0) (n + 1) n
 
 -- one line: what is answered, and what is held at the end
 pub record LineTaken {A : Type 0} (step : Step A) (n : ℕ) (a : A) (line : List ℕ) (r : ℕ) (a' : A) : Type 0 where

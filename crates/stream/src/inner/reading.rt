@@ -1,0 +1,72 @@
+// A text as it comes, through a buffer of fixed size, into what takes its lines.
+ghost use Rattle.std.specs.Prelude.{◌≡◌, ◌+◌, ◌<◌, length, take};
+ghost use Rattle.channel.specs.System.{Descriptor};
+ghost use Rattle.channel.specs.Input.{origin_of};
+ghost use Rattle.stream.specs.Reading.{reading_at};
+ghost use Rattle.stream.specs.Feeding.{Waiting, Turned, Done};
+
+use crate::inner::lines::{Lines, take_last, take_piece};
+use crate::inner::{ended, failed, turned};
+use crate::{State, Turn};
+use channel::file::Source;
+use channel::inner::read_from;
+use channel::input::Arrived;
+
+// One turn: bytes are read behind those that wait, and the lines that they end are taken.
+fn read_on<T: Lines>(
+    rt: &HostRuntime,
+    opened: bool,
+    name: &str,
+    source: &Source,
+    taken: &mut u64,
+    table: &mut T,
+    bytes: &mut [u8],
+    left: usize,
+    line: u64,
+) -> Turn
+    requires descriptor { Descriptor source.now (origin_of opened name.now) }
+    requires ready { T.Ready table.old }
+    requires waiting { Waiting T.LONGEST bytes.old left line taken.old }
+    ensures turned { Turned (origin_of opened name.now) (T.step table.old) T.LONGEST
+        (reading_at 0 line (T.held table.old line)) (take left bytes.old) taken.old result
+        (T.held table.new result.line) bytes.new taken.new }
+    ensures kept { T.Ready table.new }
+    ensures same { T.step table.new ≡ T.step table.old }
+{
+    match read_from(rt, opened, name, source, taken, &mut bytes[left..]) {
+        Arrived::Bytes(n) => turned(take_piece(table, bytes, left + n, line)),
+        Arrived::End => ended(take_last(table, &bytes[..left], line), left),
+        Arrived::Failed => failed(line),
+    }
+}
+
+// Reads a text from its beginning.
+pub fn read_whole<T: Lines>(
+    rt: &HostRuntime,
+    opened: bool,
+    name: &str,
+    source: &Source,
+    taken: &mut u64,
+    table: &mut T,
+    bytes: &mut [u8],
+) -> Turn
+    requires descriptor { Descriptor source.now (origin_of opened name.now) }
+    requires taken_value { taken.old ≡ 0 }
+    requires ready { T.Ready table.old }
+    requires room { T.LONGEST + 2 < length bytes.old }
+    ensures { Done (origin_of opened name.now) (T.step table.old) T.LONGEST (T.held table.old 1) result
+        (T.held table.new result.line) }
+{
+    let mut left = 0;
+    let mut line = 1;
+    loop {
+        let turn = read_on(rt, opened, name, source, taken, table, bytes, left, line);
+        match turn.state {
+            State::Going => {
+                left = turn.left;
+                line = turn.line;
+            }
+            _ => return turn,
+        }
+    }
+}
