@@ -1,5 +1,5 @@
 -- What the call answers: its refusal, 14 after it, and the answer where neither holds. Assumes nothing.
-use mathlib.Core.{Path.◌≡◌, Path.sym, Path.ap, Path.◌∙◌, Bool.Bool, Bool.true, Bool.false, List.List}
+use mathlib.Core.{Path.◌≡◌, Path.sym, Path.ap, Path.◌∙◌, Bool.true, List.List}
 use Rattle.std.specs.Prelude.{ℕ, ◌≤◌}
 use native.Mathlib.Omega.{arith}
 use lib.{Dec.leb, ListN.length}
@@ -10,24 +10,6 @@ use Rattle.room.proofs.Answers.{first_none_lem}
 use Rattle.coupling_rules.specs.{Flights.Flights, Flights.Movements, Refusals.movements_fit, Refusals.flights_fit}
 use Rattle.coupling_rules.specs.Refusals.{couple_refusal}
 use Rattle.coupling_rules.proofs.Refusing.{not_refused_lem}
-
--- The refusal
-
-pub movements_refused : (m : Movements) (t : Flights) (enough : Bool) → movements_fit m ≡ false
-    → 18 ≡ then_room (couple_refusal m t) enough
-unfolding couple_refusal
-movements_refused m t enough e = rw e
-
-pub tracks_refused : (m : Movements) (t : Flights) (enough : Bool) → movements_fit m ≡ true
-    → flights_fit t ≡ false
-    → 18 ≡ then_room (couple_refusal m t) enough
-unfolding couple_refusal
-tracks_refused m t enough e f = rw (e, f)
-
-pub room_decides : (m : Movements) (t : Flights) (enough : Bool) → movements_fit m ≡ true → flights_fit t ≡ true
-    → then_room 0 enough ≡ then_room (couple_refusal m t) enough
-unfolding couple_refusal
-room_decides m t enough e f = rw (e, f)
 
 -- What is known where nothing is refused
 

@@ -1,159 +1,86 @@
-// What is refused with 18: columns that are too long or of unequal length, and values out of their range.
-ghost use Rattle.std.specs.Prelude.{◌≡◌, ◌&&◌, length, nat_le};
-ghost use Rattle.refusal.specs.Range.{all_within};
+// What is refused as wrong flights: columns that are too long or of unequal length, and values out of their range.
+ghost use Rattle.std.specs.Prelude.{◌≡◌, ◌==◌, length, nat_le};
+ghost use Rattle.std.specs.List.{list_all};
+ghost use Rattle.refusal.specs.Refusal.{told};
 ghost use Rattle.room.specs.Room.{then_room};
-ghost use Rattle.coupling_rules.specs.Flights.{flights_before, movements_before};
-ghost use Rattle.coupling_rules.specs.Refusals.{all_exist, shape_fits, flights_fit, movements_fit, couple_refusal};
+ghost use Rattle.coupling_rules.specs.Refusals.{all_exist, shape_fits, values_fit, flights_fit, movements_fit, couple_refusal};
+ghost use Rattle.coupling.specs.Columns.{flights_of, movements_of};
 
+use crate::columns::{Flights, Movements};
 use crate::limits::MAX_FLIGHTS;
 use date::date_exists;
 use movement::limits::SECONDS_A_DAY;
-use refusal::all_within;
+use refusal::{Refusal, all_within};
 
 // Whether every date exists.
 fn all_exist(dates: &[u32]) -> bool
     ensures { result ≡ all_exist dates.now }
 {
-    let mut i = 0;
-    while i < dates.len() {
-        if !date_exists(dates[i]) {
-            return false;
-        }
-        i += 1;
-    }
-    true
+    dates.iter().all(|date| date_exists(*date))
+}
+
+// Whether all lengths are n.
+fn all_are(lengths: &[usize], n: usize) -> bool
+    ensures { result ≡ list_all (λ k. k == n) lengths.now }
+{
+    lengths.iter().all(|length| *length == n)
 }
 
 // Whether there are no more than there may be, in columns of one length.
-fn shape_fits(
-    dates: &[u32],
-    times: &[u32],
-    classes: &[u32],
-    kinds: &[u32],
-    runways: &[u32],
-    airports: &[u32],
-    types: &[u32],
-) -> bool
-    ensures { result ≡ shape_fits (flights_before dates times classes kinds runways airports types) }
+fn shape_fits(flights: Flights<'_>) -> bool
+    ensures { result ≡ shape_fits (flights_of flights.entry) }
 {
-    let n = dates.len();
-    if MAX_FLIGHTS < n {
-        return false;
-    }
-    if times.len() != n {
-        return false;
-    }
-    if classes.len() != n {
-        return false;
-    }
-    if kinds.len() != n {
-        return false;
-    }
-    if runways.len() != n {
-        return false;
-    }
-    if airports.len() != n {
-        return false;
-    }
-    types.len() == n
+    let n = flights.dates.len();
+    let lengths = [
+        flights.times.len(),
+        flights.classes.len(),
+        flights.kinds.len(),
+        flights.runways.len(),
+        flights.airports.len(),
+        flights.types.len(),
+    ];
+    n <= MAX_FLIGHTS && all_are(&lengths, n)
 }
 
 // Whether dates exist, seconds are of a day, and classes and kinds are 0 or 1.
-fn values_fit(dates: &[u32], times: &[u32], classes: &[u32], kinds: &[u32]) -> bool
-    ensures { result ≡ (all_exist dates.now
-        && (all_within 86399 times.now
-        && (all_within 1 classes.now && all_within 1 kinds.now))) }
+fn values_fit(flights: Flights<'_>) -> bool
+    ensures { result ≡ values_fit (flights_of flights.entry) }
 {
-    if all_exist(dates) {
-        if all_within(times, SECONDS_A_DAY - 1) {
-            if all_within(classes, 1) {
-                return all_within(kinds, 1);
-            }
-        }
-    }
-    false
+    all_exist(flights.dates)
+        && all_within(flights.times, SECONDS_A_DAY - 1)
+        && all_within(flights.classes, 1)
+        && all_within(flights.kinds, 1)
 }
 
 // Whether flights are not refused.
-pub(crate) fn flights_fit(
-    dates: &[u32],
-    times: &[u32],
-    classes: &[u32],
-    kinds: &[u32],
-    runways: &[u32],
-    airports: &[u32],
-    types: &[u32],
-) -> bool
-    ensures { result ≡ flights_fit (flights_before dates times classes kinds runways airports types) }
+pub(crate) fn flights_fit(flights: Flights<'_>) -> bool
+    ensures { result ≡ flights_fit (flights_of flights.entry) }
 {
-    if shape_fits(dates, times, classes, kinds, runways, airports, types) {
-        return values_fit(dates, times, classes, kinds);
-    }
-    false
+    shape_fits(flights) && values_fit(flights)
 }
 
 // Whether movements are not refused.
-pub(crate) fn movements_fit(
-    dates: &[u32],
-    times: &[u32],
-    classes: &[u32],
-    kinds: &[u32],
-    runways: &[u32],
-    airports: &[u32],
-    types: &[u32],
-    circuits: &[u32],
-) -> bool
-    ensures { result
-        ≡ movements_fit (movements_before dates times classes kinds runways airports types circuits) }
+pub(crate) fn movements_fit(movements: Movements<'_>) -> bool
+    ensures { result ≡ movements_fit (movements_of movements.entry) }
 {
-    if flights_fit(dates, times, classes, kinds, runways, airports, types) {
-        return circuits.len() == dates.len();
-    }
-    false
+    flights_fit(movements.flights) && movements.circuits.len() == movements.flights.dates.len()
 }
 
-// 18 where movements or tracks are refused, then 14 where the room is shorter than the movements; else 0.
+// Wrong movements or tracks are refused, and then room that is shorter than the movements.
 pub(crate) fn refusal(
-    dates: &[u32],
-    times: &[u32],
-    classes: &[u32],
-    kinds: &[u32],
-    runways: &[u32],
-    airports: &[u32],
-    types: &[u32],
-    circuits: &[u32],
-    track_dates: &[u32],
-    track_times: &[u32],
-    track_classes: &[u32],
-    track_kinds: &[u32],
-    track_runways: &[u32],
-    track_airports: &[u32],
-    track_types: &[u32],
+    movements: Movements<'_>,
+    tracks: Flights<'_>,
     room: usize,
-) -> u32
-    ensures { result
-        ≡ then_room (couple_refusal (movements_before dates times classes kinds runways airports types circuits)
-        (flights_before track_dates track_times track_classes track_kinds track_runways
-        track_airports track_types)) (nat_le (length dates.now) room) }
+) -> Result<(), Refusal>
+    ensures { told result
+        ≡ then_room (couple_refusal (movements_of movements.entry) (flights_of tracks.entry))
+        (nat_le (length movements.entry.flights.dates.now) room) }
 {
-    if !movements_fit(
-        dates, times, classes, kinds, runways, airports, types, circuits,
-    ) {
-        return 18;
+    if !(movements_fit(movements) && flights_fit(tracks)) {
+        return Err(Refusal::WrongFlights);
     }
-    if !flights_fit(
-        track_dates,
-        track_times,
-        track_classes,
-        track_kinds,
-        track_runways,
-        track_airports,
-        track_types,
-    ) {
-        return 18;
+    if room < movements.flights.dates.len() {
+        return Err(Refusal::TooLittleRoom);
     }
-    if room < dates.len() {
-        return 14;
-    }
-    0
+    Ok(())
 }

@@ -4,29 +4,24 @@ ghost use Rattle.std.specs.Prelude.{◌≡◌, ◌+◌, ◌*◌, ◌≤◌, true
 ghost use Rattle.room.specs.Room.{front};
 ghost use Rattle.sorting.specs.Sorted.{sorted};
 ghost use Rattle.coupling_rules.specs.Limits.{max_flights};
-ghost use Rattle.coupling_rules.specs.Flights.{flights_now, movements_now, flights_before, movements_before};
 ghost use Rattle.coupling_rules.specs.Rule.{couple, places, tracks_for};
 ghost use Rattle.coupling_rules.specs.Refusals.{flights_fit, movements_fit};
 ghost use Rattle.coupling_rules.specs.Tables.{column_in, flights_in, movements_in};
-ghost use Rattle.coupling_rules.specs.InnerPacked.{packed_before, moment_in, gaps_in};
-ghost use Rattle.coupling.specs.InnerTurn.{Assigned};
+ghost use Rattle.coupling_rules.specs.InnerPacked.{moment_in};
+ghost use Rattle.coupling.specs.Columns.{flights_of, movements_of};
+ghost use Rattle.coupling.specs.InnerTurn.{packed_of, gaps_of, Assigned};
 
+use crate::columns::{Flights, Movements, Packed};
 use crate::limits::MAX_FLIGHTS;
 use crate::pack::pack;
-use crate::pair::couple_in;
+use crate::pair::{Asked, couple_in};
 
-// Each of m movements takes its track of n, by packed columns; `turns`, `order` and `stack` are room to work in.
+// Each of m movements takes its track of n; `turns`, `order` and `stack` are room to work in.
 fn assign(
-    highs: &[u64],
-    lows: &[u64],
-    moments: &[u64],
-    classes: &[u32],
-    circuits: &[u32],
+    movements: Asked<'_, '_>,
     m: usize,
     turns: &mut [u32],
-    track_highs: &[u64],
-    track_lows: &[u64],
-    track_moments: &[u64],
+    tracks: Packed<'_>,
     n: usize,
     order: &mut [u32],
     stack: &mut [u32],
@@ -39,81 +34,41 @@ fn assign(
     requires max_flights_in_bounds_3 { max_flights ≤ length stack.old }
     requires m_in_bounds { m ≤ length answers.old }
     ensures { answers.new
-        ≡ couple (gaps_in (packed_before track_highs track_lows track_moments)
-        (packed_before highs lows moments) classes.now circuits.now)
-        (moment_in (packed_before track_highs track_lows track_moments))
-        (sorted (moment_in (packed_before highs lows moments)) (places m)) (places n) answers.old }
+        ≡ couple (gaps_of (packed_of tracks.entry) movements.entry) (moment_in (packed_of tracks.entry))
+        (sorted (moment_in (packed_of movements.entry.packed)) (places m)) (places n) answers.old }
 {
     couple_in(
-        highs,
-        lows,
-        moments,
-        classes,
-        circuits,
-        &mut turns[0..m],
-        track_highs,
-        track_lows,
-        track_moments,
-        &mut order[0..n],
+        movements,
+        &mut turns[..m],
+        tracks,
+        &mut order[..n],
         stack,
         answers,
     );
 }
 
 // Each of m packed movements takes its track.
-fn take_tracks(
-    highs: &[u64],
-    lows: &[u64],
-    moments: &[u64],
-    classes: &[u32],
-    circuits: &[u32],
-    m: usize,
-    dates: &[u32],
-    times: &[u32],
-    track_classes: &[u32],
-    kinds: &[u32],
-    runways: &[u32],
-    airports: &[u32],
-    types: &[u32],
-    answers: &mut [u32],
-)
+fn take_tracks(movements: Asked<'_, '_>, m: usize, tracks: Flights<'_>, answers: &mut [u32])
     requires m_le_max_flights { m ≤ max_flights }
     requires m_in_bounds { m ≤ length answers.old }
-    requires types_value { flights_fit (flights_now dates times track_classes kinds runways airports types) ≡ true }
-    ensures { Assigned (packed_before highs lows moments) classes.now circuits.now m
-        (flights_before dates times track_classes kinds runways airports types) answers.old
-        answers.new }
+    requires tracks_value { flights_fit (flights_of tracks) ≡ true }
+    ensures { Assigned (packed_of movements.entry.packed) movements.entry.classes.now movements.entry.circuits.now m
+        (flights_of tracks.entry) answers.old answers.new }
 {
-    let mut track_highs = [0u64; MAX_FLIGHTS];
-    let mut track_lows = [0u64; MAX_FLIGHTS];
-    let mut track_moments = [0u64; MAX_FLIGHTS];
+    let mut highs = [0u64; MAX_FLIGHTS];
+    let mut lows = [0u64; MAX_FLIGHTS];
+    let mut moments = [0u64; MAX_FLIGHTS];
     let mut turns = [0u32; MAX_FLIGHTS];
     let mut order = [0u32; MAX_FLIGHTS];
     let mut stack = [0u32; MAX_FLIGHTS];
-    pack(
-        dates,
-        times,
-        track_classes,
-        kinds,
-        runways,
-        airports,
-        types,
-        &mut track_highs,
-        &mut track_lows,
-        &mut track_moments,
-    );
+    pack(tracks, &mut highs, &mut lows, &mut moments);
+    let packed = Packed::new(&highs, &lows, &moments);
     assign(
-        highs,
-        lows,
-        moments,
-        classes,
-        circuits,
+        movements,
         m,
         &mut turns,
-        &track_highs,
-        &track_lows,
-        &track_moments,
-        dates.len(),
+        packed,
+        tracks.dates.len(),
         &mut order,
         &mut stack,
         answers,
@@ -121,64 +76,24 @@ fn take_tracks(
 }
 
 // The tracks of movements that are not refused, into room that suffices.
-pub fn couple_columns(
-    dates: &[u32],
-    times: &[u32],
-    classes: &[u32],
-    kinds: &[u32],
-    runways: &[u32],
-    airports: &[u32],
-    types: &[u32],
-    circuits: &[u32],
-    track_dates: &[u32],
-    track_times: &[u32],
-    track_classes: &[u32],
-    track_kinds: &[u32],
-    track_runways: &[u32],
-    track_airports: &[u32],
-    track_types: &[u32],
-    answers: &mut [u32],
-)
-    requires circuits_value { movements_fit (movements_now dates times classes kinds runways airports types circuits) ≡ true }
-    requires track_types_value { flights_fit (flights_now track_dates track_times track_classes track_kinds
-        track_runways track_airports track_types) ≡ true }
-    requires dates_in_bounds { length dates.now ≤ length answers.old }
+pub fn couple_columns(movements: Movements<'_>, tracks: Flights<'_>, answers: &mut [u32])
+    requires movements_value { movements_fit (movements_of movements) ≡ true }
+    requires tracks_value { flights_fit (flights_of tracks) ≡ true }
+    requires dates_in_bounds { length movements.flights.dates.now ≤ length answers.old }
     ensures { answers.new
-        ≡ front (tracks_for (movements_before dates times classes kinds runways airports types circuits)
-        (flights_before track_dates track_times track_classes track_kinds track_runways
-        track_airports track_types)) answers.old }
+        ≡ front (tracks_for (movements_of movements.entry) (flights_of tracks.entry)) answers.old }
 {
     let mut highs = [0u64; MAX_FLIGHTS];
     let mut lows = [0u64; MAX_FLIGHTS];
     let mut moments = [0u64; MAX_FLIGHTS];
-    pack(
-        dates,
-        times,
-        classes,
-        kinds,
-        runways,
-        airports,
-        types,
-        &mut highs,
-        &mut lows,
-        &mut moments,
-    );
-    take_tracks(
-        &highs,
-        &lows,
-        &moments,
-        classes,
-        circuits,
-        dates.len(),
-        track_dates,
-        track_times,
-        track_classes,
-        track_kinds,
-        track_runways,
-        track_airports,
-        track_types,
-        answers,
-    );
+    pack(movements.flights, &mut highs, &mut lows, &mut moments);
+    let packed = Packed::new(&highs, &lows, &moments);
+    let asked = Asked {
+        packed,
+        classes: movements.flights.classes,
+        circuits: movements.circuits,
+    };
+    take_tracks(asked, movements.flights.dates.len(), tracks, answers);
 }
 
 // The first n numbers of column k of a table.
@@ -193,47 +108,21 @@ fn column(table: &[u32], k: usize, n: usize) -> &[u32]
     &table[start..end]
 }
 
-// The tracks of movements, of the first n tracks of a table.
-fn couple_table(
-    dates: &[u32],
-    times: &[u32],
-    classes: &[u32],
-    kinds: &[u32],
-    runways: &[u32],
-    airports: &[u32],
-    types: &[u32],
-    circuits: &[u32],
-    tracks: &[u32],
-    n: usize,
-    answers: &mut [u32],
-)
-    requires circuits_value { movements_fit (movements_now dates times classes kinds runways airports types circuits) ≡ true }
+// The first n flights of a table.
+fn flights(table: &[u32], n: usize) -> Flights<'_>
     requires n_le_max_flights { n ≤ max_flights }
-    requires tracks_len { length tracks.now ≡ 8 * max_flights }
-    requires n_value { flights_fit (flights_in tracks.now n) ≡ true }
-    requires dates_in_bounds { length dates.now ≤ length answers.old }
-    ensures { answers.new
-        ≡ front (tracks_for (movements_before dates times classes kinds runways airports types circuits)
-        (flights_in tracks.now n)) answers.old }
+    requires table_len { 8 * max_flights ≤ length table.now }
+    ensures { flights_of result ≡ flights_in table.now n }
 {
-    couple_columns(
-        dates,
-        times,
-        classes,
-        kinds,
-        runways,
-        airports,
-        types,
-        circuits,
-        column(tracks, 1, n),
-        column(tracks, 2, n),
-        column(tracks, 3, n),
-        column(tracks, 4, n),
-        column(tracks, 5, n),
-        column(tracks, 6, n),
-        column(tracks, 7, n),
-        answers,
-    );
+    Flights {
+        dates: column(table, 1, n),
+        times: column(table, 2, n),
+        classes: column(table, 3, n),
+        kinds: column(table, 4, n),
+        runways: column(table, 5, n),
+        airports: column(table, 6, n),
+        types: column(table, 7, n),
+    }
 }
 
 // The tracks of the first m movements of a table, of the first n tracks of another.
@@ -249,17 +138,9 @@ pub fn couple_tables(movements: &[u32], m: usize, tracks: &[u32], n: usize, answ
         ≡ front (tracks_for (movements_in movements.now m) (flights_in tracks.now n))
         answers.old }
 {
-    couple_table(
-        column(movements, 1, m),
-        column(movements, 2, m),
-        column(movements, 3, m),
-        column(movements, 4, m),
-        column(movements, 5, m),
-        column(movements, 6, m),
-        column(movements, 7, m),
-        column(movements, 8, m),
-        tracks,
-        n,
-        answers,
-    );
+    let moved = Movements {
+        flights: flights(movements, m),
+        circuits: column(movements, 8, m),
+    };
+    couple_columns(moved, flights(tracks, n), answers);
 }

@@ -1,11 +1,13 @@
 // Radar tracks for movements: RULES, "Radar tracks". The definitions are crate coupling_rules'.
 #![tactic(auto)]
 
+ghost use Rattle.refusal.specs.Refusal.{told};
 ghost use Rattle.room.specs.Room.{Writes};
-ghost use Rattle.coupling_rules.specs.Flights.{flights_before, movements_before};
 ghost use Rattle.coupling_rules.specs.Rule.{tracks_for};
 ghost use Rattle.coupling_rules.specs.Refusals.{couple_refusal};
+ghost use Rattle.coupling.specs.Columns.{flights_of, movements_of};
 
+pub mod columns;
 mod fit;
 mod gap;
 pub mod inner;
@@ -15,72 +17,22 @@ mod pack;
 mod pair;
 mod turn;
 
-// The place, from 1, of each movement's track, 0 for none, into lent room: 18 for columns or values out of range, then
-// 14.
+use crate::columns::{Flights, Movements};
+use refusal::Refusal;
+
+// The place, from 1, of each movement's track, 0 for none, into lent room. Wrong columns or values are refused, then
+// too little room.
 pub fn couple(
-    dates: &[u32],
-    times: &[u32],
-    classes: &[u32],
-    kinds: &[u32],
-    runways: &[u32],
-    airports: &[u32],
-    types: &[u32],
-    circuits: &[u32],
-    track_dates: &[u32],
-    track_times: &[u32],
-    track_classes: &[u32],
-    track_kinds: &[u32],
-    track_runways: &[u32],
-    track_airports: &[u32],
-    track_types: &[u32],
-    tracks: &mut [u32],
-) -> u32
+    movements: Movements<'_>,
+    tracks: Flights<'_>,
+    room: &mut [u32],
+) -> Result<(), Refusal>
     ensures { Writes
-        (couple_refusal (movements_before dates times classes kinds runways airports types circuits)
-        (flights_before track_dates track_times track_classes track_kinds track_runways
-        track_airports track_types))
-        (tracks_for (movements_before dates times classes kinds runways airports types circuits)
-        (flights_before track_dates track_times track_classes track_kinds track_runways
-        track_airports track_types))
-        tracks.old result tracks.new }
+        (couple_refusal (movements_of movements.entry) (flights_of tracks.entry))
+        (tracks_for (movements_of movements.entry) (flights_of tracks.entry))
+        room.old (told result) room.new }
 {
-    let why = fit::refusal(
-        dates,
-        times,
-        classes,
-        kinds,
-        runways,
-        airports,
-        types,
-        circuits,
-        track_dates,
-        track_times,
-        track_classes,
-        track_kinds,
-        track_runways,
-        track_airports,
-        track_types,
-        tracks.len(),
-    );
-    if why == 0 {
-        inner::couple_columns(
-            dates,
-            times,
-            classes,
-            kinds,
-            runways,
-            airports,
-            types,
-            circuits,
-            track_dates,
-            track_times,
-            track_classes,
-            track_kinds,
-            track_runways,
-            track_airports,
-            track_types,
-            tracks,
-        );
-    }
-    why
+    fit::refusal(movements, tracks, room.len())?;
+    inner::couple_columns(movements, tracks, room);
+    Ok(())
 }

@@ -2,27 +2,25 @@
 // on, and those to come, from `at` of the order on. The best is the first of one of them.
 ghost use Rattle.std.specs.Prelude.{◌≡◌, ◌+◌, ◌-◌, ◌<◌, ◌≤◌, ◌++◌, length, drop, slice_index, slice_range};
 ghost use Rattle.coupling_rules.specs.InnerSides.{leading, nearer, Pulled, Turned};
-ghost use Rattle.coupling_rules.specs.InnerPacked.{packed_before, rank_in, moment_in};
-ghost use Rattle.coupling.specs.InnerTurn.{wanted_rank, gap_from};
+ghost use Rattle.coupling_rules.specs.InnerPacked.{rank_in, moment_in};
+ghost use Rattle.coupling.specs.InnerTurn.{packed_of, rank_of, from_one, side_of, gap_from};
 
+use crate::columns::Packed;
 use crate::gap::{Wanted, comes_before, head_gap, same_rank};
-use crate::pack::wide;
 
 // The end of the run of tracks in `order`, from `at` on, of one class and moment.
-fn run_end(order: &[u32], at: usize, highs: &[u64], lows: &[u64], moments: &[u64]) -> usize
+fn run_end(order: &[u32], at: usize, tracks: Packed<'_>) -> usize
     requires { at < length order.now }
-    ensures { result ≡ at + leading (rank_in (packed_before highs lows moments))
-        (rank_in (packed_before highs lows moments) (slice_index order.now at)) (drop at order.now) }
+    ensures { result ≡ at + leading (rank_in (packed_of tracks.entry))
+        (rank_in (packed_of tracks.entry) (slice_index order.now at)) (drop at order.now) }
 {
-    let first = order[at];
-    let mut e = at;
-    while e < order.len() {
-        if !same_rank(highs, lows, moments, order[e], first) {
+    let first = tracks.rank(order[at]);
+    for e in at..order.len() {
+        if !same_rank(tracks, order[e], first) {
             return e;
         }
-        e += 1;
     }
-    e
+    order.len()
 }
 
 // Copies the run of `order` from `at` to `end` to the places of `stack` that end at `top`.
@@ -44,9 +42,7 @@ fn pull(
     at: usize,
     stack: &mut [u32],
     top: usize,
-    highs: &[u64],
-    lows: &[u64],
-    moments: &[u64],
+    tracks: Packed<'_>,
     w: Wanted,
 ) -> usize
     requires at_in_bounds { at ≤ length order.now }
@@ -54,44 +50,45 @@ fn pull(
     requires top_in_bounds { top ≤ length stack.old }
     ensures lower_bound { at ≤ result }
     ensures upper_bound { result ≤ length order.now }
-    ensures pulled { Pulled (rank_in (packed_before highs lows moments)) (wanted_rank w)
+    ensures pulled { Pulled (rank_in (packed_of tracks.entry)) (rank_of w.rank)
         (drop top stack.old) (drop at order.now)
         (drop (top - (result - at)) stack.new) (drop result order.now) }
 {
     let mut r = at;
-    while r < order.len() {
-        if !comes_before(highs, lows, moments, order[r], w) {
-            return r;
-        }
-        let e = run_end(order, r, highs, lows, moments);
+    // Kept: (d) each turn goes on by a whole run, whose end is found in it.
+    while r < order.len() && comes_before(tracks, order[r], w) {
+        let e = run_end(order, r, tracks);
         push(order, r, e, stack, top - (r - at));
         r = e;
     }
     r
 }
 
-// 1 where the first gap is the nearer, 2 where the second is, 0 where neither fits.
-fn side(a: u64, b: u64) -> u32
-    ensures { result ≡ nearer a b }
-{
-    if a == 0 {
-        if b == 0 {
-            return 0;
-        }
-        return 2;
-    }
-    if b == 0 {
-        return 1;
-    }
-    if a <= b { 1 } else { 2 }
+// Which list's first a movement takes.
+#[derive(Clone, Copy)]
+pub enum Side {
+    Passed,
+    Coming,
 }
 
-// Where a turn leaves off, and its answer: the track's place from 1, or 0.
+// The side of the lesser gap, the first where they are equal; none where neither first fits.
+fn nearer(passed: Option<u64>, coming: Option<u64>) -> Option<Side>
+    ensures { side_of result ≡ nearer (from_one passed) (from_one coming) }
+{
+    match (passed, coming) {
+        (None, None) => None,
+        (None, Some(_)) => Some(Side::Coming),
+        (Some(a), Some(b)) if b < a => Some(Side::Coming),
+        (Some(_), _) => Some(Side::Passed),
+    }
+}
+
+// Where a turn leaves off, and the track that is taken.
 #[derive(Clone, Copy)]
 pub struct Left {
     pub at: usize,
     pub top: usize,
-    pub answer: u64,
+    pub track: Option<u32>,
 }
 
 // One movement takes its track.
@@ -100,9 +97,7 @@ pub(crate) fn turn(
     at: usize,
     stack: &mut [u32],
     top: usize,
-    highs: &[u64],
-    lows: &[u64],
-    moments: &[u64],
+    tracks: Packed<'_>,
     w: Wanted,
 ) -> Left
     requires at_in_bounds { at ≤ length order.now }
@@ -111,35 +106,30 @@ pub(crate) fn turn(
     ensures at_in_bounds_2 { result.at ≤ length order.now }
     ensures order_len_bound_2 { length order.now ≤ result.top + result.at }
     ensures top_in_bounds_2 { result.top ≤ length stack.old }
-    ensures turned { Turned (rank_in (packed_before highs lows moments)) (gap_from (packed_before highs lows moments) w)
-        (moment_in (packed_before highs lows moments)) (wanted_rank w) result.answer
+    ensures turned { Turned (rank_in (packed_of tracks.entry)) (gap_from (packed_of tracks.entry) w)
+        (moment_in (packed_of tracks.entry)) (rank_of w.rank) (from_one result.track)
         (drop top stack.old) (drop at order.now)
         (drop result.top stack.new) (drop result.at order.now) }
 {
-    let r = pull(order, at, stack, top, highs, lows, moments, w);
+    let r = pull(order, at, stack, top, tracks, w);
     let t = top - (r - at);
-    let a = head_gap(stack, t, highs, lows, moments, w);
-    let b = head_gap(order, r, highs, lows, moments, w);
-    let s = side(a, b);
-    if s == 0 {
-        return Left {
+    let passed = head_gap(stack, t, tracks, w);
+    let coming = head_gap(order, r, tracks, w);
+    match nearer(passed, coming) {
+        None => Left {
             at: r,
             top: t,
-            answer: 0,
-        };
-    }
-    if s == 1 {
-        let x = stack[t];
-        return Left {
+            track: None,
+        },
+        Some(Side::Passed) => Left {
             at: r,
             top: t + 1,
-            answer: wide(x) + 1,
-        };
-    }
-    let y = order[r];
-    Left {
-        at: r + 1,
-        top: t,
-        answer: wide(y) + 1,
+            track: Some(stack[t]),
+        },
+        Some(Side::Coming) => Left {
+            at: r + 1,
+            top: t,
+            track: Some(order[r]),
+        },
     }
 }

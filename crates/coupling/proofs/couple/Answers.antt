@@ -1,34 +1,35 @@
 -- `coupling::couple` meets its contract: nothing is written before 18 and 14 are found not to hold. Assumes nothing.
-use Rattle.std.specs.Prelude.{length}
-use Rattle.coupling_rules.specs.Flights.{flights_now, movements_now}
+use Rattle.std.proofs.Common.{rules, arith, refl, ◌≡◌}
+use Rattle.std.specs.Prelude.{length, nat_le}
+use Rattle.refusal.specs.Refusal.{told}
+use Rattle.refusal.proofs.Laws.{numbered}
+use Rattle.room.specs.Room.{then_room}
 use Rattle.coupling_rules.specs.{Rule.tracks_for, Refusals.couple_refusal}
 use Rattle.coupling_rules.proofs.Packing.{length_tracks}
+use Rattle.coupling.specs.Columns.{flights_of, movements_of}
 use Rattle.coupling.proofs.Answering.{all_fits, answered, refused}
 use Rattle.coupling.proofs.couple.Goals as goal
+
+pub returns-in_err-refusal : goal.returns-in_err-refusal
+returns-in_err-refusal c =
+    let a = c.args in
+    let m = movements_of a.movements in
+    let t = flights_of a.tracks in
+    let e : told c.from_residual.result ≡ then_room (couple_refusal m t) (nat_le (length a.movements.flights.dates.now) (length a.room.now)) = search rules in
+    refused (couple_refusal m t) (length a.movements.flights.dates.now) (tracks_for m t) a.room.now (length_tracks m t) e
+    (λ z. omega (arith, e, c.in_err-refusal.ensures, numbered c.in_err-refusal.field-0.0, z))
 
 pub couple_columns-requires : goal.couple_columns-requires
 couple_columns-requires c =
     let a = c.args in
-    let m = movements_now a.dates a.times a.classes a.kinds a.runways a.airports a.types a.circuits in
-    let t = flights_now a.track_dates a.track_times a.track_classes a.track_kinds a.track_runways a.track_airports
-    a.track_types in
-    let f = all_fits m t (length a.dates.now) (length a.tracks.now) c.refusal-why.ensures c.if-why-eq0.true in
-    record { circuits_value = f.0; track_types_value = f.1.0; dates_in_bounds = f.1.1 }
+    let e = all_fits (movements_of a.movements) (flights_of a.tracks) (length a.movements.flights.dates.now) (length a.room.now)
+    (c.in_ok-refusal.ensures) refl in
+    record { movements_value = e.0; tracks_value = e.1.0; dates_in_bounds = e.1.1 }
 
-pub returns-then-why-eq0 : goal.returns-then-why-eq0
-returns-then-why-eq0 c =
+pub returns : goal.returns
+returns c =
     let a = c.args in
-    let m = movements_now a.dates a.times a.classes a.kinds a.runways a.airports a.types a.circuits in
-    let t = flights_now a.track_dates a.track_times a.track_classes a.track_kinds a.track_runways a.track_airports
-    a.track_types in
-    answered (couple_refusal m t) (length a.dates.now) (tracks_for m t) a.tracks.now (length_tracks m t)
-    c.refusal-why.ensures c.if-why-eq0.true c.couple_columns.ensures
-
-pub returns-else-why-eq0 : goal.returns-else-why-eq0
-returns-else-why-eq0 c =
-    let a = c.args in
-    let m = movements_now a.dates a.times a.classes a.kinds a.runways a.airports a.types a.circuits in
-    let t = flights_now a.track_dates a.track_times a.track_classes a.track_kinds a.track_runways a.track_airports
-    a.track_types in
-    refused (couple_refusal m t) (length a.dates.now) (tracks_for m t) a.tracks.now (length_tracks m t)
-    c.refusal-why.ensures c.if-why-eq0.false
+    let m = movements_of a.movements in
+    let t = flights_of a.tracks in
+    answered (couple_refusal m t) (length a.movements.flights.dates.now) (tracks_for m t) a.room.now (length_tracks m t)
+    (c.in_ok-refusal.ensures) refl c.couple_columns.ensures

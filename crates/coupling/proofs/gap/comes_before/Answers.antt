@@ -1,5 +1,9 @@
--- `coupling::gap::comes_before` meets its contract: the track's numbers are its columns'. Assumes nothing.
+-- `coupling::gap::comes_before` meets its contract: the weightier numbers decide, and where they are equal the next.
+-- Assumes nothing.
+use Rattle.std.proofs.Common.{rules}
+use Rattle.coupling_rules.specs.InnerPacked.{ranked}
 use Rattle.coupling.proofs.gap.comes_before.Goals as goal
 
 pub returns : goal.returns
-returns c = cc
+unfolding ranked
+returns c = search rules

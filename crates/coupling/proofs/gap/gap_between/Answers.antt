@@ -1,35 +1,25 @@
 -- `coupling::gap::gap_between` meets its contract: two classes are one exactly if both of their numbers are. Assumes
 -- nothing.
-use Rattle.std.specs.Prelude.{◌≡◌}
-use native.Mathlib.Omega.{arith}
-use Rattle.coupling_rules.specs.InnerPacked.{ranked}
-use Rattle.coupling.proofs.Ranking.{high_other, low_other, gap_other, gap_near, gap_far}
+use Rattle.std.proofs.Common.{arith}
+use Rattle.std.proofs.lemmas.Bool.Decides.{nat_tests}
+use Rattle.coupling_rules.specs.InnerPacked.{ranked, gap_between}
 use Rattle.coupling.proofs.gap.gap_between.Goals as goal
+use Rattle.coupling.proofs.gap.gap_between.Goals.{else-track-w-via-then-track-w+then-track-w-2+else-seconds-window, else-track-w-via-then-track-w+else-track-w-2, else-track-w-via-else-track-w}
 
-pub returns-then-h-high : goal.returns-then-h-high
-returns-then-h-high c =
-    let a = c.args in
-    gap_other (ranked a.high a.low) a.moment a.reach (ranked a.h a.l) a.at
-    (high_other a.h a.l a.high a.low (omega arith) (omega arith) c.if-h-high.true)
+pub returns-in_err-window : goal.returns-in_err-window
+unfolding gap_between
+returns-in_err-window c = grind (arith, nat_tests)
 
-pub returns-then-l-low : goal.returns-then-l-low
-returns-then-l-low c =
-    let a = c.args in
-    gap_other (ranked a.high a.low) a.moment a.reach (ranked a.h a.l) a.at
-    (low_other a.h a.l a.high a.low (omega arith) (omega arith) c.if-l-low.true)
+pub returns-then-seconds-window : goal.returns-then-seconds-window
+unfolding gap_between ranked
+returns-then-seconds-window c = let e = c.in_ok-window.was in grind (arith, nat_tests, e)
 
-pub returns-then-d-reach : goal.returns-then-d-reach
-returns-then-d-reach c =
-    let a = c.args in
-    let e : ranked a.h a.l ≡ ranked a.high a.low = rw
-    (c.if-h-high.false, c.if-l-low.false) in
-    gap_near (ranked a.high a.low) a.moment a.reach (ranked a.h a.l) a.at e
-    c.apart-d.ensures (omega arith)
-
-pub returns-else-d-reach : goal.returns-else-d-reach
-returns-else-d-reach c =
-    let a = c.args in
-    let e : ranked a.h a.l ≡ ranked a.high a.low = rw
-    (c.if-h-high.false, c.if-l-low.false) in
-    gap_far (ranked a.high a.low) a.moment a.reach (ranked a.h a.l) a.at e
-    c.apart-d.ensures (omega arith)
+pub returns-else-track-w : goal.returns-else-track-w
+unfolding gap_between ranked
+returns-else-track-w c =
+    let e = c.in_ok-window.was in
+    elim c.else-track-w.branch [
+      | else-track-w-via-then-track-w+then-track-w-2+else-seconds-window w ↦ grind (arith, nat_tests, e)
+      | else-track-w-via-then-track-w+else-track-w-2 w ↦ grind (arith, nat_tests, e)
+      | else-track-w-via-else-track-w w ↦ grind (arith, nat_tests, e)
+    ]

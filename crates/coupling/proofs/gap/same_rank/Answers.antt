@@ -1,5 +1,8 @@
--- `coupling::gap::same_rank` meets its contract: the tracks' numbers are their columns'. Assumes nothing.
+-- `coupling::gap::same_rank` meets its contract: two are one exactly if all three numbers are. Assumes nothing.
+use Rattle.std.proofs.Common.{rules}
+use Rattle.coupling_rules.specs.InnerPacked.{ranked}
 use Rattle.coupling.proofs.gap.same_rank.Goals as goal
 
 pub returns : goal.returns
-returns c = cc
+unfolding ranked
+returns c = search rules

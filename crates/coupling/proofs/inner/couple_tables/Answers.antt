@@ -5,47 +5,33 @@ use Rattle.std.specs.Prelude.{length, drop}
 use lib.ListN.{length-take}
 use native.Mathlib.Omega.{arith}
 use Rattle.room.specs.Room.{front}
-use Rattle.coupling_rules.specs.Flights.{Movements, movements_now}
-use Rattle.coupling_rules.specs.{Rule.tracks_for, Refusals.movements_fit, Tables.flights_in, Tables.movements_in}
-use Rattle.coupling.proofs.Answering.{same_flights, same_movements}
+use Rattle.coupling_rules.specs.Flights.{Flights, Movements}
+use Rattle.coupling_rules.specs.{Rule.tracks_for, Refusals.movements_fit, Refusals.flights_fit}
+use Rattle.coupling_rules.specs.Tables.{movements_in}
+use Rattle.coupling.specs.Columns.{flights_of}
+use Rattle.coupling.proofs.Answering.{same_movements}
 use Rattle.coupling.proofs.inner.couple_tables.Goals as goal
-use Rattle.coupling.proofs.inner.couple_tables.Goals.{After-column-8}
 
-same : (c : After-column-8) →
-    movements_now c.column.result
-    c.column-2.result
-    c.column-3.result c.column-4.result
-    c.column-5.result c.column-6.result c.column-7.result
-    c.column-8.result ≡ movements_in c.args.movements.now c.args.m
-same c =
-    same_movements
-    (same_flights c.column.ensures
-    c.column-2.ensures
-    c.column-3.ensures c.column-4.ensures
-    c.column-5.ensures c.column-6.ensures c.column-7.ensures)
-    c.column-8.ensures
-
-pub couple_table-requires : goal.couple_table-requires
-couple_table-requires c =
+pub couple_columns-requires : goal.couple_columns-requires
+couple_columns-requires c =
+    let a = c.args in
+    let m = same_movements c.flights.ensures c.column.ensures in
     record {
-      circuits_value =
-          subst (λ (m : Movements). movements_fit m ≡ true)
-          (sym (same (goal.at.couple_table-requires c).After-column-8)) c.requires.m_value;
-      n_le_max_flights = c.requires.n_le_max_flights;
-      tracks_len = c.requires.tracks_len;
-      n_value = c.requires.n_value;
+      movements_value = subst (λ (m : Movements). movements_fit m ≡ true) (sym m) c.requires.m_value;
+      tracks_value = subst (λ (t : Flights). flights_fit t ≡ true) (sym c.flights-2.ensures) c.requires.n_value;
       dates_in_bounds =
           omega (
             arith,
-            ap length c.column.ensures,
-            length-take c.args.m (drop 50000 c.args.movements.now),
+            ap (λ (f : Flights). length f.dates) c.flights.ensures,
+            length-take a.m (drop 50000 a.movements.now),
             c.requires.m_in_bounds,
           );
     }
 
 pub returns : goal.returns
 returns c =
-    c.couple_table.ensures
-    ∙ ap
-    (λ (m : Movements). front (tracks_for m (flights_in c.args.tracks.now c.args.n)) c.args.answers.now)
-    (same (goal.at.returns c).After-column-8)
+    let a = c.args in
+    let m = same_movements c.flights.ensures c.column.ensures in
+    c.couple_columns.ensures
+    ∙ ap (λ (t : Movements). front (tracks_for t (flights_of c.flights-2.result)) a.answers.now) m
+    ∙ ap (λ (t : Flights). front (tracks_for (movements_in a.movements.now a.m) t) a.answers.now) c.flights-2.ensures

@@ -1,46 +1,27 @@
--- `coupling::pack::pack` meets its contract: columns of one length fill their packed ones. Assumes nothing.
-use mathlib.Core.Path.{sym, ◌∙◌}
 use native.Mathlib.Omega.{arith}
-use Rattle.coupling_rules.specs.Flights.{Flights, flights_now}
-use Rattle.coupling_rules.proofs.Refusing.{Shape, flights_shape}
+use Rattle.coupling_rules.proofs.Refusing.{flights_shape}
+use Rattle.coupling.specs.Columns.{flights_of}
+use Rattle.coupling.proofs.Filling.{filled_none, filled_more}
 use Rattle.coupling.proofs.pack.pack.Goals as goal
-use Rattle.coupling.proofs.pack.pack.Goals.{Start}
 
-abbrev flights : Start → Flights
-flights s =
-    let a = s.args in
-    flights_now a.dates a.times a.classes a.kinds a.runways a.airports a.types
+pub loop-i-init : goal.loop-i-init
+loop-i-init c =
+    (flights_shape (flights_of c.args.flights) c.requires.flights_value, (filled_none _ _, (filled_none _ _, filled_none _ _)))
 
-shape : (s : Start) → Shape (flights s)
-shape s = flights_shape (flights s) s.requires.types_value
-
-pub put_highs-requires : goal.put_highs-requires
-put_highs-requires c =
-    let s = shape (goal.at.put_highs-requires c).Start in
-    record {
-      types_len = s.types= ∙ sym s.airports=;
-      airports_in_bounds = omega (arith, s.few, s.airports=);
-    }
-
-pub put_lows-requires : goal.put_lows-requires
-put_lows-requires c =
-    let s = shape (goal.at.put_lows-requires c).Start in
-    record {
-      classes_len = s.classes= ∙ sym s.runways=;
-      kinds_len = s.kinds= ∙ sym s.runways=;
-      runways_in_bounds = omega (arith, s.few, s.runways=);
-    }
-
-pub put_moments-requires : goal.put_moments-requires
-put_moments-requires c =
-    let s = shape (goal.at.put_moments-requires c).Start in
-    record { times_len = s.times=; dates_in_bounds = omega (arith, s.few) }
+pub loop-i-preserved : goal.loop-i-preserved
+loop-i-preserved c =
+    let v = c.loop-i.invariant in (
+      v.0,
+      (
+        filled_more _ _ _ _ v.1.0 (omega (arith, v.0.few)) c.high.ensures,
+        (
+          filled_more _ _ _ _ v.1.1.0 (omega (arith, v.0.few)) c.low.ensures,
+          filled_more _ _ _ _ v.1.1.1 (omega (arith, v.0.few)) c.moment.ensures,
+        ),
+      ),
+    )
 
 pub returns : goal.returns
 returns c =
-    let s = shape (goal.at.returns c).Start in
-    record {
-      high = λ i h. c.put_highs.ensures i (omega (arith, s.airports=));
-      low = λ i h. c.put_lows.ensures i (omega (arith, s.runways=));
-      at = c.put_moments.ensures;
-    }
+    let v = c.loop-i.invariant.1 in
+    record { high = λ i h. v.0 i (omega arith); low = λ i h. v.1.0 i (omega arith); at = λ i h. v.1.1 i (omega arith) }

@@ -5,15 +5,15 @@ use lib.{ListN.length, ListN.get_or, ListN.take, ListN.drop, ListN.drop_of_lengt
 use borrow.Author.{Tests.ltb-true, Tests.ltb-false}
 use Rattle.refusal.proofs.Laws.{settled}
 use Rattle.coupling_rules.specs.InnerSides.{In, Chain, Over, leading, Split, Below}
-use Rattle.coupling_rules.specs.InnerPacked.{Packed, packed_now, rank_in}
+use Rattle.coupling_rules.specs.InnerPacked.{Packed, rank_in}
 use Rattle.coupling_rules.proofs.Runs.{chain_drop, run_length, run_some, moved_split, moved_below_rule, stop_from}
-use Rattle.coupling.specs.InnerTurn.{wanted_rank}
+use Rattle.coupling.specs.InnerTurn.{packed_of, rank_of}
 use Rattle.coupling.proofs.Running.{top_after}
 use Rattle.coupling.proofs.turn.pull.Goals as goal
 use Rattle.coupling.proofs.turn.pull.Goals.{Start}
 
 abbrev tracks : Start → Packed
-tracks s = packed_now s.args.highs s.args.lows s.args.moments
+tracks s = packed_of s.args.tracks
 
 pub loop-r-init : goal.loop-r-init
 loop-r-init c =
@@ -28,19 +28,19 @@ loop-r-init c =
           (
             (λ free x. subst (λ (n : ℕ). Split rank free (drop n a.stack.now) (drop a.at a.order.now))
                 (sym e) x),
-            (λ b. subst (λ (n : ℕ). Below rank (wanted_rank a.w) (drop n a.stack.now)) (sym e) b),
+            (λ b. subst (λ (n : ℕ). Below rank (rank_of a.w.rank) (drop n a.stack.now)) (sym e) b),
           ),
         ),
       ),
     )
 
-pub returns-then-not-comes_before : goal.returns-then-not-comes_before
-returns-then-not-comes_before c =
+pub returns-else-comes_before : goal.returns-else-comes_before
+returns-else-comes_before c =
     let a = c.args in
     let order = a.order.now in
-    let rank = rank_in (tracks (goal.at.returns-then-not-comes_before c).Start) in
+    let rank = rank_in (tracks (goal.at.returns-else-comes_before c).Start) in
     let r = c.loop-r.r in
-    let f = settled c.comes_before.ensures c.if-not-comes_before.true in
+    let f = settled c.comes_before.ensures c.if-comes_before.false in
     let e : a.at + (r - a.at) ≡ r = omega arith in
     record {
       lower_bound = omega arith;
@@ -48,7 +48,7 @@ returns-then-not-comes_before c =
       pulled = record {
         split = c.loop-r.invariant.1.1.1.0;
         below = c.loop-r.invariant.1.1.1.1;
-        from = λ k. stop_from rank order r (omega arith) (wanted_rank a.w) (ltb-false _ _ f)
+        from = λ k. stop_from rank order r (omega arith) (rank_of a.w.rank) (ltb-false _ _ f)
             (subst (λ (n : ℕ). Chain (Over rank) (drop n order)) e
             (subst (Chain (Over rank)) (drop-drop (r - a.at) a.at order)
             (chain_drop (Over rank) (r - a.at) (drop a.at order) k)));
@@ -93,7 +93,7 @@ loop-r-preserved c =
     let to : next ≤ length order = omega arith in
     let h : r < length order = omega arith in
     let stack = c.push.new.stack in
-    let f = settled c.comes_before.ensures c.if-not-comes_before.false in
+    let f = settled c.comes_before.ensures c.if-comes_before.true in
     let n : next - r ≡ leading rank (rank (get_or order r 0)) (drop r order) = omega arith in
     let t : a.top - (next - a.at) ≡ a.top - (r - a.at) - (next - r) =
     top_after a.top a.at r next c.loop-r.invariant.0 (omega arith) in
@@ -112,18 +112,18 @@ loop-r-preserved c =
                 (moved_split rank order r h (drop (a.top - (r - a.at)) c.loop-r.stack)
                 (drop (a.top - (next - a.at)) stack) (next - r) n w free (c.loop-r.invariant.1.1.1.0 free x))),
             (λ b.
-                moved_below_rule rank order r h (wanted_rank a.w) (drop (a.top - (r - a.at)) c.loop-r.stack)
+                moved_below_rule rank order r h (rank_of a.w.rank) (drop (a.top - (r - a.at)) c.loop-r.stack)
                 (drop (a.top - (next - a.at)) stack) (next - r) n w (ltb-true _ _ f) (c.loop-r.invariant.1.1.1.1 b)),
           ),
         ),
       ),
     )
 
-pub returns : goal.returns
-returns c =
+pub returns-after-loop-r : goal.returns-after-loop-r
+returns-after-loop-r c =
     let a = c.args in
     let order = a.order.now in
-    let rank = rank_in (tracks (goal.at.returns c).Start) in
+    let rank = rank_in (tracks (goal.at.returns-after-loop-r c).Start) in
     let r = c.loop-r.r in
     let h : length order ≤ r = omega arith in
     record {

@@ -5,19 +5,19 @@ use Rattle.std.specs.Prelude.{ℕ, ◌-◌, ◌≤◌}
 use lib.{ListN.length, ListN.drop}
 use Rattle.coupling_rules.specs.InnerSides.{Split, Below}
 use Rattle.coupling_rules.specs.InnerPacked.{rank_in}
-use Rattle.coupling.specs.InnerTurn.{wanted_rank}
+use Rattle.coupling.specs.InnerTurn.{packed_of, rank_of}
 use Rattle.coupling.proofs.turn.pull.Given as goal
 
 abbrev pub invariant-loop-r : goal.invariant-loop-r
 invariant-loop-r l =
-    let rank = rank_in (record { highs = l.highs; lows = l.lows; moments = l.moments }) in
+    let rank = rank_in (packed_of l.tracks) in
     let top' = l.top - (l.r - l.at) in
     (l.at ≤ l.r)
     × ((l.r ≤ length l.order)
     × ((length l.stack ≡ length l.initial.stack)
     × (((free : List ℕ) → Split rank free (drop l.top l.initial.stack) (drop l.at l.order)
     → Split rank free (drop top' l.stack) (drop l.r l.order))
-    × (Below rank (wanted_rank l.w) (drop l.top l.initial.stack) → Below rank (wanted_rank l.w) (drop top' l.stack)))))
+    × (Below rank (rank_of l.w.rank) (drop l.top l.initial.stack) → Below rank (rank_of l.w.rank) (drop top' l.stack)))))
 
 abbrev pub decreases-loop-r : goal.decreases-loop-r
 decreases-loop-r l =
