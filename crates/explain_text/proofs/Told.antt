@@ -91,6 +91,12 @@ answer_only {A} {why} {r} {answer} {room} {left} w z e =
     let no_more : drop (length answer) room ≡ [] = drop_of_length-le room {i = length answer} (omega arith) in
     w.left ∙ rw (z, le-leb (length answer) (length room) (omega arith), no_more) (append-nil answer)
 
+-- and is no refusal
+pub answer_told : {A : Type 0} {why r : ℕ} {answer room left : List A} → Writes why answer room r left → why ≡ 0
+    → length answer ≡ length room → r ≡ 0
+answer_told {A} {why} {r} {answer} {room} {left} w z e =
+    w.number ∙ rw (z, le-leb (length answer) (length room) (omega arith)) refl
+
 -- The account at a point of a book whose load is answered there
 module _ (p pt : ℕ) (b : Book) (days : ℕ) (answered : (book_load p pt b days).refused ≡ 0) where
   pub book_lines : (n : List ℕ) → n ≡ account_of p pt b days

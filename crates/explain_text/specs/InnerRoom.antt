@@ -3,6 +3,7 @@
 use Rattle.std.specs.Prelude.{◌≡◌, ℕ, List, ◌∷◌, ◌++◌}
 use Rattle.movement.specs.Group.{group_period}
 use Rattle.book_rules.specs.Columns.{Book}
+use Rattle.refusal.specs.Refusal.{told}
 use Rattle.room.specs.Room.{Wrote}
 use Rattle.text.specs.Sheet.{comma}
 use Rattle.text.specs.Spelled.{crlf}
@@ -67,4 +68,4 @@ amounts_text a =
 -- the whole text at the front of a buffer, and its refusal for the sentence that goes with it
 pub record Explained (l : LimitsFile) (b : Book) (old : List ℕ) (r : Report) (new : List ℕ) : Type 0 where
   pub wrote : Wrote old 0 (explain_text l b) new r.size
-  pub refused : r.refused ≡ book_refusal l b
+  pub refused : told r.outcome ≡ book_refusal l b

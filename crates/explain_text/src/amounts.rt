@@ -39,7 +39,7 @@ fn sum_at(numbers: &[u64; 78], k: usize) -> u64
 {
     let mut sum: u64 = 0;
     for g in 0..GROUPS {
-        sum = sum + number_at(numbers, g, k);
+        sum += number_at(numbers, g, k);
     }
     sum
 }
@@ -52,8 +52,8 @@ pub(crate) fn group_amounts(numbers: &[u64; 78], g: usize) -> Amounts
     let computed = number_at(numbers, g, 0);
     let missing = number_at(numbers, g, 1);
     Amounts {
-        computed: computed,
-        missing: missing,
+        computed,
+        missing,
         upper: computed + missing,
         lower: computed,
         energy: number_at(numbers, g, 2),

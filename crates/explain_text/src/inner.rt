@@ -54,7 +54,7 @@ fn put_answered(
         (ended (lines_at points point (book_lent ids.now groups.now marks.now counts.now levels.now))) out.new result }
 {
     let mut numbers = [0u64; 78];
-    account_at(
+    match account_at(
         ids,
         groups,
         marks,
@@ -64,8 +64,10 @@ fn put_answered(
         point,
         days,
         &mut numbers,
-    );
-    put_point(out, at, point, &numbers)
+    ) {
+        Ok(()) => put_point(out, at, point, &numbers),
+        Err(_) => at,
+    }
 }
 
 // The header, and the lines of each point.
@@ -86,12 +88,10 @@ fn put_points(
     let points = limits.points as usize;
     let days = limits.days;
     let mut at = put_header(out);
-    let mut point = 0;
-    while point < points {
+    for point in 0..points {
         at = put_answered(
             out, at, ids, groups, marks, counts, levels, points, point, days,
         );
-        point += 1;
     }
     at
 }
@@ -111,11 +111,10 @@ pub fn put_explained(
         out.new }
 {
     let points = limits.points as usize;
-    let refused = book_refusal(ids, groups, marks, counts, levels, points, limits.days);
-    if refused != 0 {
-        let size = put_refused(out, refused, 0);
-        return Report { size, refused };
-    }
-    let size = put_points(out, ids, groups, marks, counts, levels, limits);
-    Report { size, refused }
+    let outcome = book_refusal(ids, groups, marks, counts, levels, points, limits.days);
+    let size = match outcome {
+        Ok(()) => put_points(out, ids, groups, marks, counts, levels, limits),
+        Err(why) => put_refused(out, why.number(), 0),
+    };
+    Report { size, outcome }
 }

@@ -33,14 +33,11 @@ fn put_period(out: &mut [u8], at: usize, g: usize) -> usize
     ensures { WroteWithin longest_period out.old at (comma ∷ period_text (group_period g))
         out.new result }
 {
-    let period = g % 3;
-    if period == 0 {
-        return put_word(out, at, b"day");
+    match g % 3 {
+        0 => put_word(out, at, b"day"),
+        1 => put_word(out, at, b"evening"),
+        _ => put_word(out, at, b"night"),
     }
-    if period == 1 {
-        return put_word(out, at, b"evening");
-    }
-    put_word(out, at, b"night")
 }
 
 // Type, kind and period of a group, each with its comma.
@@ -113,15 +110,7 @@ fn put_all(out: &mut [u8], at: usize, point: usize, a: Amounts) -> usize
 fn has_movement(a: Amounts) -> bool
     ensures { result ≡ stands a }
 {
-    let computed = a.computed;
-    let missing = a.missing;
-    if computed != 0 {
-        return true;
-    }
-    if missing != 0 {
-        return true;
-    }
-    false
+    a.computed != 0 || a.missing != 0
 }
 
 // The line of a group that has a movement; nothing of any other.

@@ -5,7 +5,7 @@ use native.Mathlib.Omega.{arith}
 use lib.{Dec.eqb, ListN.length, ListN.get_or, ListN.length-append}
 use borrow.Author.Tests.{ne_eqb}
 use Rattle.book_rules.specs.Columns.{Book}
-use Rattle.load_rules.specs.declared.Load.{Load}
+use Rattle.load_rules.specs.Told.{LoadTold}
 use Rattle.load_rules.specs.Load.{book_load}
 use Rattle.text.specs.Sheet.{ended, line, refused_text}
 use Rattle.text.specs.Spelled.{crlf}
@@ -34,7 +34,7 @@ points_none {points} {days} {limits} {b} {s} {at} =
     record { wrote = rw (ended_none (point_line (limits_with points days limits) b)) (wrote_none s at) }
 
 -- one point more
-pub points_more : {points days n i j at : ℕ} {limits s mid e : List ℕ} {b : Book} {load : Load}
+pub points_more : {points days n i j at : ℕ} {limits s mid e : List ℕ} {b : Book} {load : LoadTold}
     → Passed points days limits b n s at mid i
     → WroteWithin longest_point mid i (line (point_fields n (get_or limits n 0) load) ++ crlf) e j
     → load ≡ book_load points n b days → i + longest_point ≤ length s

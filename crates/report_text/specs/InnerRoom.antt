@@ -1,6 +1,7 @@
 -- Inner steps: no promise uses them. What the writers of the report ask and leave: room for the longest text, and
 -- numbers that have one. Assumes nothing.
 use Rattle.std.specs.Prelude.{◌≡◌, ℕ, ◌<◌, ◌≤◌, List, slice_index}
+use Rattle.refusal.specs.Refusal.{told}
 use Rattle.room.specs.Room.{Wrote}
 use Rattle.movement.specs.Limits.{max_points}
 use Rattle.book_rules.specs.Columns.{Book}
@@ -39,4 +40,4 @@ pub record LimitsFit (l : LimitsFile) : Type 0 where
 -- the whole report at the front of a buffer, and its refusal for the sentence that goes with it
 pub record Reported (l : LimitsFile) (b : Book) (old : List ℕ) (r : Report) (new : List ℕ) : Type 0 where
   pub wrote : Wrote old 0 (book_text l b) new r.size
-  pub refused : r.refused ≡ book_refusal l b
+  pub refused : told r.outcome ≡ book_refusal l b

@@ -7,7 +7,7 @@ use Rattle.level.specs.declared.Verdict.TheVariants.{Within, Over}
 use Rattle.level.specs.Level.{verdict_of}
 use Rattle.book_rules.specs.Columns.{Book}
 use Rattle.book_rules.specs.Calls.{refused_or}
-use Rattle.load_rules.specs.declared.Load.{Load}
+use Rattle.load_rules.specs.Told.{LoadTold}
 use Rattle.load_rules.specs.Load.{book_load}
 use Rattle.text.specs.Number.{show_number, show_level}
 use Rattle.text.specs.Index.{listing}
@@ -26,7 +26,7 @@ verdict_text Within = bytes "within"
 verdict_text Over = bytes "over"
 
 -- one point: its number from 1, rounded level, limit, verdict, movements computed, movements without levels
-abbrev pub point_fields : (point limit : ℕ) → Load → List (List ℕ)
+abbrev pub point_fields : (point limit : ℕ) → LoadTold → List (List ℕ)
 point_fields point limit load =
     show_number (point + 1)
     ∷ level_text load.level

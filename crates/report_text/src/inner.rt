@@ -1,15 +1,17 @@
 // The report's text, put into a buffer that has room for the longest.
 ghost use Rattle.std.specs.Prelude.{◌≡◌, ◌+◌, ◌<◌, ◌≤◌, ◌∷◌, ◌++◌, length};
+ghost use Rattle.refusal.specs.Refusal.{told};
 ghost use Rattle.level.specs.Level.{level_value, verdict_of};
 ghost use Rattle.movement.specs.Limits.{max_points};
 ghost use Rattle.book_rules.specs.Columns.{book_lent};
+ghost use Rattle.load_rules.specs.Load.{load_told};
 ghost use Rattle.room.specs.Room.{Wrote};
 ghost use Rattle.text.specs.Sheet.{comma, line};
 ghost use Rattle.text.specs.Spelled.{crlf};
 ghost use Rattle.text.specs.Number.{show_number, show_level};
 ghost use Rattle.report_text.specs.Totals.{all_computed, all_missing};
 ghost use Rattle.report_text.specs.Text.{level_text, verdict_text, point_fields};
-ghost use Rattle.report_text.specs.Text.{header_line, points_text, refused_to};
+ghost use Rattle.report_text.specs.Text.{header_line, points_text, refused_to, book_refusal};
 ghost use Rattle.report_text.specs.InnerRoom.{longest_word, longest_judged, longest_totals};
 ghost use Rattle.report_text.specs.InnerRoom.{longest_point, header_size, longest_report};
 ghost use Rattle.report_text.specs.InnerRoom.{LimitsFit, Reported};
@@ -19,16 +21,17 @@ use crate::totals::added_up;
 use level::{Level, Verdict};
 use load::load_at;
 use load_rules::{Counts, Load};
+use refusal::Refusal;
 use register::limits_csv::LimitsFile;
 use text::inner::{
     put_any_level, put_any_number, put_byte, put_end, put_field, put_refused, put_text, put_word,
 };
 
-// A report: how many bytes it has, and the refusal of the whole book, 0 for none.
+// A report: how many bytes it has, and whether the whole book is refused.
 #[derive(Clone, Copy)]
 pub struct Report {
     pub size: usize,
-    pub refused: u32,
+    pub outcome: Result<(), Refusal>,
 }
 
 // A comma, and a level or `below`.
@@ -84,7 +87,7 @@ fn put_totals(out: &mut [u8], at: usize, counts: [Counts; 18]) -> usize
         ((comma ∷ show_number (all_computed counts)) ++ ((comma ∷ show_number (all_missing counts)) ++ crlf))
         out.new result }
 {
-    let totals = added_up(counts);
+    let totals = added_up(&counts);
     let computed = put_field(out, at, totals.computed);
     let missing = put_field(out, computed, totals.missing);
     put_end(out, missing)
@@ -95,13 +98,11 @@ fn put_point(out: &mut [u8], at: usize, point: usize, load: Load, limit: u32) ->
     requires { (point < max_points) × (level_value load.level < 100000) × (limit < 100000)
         × (at + longest_point ≤ length out.old) }
     ensures { WroteWithin longest_point out.old at
-        (line (point_fields point limit load) ++ crlf) out.new result }
+        (line (point_fields point limit (load_told (Ok load))) ++ crlf) out.new result }
 {
-    let counts = load.counts;
-    let level = load.level;
     let number = put_any_number(out, at, (point + 1) as u64);
-    let judged = put_judged(out, number, level, limit);
-    put_totals(out, judged, counts)
+    let judged = put_judged(out, number, load.level, limit);
+    put_totals(out, judged, load.counts)
 }
 
 // The header.
@@ -113,7 +114,7 @@ fn put_header(out: &mut [u8]) -> usize
     put_end(out, next)
 }
 
-// The header, and the line of each point.
+// The header, and the line of each point of a book that isn't refused.
 fn put_points(
     out: &mut [u8],
     ids: &[u32],
@@ -123,7 +124,8 @@ fn put_points(
     levels: &[u32],
     limits: LimitsFile,
 ) -> usize
-    requires { LimitsFit limits × (longest_report ≤ length out.old) }
+    requires limits_fit { LimitsFit limits × (longest_report ≤ length out.old) }
+    requires answered { book_refusal limits (book_lent ids.now groups.now marks.now counts.now levels.now) ≡ 0 }
     ensures { Wrote out.old 0 (points_text limits (book_lent ids.now groups.now marks.now counts.now levels.now))
         out.new result }
 {
@@ -131,16 +133,15 @@ fn put_points(
     let days = limits.days;
     let limit = limits.limits;
     let mut at = put_header(out);
-    let mut point = 0;
-    while point < points {
-        let load = load_at(ids, groups, marks, counts, levels, points, point, days);
-        at = put_point(out, at, point, load, limit[point]);
-        point += 1;
+    for point in 0..points {
+        if let Ok(load) = load_at(ids, groups, marks, counts, levels, points, point, days) {
+            at = put_point(out, at, point, load, limit[point]);
+        }
     }
     at
 }
 
-// The refusal of the whole book: that of the first point that is refused, 0 where each is answered.
+// Whether the whole book is refused: as the first of its points that is.
 pub fn book_refusal(
     ids: &[u32],
     groups: &[u32],
@@ -149,19 +150,14 @@ pub fn book_refusal(
     levels: &[u32],
     points: usize,
     days: u32,
-) -> u32
-    ensures { result ≡ refused_to points days (book_lent ids.now groups.now marks.now counts.now levels.now) points }
+) -> Result<(), Refusal>
+    ensures { told result
+        ≡ refused_to points days (book_lent ids.now groups.now marks.now counts.now levels.now) points }
 {
-    let mut point = 0;
-    while point < points {
-        let load = load_at(ids, groups, marks, counts, levels, points, point, days);
-        let refused = load.refused;
-        if refused != 0 {
-            return refused;
-        }
-        point += 1;
+    for point in 0..points {
+        load_at(ids, groups, marks, counts, levels, points, point, days)?;
     }
-    0
+    Ok(())
 }
 
 // The report of a book, at the front of a buffer.
@@ -179,11 +175,10 @@ pub fn put_report(
         out.new }
 {
     let points = limits.points as usize;
-    let refused = book_refusal(ids, groups, marks, counts, levels, points, limits.days);
-    if refused != 0 {
-        let size = put_refused(out, refused, 0);
-        return Report { size, refused };
-    }
-    let size = put_points(out, ids, groups, marks, counts, levels, limits);
-    Report { size, refused }
+    let outcome = book_refusal(ids, groups, marks, counts, levels, points, limits.days);
+    let size = match outcome {
+        Ok(()) => put_points(out, ids, groups, marks, counts, levels, limits),
+        Err(why) => put_refused(out, why.number(), 0),
+    };
+    Report { size, outcome }
 }

@@ -26,7 +26,7 @@ put_answered-at-requires c =
           room.0.few,
           room.1,
           c.loop-point.invariant.0.within,
-          c.loop-point.invariant.2,
+          c.loop-point.invariant.1,
           c.put_header-at.ensures.within,
           c.put_header-at.auto.out,
         ),
@@ -46,14 +46,13 @@ loop-point-preserved c =
           (omega (arith, few, room.0.few, room.1, c.put_header-at.ensures.within, c.put_header-at.auto.out))
           c.loop-point.invariant.0 c.put_answered-at.ensures)
           (points_more c.args.limits.points (book (goal.at.loop-point-preserved c).Start) c.loop-point.point)),
-      omega arith,
-      c.put_answered-at.auto.out ∙ c.loop-point.invariant.2,
+      c.put_answered-at.auto.out ∙ c.loop-point.invariant.1,
     )
 
 pub returns : goal.returns
 returns c =
     let q : c.loop-point.point ≡ c.args.limits.points = omega
-    (arith, c.loop-point.invariant.1, c.loop-point-test.false) in
+    arith in
     let room = c.requires.limits_fit in
     points_all c.args.limits (book (goal.at.returns c).Start) c.put_header-at.ensures.wrote
     c.loop-point.invariant.0.wrote q
@@ -68,4 +67,4 @@ returns c =
     ))
 
 pub loop-point-init : goal.loop-point-init
-loop-point-init c = (within_is within_none (points_none _ _), omega arith, refl)
+loop-point-init c = (within_is within_none (points_none _ _), refl)

@@ -1,6 +1,6 @@
 -- `explain_text::inner::put_points` meets its contract: the lines of the points passed stand behind the header.
 -- Assumes nothing.
-use Rattle.std.specs.Prelude.{◌≡◌, ◌-◌, ◌*◌, ◌≤◌, length}
+use Rattle.std.specs.Prelude.{◌≡◌, ◌*◌, length}
 use Rattle.book_rules.specs.Columns.{book_of}
 use Rattle.text.specs.Sheet.{ended}
 use Rattle.text.specs.InnerWithin.{WroteWithin}
@@ -12,7 +12,4 @@ invariant-loop-point l =
     WroteWithin (longest_point * l.point) l.initial.out l.initial.at
     (ended (lines_to l.points (book_of l.ids l.groups l.marks l.counts l.levels) l.point))
     l.out l.at
-    × (l.point ≤ l.points) × (length l.out ≡ length l.initial.out)
-
-abbrev pub decreases-loop-point : goal.decreases-loop-point
-decreases-loop-point l = l.points - l.point
+    × (length l.out ≡ length l.initial.out)

@@ -1,23 +1,21 @@
 -- `explain_text::lines::put_period` meets its contract: a comma, and past it the word. Assumes nothing.
+use Rattle.std.specs.Prelude.{◌%◌}
 use native.Mathlib.Omega.{arith}
-use borrow.Author.{Tests.eq-eqb, Tests.ne_eqb}
+use borrow.Author.Tests.{ne_eqb}
 use Rattle.movement.specs.Group.{group_period}
 use Rattle.text.proofs.Within.{within}
 use Rattle.explain_text.proofs.lines.put_period.Goals as goal
 
-pub returns-then-period-eq0 : goal.returns-then-period-eq0
+pub returns-in-0 : goal.returns-in-0
 unfolding group_period
-returns-then-period-eq0 c =
-    rw (eq-eqb _ _ c.if-period-eq0.true) (within (omega arith) c.put_word.ensures)
+returns-in-0 c = rw c.in-0.is (within (omega arith) c.put_word.ensures)
 
-pub returns-then-period-eq1 : goal.returns-then-period-eq1
+pub returns-in-1 : goal.returns-in-1
 unfolding group_period
-returns-then-period-eq1 c =
-    rw (ne_eqb _ _ c.if-period-eq0.false, eq-eqb _ _ c.if-period-eq1.true)
-    (within (omega arith) c.put_word-then-period-eq1.ensures)
+returns-in-1 c = rw c.in-1.is (within (omega arith) c.put_word-in-1.ensures)
 
-pub returns : goal.returns
+pub returns-in_default : goal.returns-in_default
 unfolding group_period
-returns c =
-    rw (ne_eqb _ _ c.if-period-eq0.false, ne_eqb _ _ c.if-period-eq1.false)
-    (within (omega arith) c.put_word-2.ensures)
+returns-in_default c =
+    rw (ne_eqb (c.args.g % 3) 0 (λ z. omega arith), ne_eqb (c.args.g % 3) 1 (λ z. omega arith))
+    (within (omega arith) c.put_word-in_default.ensures)

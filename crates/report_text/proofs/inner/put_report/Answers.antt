@@ -1,5 +1,8 @@
 -- `report_text::inner::put_report` meets its contract: the one line of rule 10, or the header and the points. Assumes
 -- nothing.
+use mathlib.Core.Path.{refl, ◌∙◌}
+use native.Mathlib.Omega.{arith}
+use Rattle.refusal.proofs.Laws.{numbered}
 use Rattle.book_rules.specs.Columns.{Book, book_of}
 use Rattle.report_text.specs.Text.{book_text}
 use Rattle.report_text.proofs.Points.{text_refused, text_points}
@@ -10,22 +13,21 @@ abbrev book : Start → Book
 book s =
     let a = s.args in book_of a.ids.now a.groups.now a.marks.now a.counts.now a.levels.now
 
-pub returns-then-refused-ne0 : goal.returns-then-refused-ne0
+pub returns-in-Err : goal.returns-in-Err
 unfolding book_text
-returns-then-refused-ne0 c =
-    let q = c.book_refusal-refused.ensures in
+returns-in-Err c =
+    let q = c.number.ensures ∙ c.in-Err.ensures in
     record {
-      wrote = text_refused c.args.limits (book (goal.at.returns-then-refused-ne0 c).Start) _ q c.if-refused-ne0.true
-          c.put_refused-size.ensures.wrote;
-      refused = q;
+      wrote = text_refused c.args.limits (book (goal.at.returns-in-Err c).Start) _ q
+          (λ z. let some = numbered c.in-Err.why in omega (arith, c.number.ensures, z)) c.put_refused-size.ensures.wrote;
+      refused = c.in-Err.ensures;
     }
 
-pub returns : goal.returns
+pub returns-in-Ok : goal.returns-in-Ok
 unfolding book_text
-returns c =
-    let q = c.book_refusal-refused.ensures in
+returns-in-Ok c =
+    let q = c.in-Ok.ensures in
     record {
-      wrote = text_points c.args.limits (book (goal.at.returns c).Start) q c.if-refused-ne0.false
-          c.put_points-size.ensures;
-      refused = q;
+      wrote = text_points c.args.limits (book (goal.at.returns-in-Ok c).Start) q refl c.put_points-size.ensures;
+      refused = c.book_refusal-outcome.ensures;
     }

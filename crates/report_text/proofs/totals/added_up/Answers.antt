@@ -14,27 +14,26 @@ more : (f : Counts → ℕ) (counts : List Counts) (g : ℕ)
 unfolding sum_to
 more f counts g = ap (to f counts) (add-one g)
 
-pub loop-g-preserved : goal.loop-g-preserved
-loop-g-preserved c =
-    let counts = c.args.counts in
-    let g = c.loop-g.g in
-    let v : c.plus-computed.result ≡ to (λ k. k.computed) counts (g + 1) =
-    rw (more (λ k. k.computed) counts g) (c.plus-computed.ensures.0 ∙ ap
-    (λ (n : ℕ). n + (counts_in counts g).computed) c.loop-g.invariant.1) in
-    let u : c.plus-missing.result ≡ to (λ k. k.missing) counts (g + 1) =
-    rw (more (λ k. k.missing) counts g) (c.plus-missing.ensures.0 ∙ ap (λ (n : ℕ). n + (counts_in counts g).missing)
-    c.loop-g.invariant.2) in
-    (omega arith, v, u, omega arith, omega arith)
+pub loop-c-preserved : goal.loop-c-preserved
+loop-c-preserved c =
+    let counts = c.args.counts.now in
+    let i = c.loop-c.c-index in
+    let v = ap (λ (n : ℕ). n + (counts_in counts i).computed) c.loop-c.invariant.0 in
+    let u = ap (λ (n : ℕ). n + (counts_in counts i).missing) c.loop-c.invariant.1 in (
+      rw (more (λ k. k.computed) counts i) v,
+      rw (more (λ k. k.missing) counts i) u,
+      omega arith,
+      omega arith,
+    )
 
 pub returns : goal.returns
 unfolding all_computed all_missing
 returns c =
-    let counts = c.args.counts in
-    let last : c.loop-g.g ≡ group_count = omega arith in (
-      c.loop-g.invariant.1 ∙ ap (to (λ k. k.computed) counts) last,
-      c.loop-g.invariant.2
-          ∙ ap (to (λ k. k.missing) counts) last,
+    let counts = c.args.counts.now in
+    let last : c.loop-c.c-index ≡ group_count = omega arith in (
+      c.loop-c.invariant.0 ∙ ap (to (λ k. k.computed) counts) last,
+      c.loop-c.invariant.1 ∙ ap (to (λ k. k.missing) counts) last,
     )
 
-pub loop-g-init : goal.loop-g-init
-loop-g-init c = unfold sum_to in search rules
+pub loop-c-init : goal.loop-c-init
+loop-c-init c = unfold sum_to in search rules

@@ -1,8 +1,7 @@
 -- `report_text::totals::added_up` meets its contract. The loop's invariant: both sums are those of the groups passed,
 -- each of which adds less than 2^32. Assumes nothing.
 use mathlib.Core.{Path.◌≡◌, List.List}
-use Rattle.std.specs.Prelude.{ℕ, ◌-◌, ◌*◌, ◌^◌, ◌≤◌}
-use Rattle.movement.specs.Limits.{group_count}
+use Rattle.std.specs.Prelude.{ℕ, ◌*◌, ◌^◌, ◌≤◌}
 use Rattle.load_rules.specs.declared.Counts.{Counts}
 use Rattle.load_rules.specs.Factors.{sum_to}
 use Rattle.report_text.specs.Totals.{counts_in}
@@ -12,11 +11,8 @@ use Rattle.report_text.proofs.totals.added_up.Given as goal
 abbrev pub to : (Counts → ℕ) → List Counts → ℕ → ℕ
 to f counts g = sum_to (λ k. f (counts_in counts k)) g
 
-abbrev pub invariant-loop-g : goal.invariant-loop-g
-invariant-loop-g l =
-    (l.g ≤ group_count) × (l.computed ≡ to (λ c. c.computed) l.counts l.g)
-    × (l.missing ≡ to (λ c. c.missing) l.counts l.g)
-    × (l.computed ≤ l.g * 2 ^ 32) × (l.missing ≤ l.g * 2 ^ 32)
-
-abbrev pub decreases-loop-g : goal.decreases-loop-g
-decreases-loop-g l = group_count - l.g
+abbrev pub invariant-loop-c : goal.invariant-loop-c
+invariant-loop-c l =
+    (l.computed ≡ to (λ c. c.computed) l.counts l.c-index)
+    × (l.missing ≡ to (λ c. c.missing) l.counts l.c-index)
+    × (l.computed ≤ l.c-index * 2 ^ 32) × (l.missing ≤ l.c-index * 2 ^ 32)
