@@ -39,10 +39,16 @@ impl Note {
         }
     }
 
-    // `file, line N: ` before a sentence.
-    pub fn at_line(file: &[u8], line: u64) -> Note {
+    // A file's name.
+    pub fn of(file: &[u8]) -> Note {
         let mut note = Note::new();
         note.shown(file);
+        note
+    }
+
+    // `file, line N: ` before a sentence.
+    pub fn at_line(file: &[u8], line: u64) -> Note {
+        let mut note = Note::of(file);
         note.words(b", line ");
         note.number(line);
         note.words(b": ");
@@ -70,6 +76,11 @@ impl Note {
         let mut digits = [0u8; MAX_DIGITS];
         let size = put_number(&mut digits, 0, n);
         self.words(&digits[..size]);
+    }
+
+    // The number of what stands behind k others.
+    pub fn ordinal(&mut self, k: usize) {
+        self.number((k as u64).saturating_add(1));
     }
 
     // A level of a network, with its three decimals.
@@ -127,4 +138,11 @@ impl Note {
     pub fn send(&self) {
         io::write_all(STDERR_FILENO, &self.text[..self.size]);
     }
+}
+
+// Standard input can't be read on from a line.
+pub fn unread(file: &[u8], line: u64, refusal: u32) {
+    let mut note = Note::at_line(file, line);
+    note.words(b"standard input can't be read on");
+    note.end(refusal, b"");
 }

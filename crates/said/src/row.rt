@@ -51,7 +51,7 @@ impl<'a> Row<'a> {
     // A line that should be the header, of which column k isn't.
     pub fn misnamed(&self, note: &mut Note, k: usize) {
         note.words(b"column ");
-        note.number((k as u64).saturating_add(1));
+        note.ordinal(k);
         found(note, self.field(k));
         note.words(b", expected ");
         note.words(self.name(k));
@@ -60,9 +60,9 @@ impl<'a> Row<'a> {
     // A wrong number of columns: the last should be number `end`.
     pub fn count_off(&self, note: &mut Note, end: usize) {
         note.words(b"the number of columns is ");
-        note.number((self.last() as u64).saturating_add(1));
+        note.ordinal(self.last());
         note.words(b", expected ");
-        note.number((end as u64).saturating_add(1));
+        note.ordinal(end);
         note.words(b": ");
         self.names(note, end);
     }

@@ -7,7 +7,7 @@ use said::part::{column, last, line};
 // The lines that a network has to begin with, and the one that may follow.
 const HEADER_LINES: u64 = 5;
 
-const NO_DATA_LINE: u64 = 6;
+pub(crate) const NO_DATA_LINE: u64 = 6;
 
 // The key of line k, counted from 1.
 pub(crate) fn key(k: u64) -> &'static [u8] {

@@ -1,22 +1,22 @@
 // Why a network is refused.
-use crate::header::{is_named, line_off};
+use crate::header::{NO_DATA_LINE, is_named, line_off};
 use crate::rows::{Network, is_off};
 use crate::shape::{cell, size_off, values_off};
-use said::note::Note;
+use said::note::{self, Note};
 use said::part::{column, line};
 use said::{field, odd};
 
 // The lines before the rows, where the no-data value is named and where it isn't.
-const NAMED: u64 = 6;
+const NAMED: usize = 6;
 
-const UNNAMED: u64 = 5;
+const UNNAMED: usize = 5;
 
-// The first value of a row that is none.
-fn value_off(note: &mut Note, number: u64, row: &[u8], nodata: &[u8]) {
+// The first value of row k that is none.
+fn value_off(note: &mut Note, k: usize, row: &[u8], nodata: &[u8]) {
     let mut values = row.split(|b| *b == b' ').enumerate();
     let found = values.find(|(_, t)| is_off(t, nodata));
-    let (before, value) = found.unwrap_or((0, b""));
-    cell(note, number, (before as u64).saturating_add(1));
+    let (column, value) = found.unwrap_or((0, b""));
+    cell(note, k, column);
     if value.is_empty() {
         note.words(b" is blank, expected one space between values and none around them");
     } else {
@@ -26,7 +26,7 @@ fn value_off(note: &mut Note, number: u64, row: &[u8], nodata: &[u8]) {
 
 // Why line `number` is off its layout.
 fn reason(note: &mut Note, number: u64, row: &[u8], network: Network) {
-    let before = network.before;
+    let before = network.before as u64;
     if let Some(what) = odd::of_grid(row) {
         note.words(what);
     } else if number <= before {
@@ -34,7 +34,7 @@ fn reason(note: &mut Note, number: u64, row: &[u8], network: Network) {
     } else if row.is_empty() {
         note.words(b"the line is empty, expected a row of values");
     } else {
-        value_off(note, number - before, row, network.nodata);
+        value_off(note, (number - before - 1) as usize, row, network.nodata);
     }
 }
 
@@ -52,7 +52,7 @@ fn read<'a>(file: &'a [u8], text: &'a [u8]) -> Network<'a> {
         Network {
             file,
             text,
-            nodata: column(line(text, NAMED), 1, b' '),
+            nodata: column(line(text, NO_DATA_LINE), 1, b' '),
             before: NAMED,
         }
     } else {
@@ -77,9 +77,7 @@ pub fn refused(file: &[u8], refusal: u32, number: u64, text: &[u8]) {
 
 // The network's bytes can't be read on.
 pub fn unread(file: &[u8], number: u64) {
-    let mut note = Note::at_line(file, number);
-    note.words(b"standard input can't be read on");
-    note.end(17, b"");
+    note::unread(file, number, 17);
 }
 
 // The network is longer than any that is not refused: 17 at a line, or 12.
@@ -88,8 +86,7 @@ pub fn overlong(file: &[u8], number: u64, text: &[u8]) {
         refused(file, 17, number, text);
         return;
     }
-    let mut note = Note::new();
-    note.shown(file);
+    let mut note = Note::of(file);
     note.words(b": 590,176 bytes or more, and no network of 256 rows of 256 values has as many");
     note.end(12, b"");
 }

@@ -5,49 +5,44 @@ use said::field;
 use said::note::Note;
 use said::part::{Lines, last, line};
 
-// `row R, column C`.
-pub(crate) fn cell(note: &mut Note, row: u64, column: u64) {
+// `row R, column C`, of which each is counted from 0 here.
+pub(crate) fn cell(note: &mut Note, row: usize, column: usize) {
     note.words(b"row ");
-    note.number(row);
+    note.ordinal(row);
     note.words(b", column ");
-    note.number(column);
+    note.ordinal(column);
 }
 
 // What the header says and what the file has.
-fn against(note: &mut Note, header: u64, file: u64) {
-    note.number(header);
+fn against(note: &mut Note, header: usize, file: usize) {
+    note.number(header as u64);
     note.words(b" by the header and ");
-    note.number(file);
+    note.number(file as u64);
     note.words(b" in the file");
 }
 
 // The end of a sentence: the network's rows and values and the refusal, and below it the line.
 fn end(mut note: Note, refusal: u32, network: Network, row: &[u8]) {
-    let columns = network.columns();
-    let rows = network.rows();
+    let asked = network.rows();
     let found = network.row_count();
-    let spaces = last(network.body(), b' ') as u64;
     note.words(b"; rows: ");
-    against(&mut note, rows, found);
+    against(&mut note, asked, found);
     note.words(b"; values: ");
-    against(
-        &mut note,
-        rows.saturating_mul(columns),
-        found.saturating_add(spaces),
-    );
+    let values = found.saturating_add(last(network.body(), b' '));
+    against(&mut note, asked.saturating_mul(network.columns()), values);
     note.end(refusal, row);
 }
 
 // A value that is missing or one too many, and which of the two.
 #[derive(Clone, Copy)]
 struct Fault {
-    row: u64,
-    column: u64,
+    row: usize,
+    column: usize,
     what: &'static [u8],
 }
 
 // Which it is where there are `got` of so many.
-fn what(got: u64, asked: u64) -> &'static [u8] {
+fn what(got: usize, asked: usize) -> &'static [u8] {
     if got < asked {
         b" is missing"
     } else {
@@ -55,22 +50,25 @@ fn what(got: u64, asked: u64) -> &'static [u8] {
     }
 }
 
-// The first value at fault of rows that don't fit the header.
+// The first value at fault of rows that don't fit the header: in a row, or in one row more or less than it asks for.
 fn misfit(network: Network) -> Fault {
     let columns = network.columns();
     let rows = network.rows();
     let mut found = Lines::of(network.body()).enumerate();
     match found.find(|(_, row)| values_in(row) != columns) {
-        Some((k, row)) if (k as u64) < rows => Fault {
-            row: (k as u64).saturating_add(1),
-            column: values_in(row).min(columns).saturating_add(1),
-            what: what(values_in(row), columns),
-        },
+        Some((row, values)) if row < rows => {
+            let got = values_in(values);
+            Fault {
+                row,
+                column: got.min(columns),
+                what: what(got, columns),
+            }
+        }
         _ => {
             let got = network.row_count();
             Fault {
-                row: got.min(rows).saturating_add(1),
-                column: 1,
+                row: got.min(rows),
+                column: 0,
                 what: what(got, rows),
             }
         }
@@ -88,7 +86,7 @@ fn header_off(network: Network, k: u64) {
 // Rows that don't fit the header.
 fn rows_off(network: Network) {
     let fault = misfit(network);
-    let number = network.before.saturating_add(fault.row);
+    let number = network.line_of(fault.row);
     let mut note = Note::at_line(network.file, number);
     cell(&mut note, fault.row, fault.column);
     note.words(fault.what);
@@ -113,27 +111,22 @@ fn value_is(note: &mut Note, t: &[u8], nodata: &[u8]) {
     });
 }
 
-// The first value of a row that is refused, and how many stand before it.
+// The first value of a row that is refused, and its number.
 fn first_over<'a>(row: &'a [u8], nodata: &[u8]) -> Option<(usize, &'a [u8])> {
     row.split(|b| *b == b' ')
         .enumerate()
         .find(|(_, t)| is_over(t, nodata))
 }
 
-// A value is refused, in row `number`.
-fn value_off(network: Network, number: u64, row: &[u8]) {
-    let nodata = network.nodata;
-    let (before, value) = first_over(row, nodata).unwrap_or((0, b""));
-    let mut note = Note::at_line(network.file, network.before.saturating_add(number));
-    cell(&mut note, number, (before as u64).saturating_add(1));
-    value_is(&mut note, value, nodata);
-    end(note, 13, network, row);
-}
-
 // The values are refused: the first row that has such a value.
 pub(crate) fn values_off(network: Network) {
+    let nodata = network.nodata;
     let mut rows = Lines::of(network.body()).enumerate();
-    let found = rows.find(|(_, row)| first_over(row, network.nodata).is_some());
-    let (before, row) = found.unwrap_or((0, b""));
-    value_off(network, (before as u64).saturating_add(1), row);
+    let found = rows.find(|(_, row)| first_over(row, nodata).is_some());
+    let (k, row) = found.unwrap_or((0, b""));
+    let (column, value) = first_over(row, nodata).unwrap_or((0, b""));
+    let mut note = Note::at_line(network.file, network.line_of(k));
+    cell(&mut note, k, column);
+    value_is(&mut note, value, nodata);
+    end(note, 13, network, row);
 }

@@ -5,7 +5,7 @@
 
 use crate::row::{header, reason};
 use flights::TRACK_COLUMNS;
-use said::note::Note;
+use said::note::{self, Note};
 use said::part::first_line;
 use said::row::Row;
 
@@ -39,12 +39,12 @@ pub fn refused_in(
 
 // A read failed at line `number` of a file of so many columns; the movements are standard input.
 pub fn unread(file: &[u8], number: u64, columns: usize) {
+    if columns != TRACK_COLUMNS {
+        note::unread(file, number, 16);
+        return;
+    }
     let mut note = Note::at_line(file, number);
-    note.words(if columns == TRACK_COLUMNS {
-        b"the file can't be opened in this folder, or can't be read on"
-    } else {
-        b"standard input can't be read on"
-    });
+    note.words(b"the file can't be opened in this folder, or can't be read on");
     note.end(16, b"");
 }
 

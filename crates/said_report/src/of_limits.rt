@@ -15,7 +15,7 @@ fn header_off(note: &mut Note, row: Row) {
         return;
     }
     note.words(b"the number of columns is ");
-    note.number((got as u64).saturating_add(1));
+    note.ordinal(got);
     note.words(b", expected 2 to 9: days, and p1 to p8 at most");
 }
 

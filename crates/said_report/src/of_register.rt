@@ -4,7 +4,7 @@ use crate::table::{Table, first_over};
 use movement::limits::MAX_MASS;
 use register::column::{IDENTITY, LEVELS, MASS};
 use register::header::register_points;
-use said::note::Note;
+use said::note::{self, Note};
 use said::odd;
 use said::part::first_line;
 use said::row::Row;
@@ -101,15 +101,12 @@ pub fn refused_in(
 
 // The register can't be read on.
 pub fn unread(file: &[u8], line: u64) {
-    let mut note = Note::at_line(file, line);
-    note.words(b"standard input can't be read on");
-    note.end(16, b"");
+    note::unread(file, line, 16);
 }
 
 // The whole book is refused.
 pub fn of_book(file: &[u8], refusal: u32) {
-    let mut note = Note::new();
-    note.shown(file);
+    let mut note = Note::of(file);
     note.words(b": ");
     note.general(refusal);
     note.end(refusal, b"");
@@ -127,8 +124,7 @@ pub fn passed_over(file: &[u8], next: u64, ids: &[u32]) {
     if passed == 0 {
         return;
     }
-    let mut note = Note::new();
-    note.shown(file);
+    let mut note = Note::of(file);
     note.words(b": rows of 150 kg or less that were passed over: ");
     note.number(passed);
     note.byte(b'\n');
