@@ -32,21 +32,20 @@ fn trace(
         west: 0,
         south: 0,
     };
-    contour::contours(levels, frame, 60000, edges, counts, closed, sizes);
+    let _answer = contour::contours(levels, frame, 60000, edges, counts, closed, sizes);
 }
 
 fn checker(levels: &mut [u32]) {
-    let mut i = 0;
-    while i < levels.len() {
-        levels[i] = shade(i);
-        i += 1;
+    for (i, level) in levels.iter_mut().enumerate() {
+        *level = shade(i);
     }
 }
 
 // A point whose row and column add up to an even number has 70.000, another 40.000.
 fn shade(i: usize) -> u32 {
     if (i / 256 + i % 256) % 2 == 0 {
-        return 70000;
+        70000
+    } else {
+        40000
     }
-    40000
 }

@@ -7,7 +7,6 @@
 mod full;
 
 use cases::fields::{letter, number, numbers};
-use cases::inner::line_past;
 use cases::show::{list, say, told};
 use network::Frame;
 
@@ -28,7 +27,7 @@ fn frame(line: &[u8]) -> Frame {
 pub(crate) fn front(values: &[u32], n: u32) {
     let n = n as usize;
     if n <= values.len() {
-        list(b"", &values[0..n], b" ");
+        list(b"", &values[..n], b" ");
     }
 }
 
@@ -55,16 +54,16 @@ fn traced(line: &[u8], levels: &[u32]) {
         &mut closed,
         &mut sizes,
     );
-    if answer == 0 {
+    if answer.is_ok() {
         show_answer(&edges, &counts, &closed, sizes);
     }
-    told(line, 8, 0, &[answer as u64]);
+    told(line, 8, 0, &[u64::from(refusal::told(answer))]);
 }
 
 fn show_front(text: &[u8], size: u32) {
     let n = size as usize;
     if n <= text.len() {
-        say(&text[0..n]);
+        say(&text[..n]);
     }
 }
 
@@ -79,11 +78,10 @@ fn printed(line: &[u8], levels: &[u32]) {
 }
 
 fn judge(line: &[u8], levels: &[u32]) {
-    if letter(line) == b't' {
-        traced(line, levels);
-        return;
+    match letter(line) {
+        b't' => traced(line, levels),
+        _ => printed(line, levels),
     }
-    printed(line, levels);
 }
 
 fn case(line: &[u8]) {
@@ -93,11 +91,8 @@ fn case(line: &[u8]) {
 }
 
 fn run(script: &[u8]) {
-    let mut at = 0;
-    while at < script.len() {
-        let next = line_past(script, at);
-        case(&script[at..next]);
-        at = next;
+    for line in script.split_inclusive(|b| *b == b'\n') {
+        case(line);
     }
 }
 
