@@ -8,7 +8,7 @@ use borrow.Author.Tests.{ltb-true, ltb-false}
 use Rattle.text.specs.{Line.lines_of, Field.joined_by, Number.shown, Spelled.bytes, Sheet.ended, Sheet.refused_text}
 use Rattle.text.proofs.Digits.{either}
 use Rattle.flights.specs.{Row.flight_of, Header.header_refusal}
-use Rattle.flights.specs.declared.Flight.{Flight}
+use Rattle.flights.specs.Row.{Flight}
 use Rattle.flights.proofs.{Exact.row_exactly, Headers.headers_are}
 use Rattle.stream.proofs.Firsts.{text_accepted}
 use Rattle.couple_steps.specs.Table.{line_refusal, table_step}

@@ -13,7 +13,7 @@ use Rattle.date.specs.Calendar.{date_exists}
 use Rattle.text.specs.Line.{lines_of, bare_line}
 use Rattle.text.proofs.Digits.{either}
 use Rattle.flights.specs.{Row.flight_of, Row.judged_flight, Row.values_of, Header.header_refusal, Spelled.Spells}
-use Rattle.flights.specs.declared.Flight.{Flight}
+use Rattle.flights.specs.Row.{Flight}
 use Rattle.flights.proofs.{Exact.row_laid, Exact.laid_spells, Exact.row_exactly, Headers.headers_are}
 use Rattle.coupling_rules.specs.Limits.{max_flights}
 use Rattle.stream.specs.Reading.{Reading, opening, lines_read, line_read}

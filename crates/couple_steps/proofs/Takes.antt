@@ -7,7 +7,7 @@ use borrow.Author.Tests.{eq-eqb, ne_eqb, le-leb, lt-leb}
 use Rattle.text.specs.Index.{listing}
 use Rattle.text.proofs.Digits.{either}
 use Rattle.coupling_rules.specs.Limits.{max_flights}
-use Rattle.flights.specs.declared.Flight.{Flight}
+use Rattle.flights.specs.Row.{Flight}
 use Rattle.flights.specs.{Row.flight_of, Header.header_refusal}
 use Rattle.channel.specs.{System.Origin, System.Broken, Input.Came}
 use Rattle.stream.specs.declared.Turn.{Turn}

@@ -17,7 +17,7 @@ use Rattle.text.proofs.Letters.{letter_exact, two_back}
 use Rattle.flights.specs.Column.{has_layout}
 use Rattle.flights.specs.Cell.{class_letters, kind_letters, cell_of, cell_at, got_at, value_at}
 use Rattle.flights.specs.Row.{refused_flight, read_flight, judged_flight, values_of, row_of, flight_of}
-use Rattle.flights.specs.declared.Flight.{Flight}
+use Rattle.flights.specs.Row.{Flight}
 use Rattle.flights.specs.{Spelled.column, Spelled.Spells, Exact.RowExactly}
 use Rattle.flights.proofs.Dates.{date_exact, date_back, date_digits}
 use Rattle.flights.proofs.Names.{name_named, named_name}

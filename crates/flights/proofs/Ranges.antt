@@ -6,7 +6,7 @@ use Rattle.date.specs.Calendar.{date_exists}
 use Rattle.text.specs.Line.{bare_line}
 use Rattle.text.proofs.Digits.{either}
 use Rattle.flights.specs.Row.{judged_flight, values_of, flight_of}
-use Rattle.flights.specs.declared.Flight.{Flight}
+use Rattle.flights.specs.Row.{Flight}
 use Rattle.flights.specs.{Spelled.column, Spelled.Circuit}
 use Rattle.flights.specs.Spelled.Circuit.{blank, marked}
 use Rattle.flights.proofs.Names.{named_name, name_below}

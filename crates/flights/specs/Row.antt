@@ -7,7 +7,18 @@ use Rattle.text.specs.Line.{bare_line}
 use Rattle.text.specs.Spelled.{byte}
 use Rattle.flights.specs.Column.{date_column, movement_columns, has_layout}
 use Rattle.flights.specs.Cell.{got_at, value_at}
-use Rattle.flights.specs.declared.Flight.{Flight}
+use Rattle.std.specs.Prelude.{Result}
+use Rattle.refusal.specs.Refusal.{Answers}
+use Rattle.refusal.specs.declared.Refusal.{Refusal}
+
+-- what a row reads as: refusal 0 and the values of its columns; or 16 or 18, and zeros
+pub record Flight : Type 0 where
+  pub refusal : ℕ
+  pub values : List ℕ
+
+-- a call answers just that
+abbrev pub IsFlight : Flight → Result (List ℕ) Refusal → Type 0
+IsFlight f r = Answers f.refusal f.values r
 
 -- a row that is refused, and one that is read
 abbrev pub refused_flight : ℕ → Flight

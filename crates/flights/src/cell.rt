@@ -14,36 +14,24 @@ use text::same::same_text;
 fn circuit(t: &[u8]) -> Option<u32>
     ensures { result ≡ circuit_of t.now }
 {
-    if t.len() == 0 {
-        return Some(0);
+    match t {
+        [] => Some(0),
+        _ if same_text(t, b"C") => Some(1),
+        _ => None,
     }
-    if same_text(t, b"C") {
-        return Some(1);
-    }
-    None
 }
 
 // What stands in column `k` of a row.
 pub fn cell(k: usize, t: &[u8]) -> Option<u32>
     ensures { result ≡ cell_of k t.now }
 {
-    if k == NUMBER {
-        return whole(t);
+    match k {
+        NUMBER => whole(t),
+        DATE => date(t),
+        TIME => time(t),
+        CLASS => letter(t, b"VH"),
+        KIND => letter(t, b"SL"),
+        _ if k < CIRCUIT => name(t),
+        _ => circuit(t),
     }
-    if k == DATE {
-        return date(t);
-    }
-    if k == TIME {
-        return time(t);
-    }
-    if k == CLASS {
-        return letter(t, b"VH");
-    }
-    if k == KIND {
-        return letter(t, b"SL");
-    }
-    if k < CIRCUIT {
-        return name(t);
-    }
-    circuit(t)
 }

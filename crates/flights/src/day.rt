@@ -16,23 +16,11 @@ fn digits_at(s: &[u8], at: usize, count: usize) -> Option<u32>
 pub(crate) fn date(s: &[u8]) -> Option<u32>
     ensures { result ≡ date_of s.now }
 {
-    if s.len() != 10 {
+    if s.len() != 10 || s[4] != b'-' || s[7] != b'-' {
         return None;
     }
-    if s[4] != b'-' {
-        return None;
-    }
-    if s[7] != b'-' {
-        return None;
-    }
-    let Some(year) = digits_at(s, 0, 4) else {
-        return None;
-    };
-    let Some(month) = digits_at(s, 5, 2) else {
-        return None;
-    };
-    let Some(day) = digits_at(s, 8, 2) else {
-        return None;
-    };
+    let year = digits_at(s, 0, 4)?;
+    let month = digits_at(s, 5, 2)?;
+    let day = digits_at(s, 8, 2)?;
     Some(year * 10000 + month * 100 + day)
 }

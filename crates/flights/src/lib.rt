@@ -3,12 +3,14 @@
 
 ghost use Rattle.std.specs.Prelude.{◌≡◌, ◌≤◌, if◌then◌else◌, nat_eq};
 ghost use Rattle.flights.specs.Column.{movement_columns, has_layout};
-ghost use Rattle.flights.specs.Row.{refused_flight, judged_flight, row_of, flight_of};
+ghost use Rattle.refusal.specs.Refusal.{told};
+ghost use Rattle.flights.specs.Row.{IsFlight, refused_flight, judged_flight, row_of, flight_of};
 ghost use Rattle.flights.specs.Header.{is_header, header_refusal};
 
 use crate::cell::cell;
 use crate::column::DATE;
 use date::date_exists;
+use refusal::Refusal;
 use text::inner::field_end;
 use text::line::bare_length;
 use text::same::same_text;
@@ -23,54 +25,44 @@ pub const TRACK_COLUMNS: usize = 8;
 
 pub const MOVEMENT_COLUMNS: usize = 9;
 
-// What a row reads as: refusal 0 and the values of its columns, a track's circuit 0; or 16 or 18, and zeros.
-#[derive(Clone, Copy)]
-pub struct Flight {
-    pub refusal: u32,
-    pub values: [u32; MOVEMENT_COLUMNS],
-}
+// The values of a row's columns, a track's circuit 0.
+pub type Values = [u32; MOVEMENT_COLUMNS];
 
-fn refused(refusal: u32) -> Flight
-    ensures { result ≡ refused_flight refusal }
+// A row on its layout: its date has to exist.
+fn judged(values: Values) -> Result<Values, Refusal>
+    ensures { IsFlight (judged_flight values) result }
 {
-    Flight {
-        refusal,
-        values: [0u32; MOVEMENT_COLUMNS],
+    if date_exists(values[DATE]) {
+        Ok(values)
+    } else {
+        Err(Refusal::WrongFlights)
     }
-}
-
-// A row on its layout: 18 for a date that doesn't exist.
-fn judged(values: [u32; MOVEMENT_COLUMNS]) -> Flight
-    ensures { result ≡ judged_flight values }
-{
-    if !date_exists(values[DATE]) {
-        return refused(18);
-    }
-    Flight { refusal: 0, values }
 }
 
 // A row that had `k` fields and has to have `count`.
-fn counted(k: usize, count: usize, values: [u32; MOVEMENT_COLUMNS]) -> Flight
-    ensures { result ≡ (if nat_eq k count then judged_flight values else refused_flight 16) }
+fn counted(k: usize, count: usize, values: Values) -> Result<Values, Refusal>
+    ensures { IsFlight (if nat_eq k count then judged_flight values else refused_flight 16) result }
 {
-    if k != count {
-        return refused(16);
+    if k == count {
+        judged(values)
+    } else {
+        Err(Refusal::OffLayout)
     }
-    judged(values)
 }
 
 // A line that has to have `count` fields, in one pass.
-fn read_row(s: &[u8], count: usize) -> Flight
+fn read_row(s: &[u8], count: usize) -> Result<Values, Refusal>
     requires { (1 ≤ count) × (count ≤ movement_columns) }
-    ensures { result ≡ row_of count s.now }
+    ensures { IsFlight (row_of count s.now) result }
 {
     let mut values = [0u32; MOVEMENT_COLUMNS];
     let mut at = 0;
     let mut k = 0;
+    // Kept: (d) where the next field begins is found with the end of this one.
     loop {
         let end = field_end(s, at, b',');
         let Some(v) = cell(k, &s[at..end]) else {
-            return refused(16);
+            return Err(Refusal::OffLayout);
         };
         values[k] = v;
         k += 1;
@@ -78,7 +70,7 @@ fn read_row(s: &[u8], count: usize) -> Flight
             return counted(k, count, values);
         }
         if count <= k {
-            return refused(16);
+            return Err(Refusal::OffLayout);
         }
         at = end + 1;
     }
@@ -88,18 +80,15 @@ fn read_row(s: &[u8], count: usize) -> Flight
 fn has_layout(columns: usize) -> bool
     ensures { result ≡ has_layout columns }
 {
-    if columns == TRACK_COLUMNS {
-        return true;
-    }
-    columns == MOVEMENT_COLUMNS
+    columns == TRACK_COLUMNS || columns == MOVEMENT_COLUMNS
 }
 
-// Reads a row of so many columns, with its CRLF or without: 16, then 18.
-pub fn read_flight(s: &[u8], columns: usize) -> Flight
-    ensures { result ≡ flight_of columns s.now }
+// Reads a row of so many columns, with its CRLF or without. It has to be on its layout, and then its date to exist.
+pub fn read_flight(s: &[u8], columns: usize) -> Result<Values, Refusal>
+    ensures { IsFlight (flight_of columns s.now) result }
 {
     if !has_layout(columns) {
-        return refused(16);
+        return Err(Refusal::OffLayout);
     }
     let n = bare_length(s);
     read_row(&s[..n], columns)
@@ -109,18 +98,20 @@ pub fn read_flight(s: &[u8], columns: usize) -> Flight
 fn is_header(s: &[u8], columns: usize) -> bool
     ensures { result ≡ is_header columns s.now }
 {
-    if columns == TRACK_COLUMNS {
-        return same_text(s, b"track,date,time,class,kind,runway,airport,type");
+    match columns {
+        TRACK_COLUMNS => same_text(s, b"track,date,time,class,kind,runway,airport,type"),
+        MOVEMENT_COLUMNS => same_text(s, b"id,date,time,class,kind,runway,airport,type,circuit"),
+        _ => false,
     }
-    if columns == MOVEMENT_COLUMNS {
-        return same_text(s, b"id,date,time,class,kind,runway,airport,type,circuit");
-    }
-    false
 }
 
-// 16 for a line that isn't the header of so many columns, byte for byte and without its CRLF; else 0.
-pub fn header_refusal(s: &[u8], columns: usize) -> u32
-    ensures { result ≡ header_refusal columns s.now }
+// A line has to be the header of so many columns, byte for byte and without its CRLF.
+pub fn header_refusal(s: &[u8], columns: usize) -> Result<(), Refusal>
+    ensures { told result ≡ header_refusal columns s.now }
 {
-    if is_header(s, columns) { 0 } else { 16 }
+    if is_header(s, columns) {
+        Ok(())
+    } else {
+        Err(Refusal::OffLayout)
+    }
 }

@@ -1,26 +1,17 @@
--- `flights::is_header` meets its contract. Assumes nothing.
-use mathlib.Core.Path.{◌∙◌}
-use borrow.Author.{Tests.eq-eqb, Tests.ne_eqb}
+-- `flights::is_header` meets its contract, arm by arm. Assumes nothing.
+use Rattle.std.proofs.Common.{arith, ◌∙◌}
+use Rattle.std.proofs.lemmas.Bool.Decides.{nat_tests}
 use Rattle.flights.specs.Header.{is_header}
 use Rattle.flights.proofs.is_header.Goals as goal
 
-pub returns-then-columns-eq-TRACK_COLUMNS : goal.returns-then-columns-eq-TRACK_COLUMNS
+pub returns-in-8 : goal.returns-in-8
 unfolding is_header
-returns-then-columns-eq-TRACK_COLUMNS c =
-    c.same_text.ensures ∙ rw (eq-eqb c.args.columns 8 c.if-columns-eq-TRACK_COLUMNS.true)
+returns-in-8 c = grind (arith, nat_tests)
 
-pub returns-then-columns-eq-MOVEMENT_COLUMNS : goal.returns-then-columns-eq-MOVEMENT_COLUMNS
+pub returns-in-9 : goal.returns-in-9
 unfolding is_header
-returns-then-columns-eq-MOVEMENT_COLUMNS c =
-    c.same_text-then-columns-eq-MOVEMENT_COLUMNS.ensures ∙ rw (
-      ne_eqb c.args.columns 8 c.if-columns-eq-TRACK_COLUMNS.false,
-      eq-eqb c.args.columns 9 c.if-columns-eq-MOVEMENT_COLUMNS.true,
-    )
+returns-in-9 c = c.same_text-in-9.ensures ∙ rw c.in-9.is
 
-pub returns : goal.returns
+pub returns-in_default : goal.returns-in_default
 unfolding is_header
-returns c =
-    rw (
-      ne_eqb c.args.columns 8 c.if-columns-eq-TRACK_COLUMNS.false,
-      ne_eqb c.args.columns 9 c.if-columns-eq-MOVEMENT_COLUMNS.false,
-    )
+returns-in_default c = grind (arith, nat_tests)

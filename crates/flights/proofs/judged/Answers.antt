@@ -1,14 +1,15 @@
 -- `flights::judged` meets its contract: by whether the date exists. Assumes nothing.
-use mathlib.Core.Path.{◌∙◌}
+use mathlib.Core.Path.{refl}
 use Rattle.refusal.proofs.Laws.{settled}
 use Rattle.flights.specs.Row.{judged_flight}
 use Rattle.flights.proofs.judged.Goals as goal
 
-pub returns-then-not-date_exists : goal.returns-then-not-date_exists
+pub returns-then-date_exists : goal.returns-then-date_exists
 unfolding judged_flight
-returns-then-not-date_exists c =
-    c.refused.ensures ∙ rw (settled c.date_exists.ensures c.if-not-date_exists.true)
+returns-then-date_exists c =
+    rw (settled c.date_exists.ensures c.if-date_exists.true) (record { number = refl; answer = refl })
 
-pub returns : goal.returns
+pub returns-else-date_exists : goal.returns-else-date_exists
 unfolding judged_flight
-returns c = rw (settled c.date_exists.ensures c.if-not-date_exists.false)
+returns-else-date_exists c =
+    rw (settled c.date_exists.ensures c.if-date_exists.false) (record { number = refl; answer = tt })

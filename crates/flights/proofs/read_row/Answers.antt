@@ -1,5 +1,5 @@
 use Rattle.std.specs.Prelude.{◌+◌, ◌≤◌, length, drop, set}
-use mathlib.Core.{Path.◌≡◌, Path.refl, Path.sym, Path.ap, Path.◌∙◌, Bool.true}
+use mathlib.Core.{Path.◌≡◌, Path.refl, Path.sym, Path.ap, Path.subst, Path.◌∙◌, Bool.true}
 use native.Mathlib.Omega.{arith}
 use lib.ListN.{length-drop}
 use Rattle.text.specs.{Field.count_of, Index.every, Index.listing, Number.is_got, Number.value_of}
@@ -7,10 +7,16 @@ use Rattle.std.specs.Prelude.{Some, None}
 use Rattle.text.proofs.Fields.{FieldAt, at_start_rule, at_cut, at_next, at_last, up_length}
 use Rattle.text.proofs.Indices.{every_none, every_more, every_fails, store_more}
 use Rattle.flights.specs.Cell.{cell_of, cell_at, got_at, value_at}
-use Rattle.flights.specs.Row.{values_of}
+use Rattle.std.specs.Prelude.{Err}
+use Rattle.refusal.specs.declared.Refusal.TheVariants.{OffLayout}
+use Rattle.flights.specs.Row.{Flight, IsFlight, refused_flight, values_of}
 use Rattle.flights.proofs.Readings.{row_other, row_off, row_counted}
 use Rattle.flights.proofs.read_row.Goals as goal
 use Rattle.flights.proofs.read_row.Goals.{After-field_end-end, Else-s-end, In-Some}
+
+-- a row that is off its layout
+refuses : {f : Flight} → f ≡ refused_flight 16 → IsFlight f (Err OffLayout)
+refuses e = rw e (record { number = refl; answer = tt })
 
 -- the field ends within the line
 within : (c : After-field_end-end)
@@ -28,8 +34,7 @@ returns-in_default c =
     c.cell.ensures
     ∙ ap (cell_of k) (at_cut c.loop-v.invariant.1 c.field_end-end.result c.field_end-end.ensures) in
     let off : cell_at s k ≡ None = sym here ∙ c.in_default.is in
-    c.refused.ensures ∙ sym (row_off s c.args.count
-    (every_fails (got_at s) k c.args.count c.loop-v.invariant.3 (ap is_got off)))
+    refuses (row_off s c.args.count (every_fails (got_at s) k c.args.count c.loop-v.invariant.3 (ap is_got off)))
 
 -- one column more
 more : (c : In-Some) →
@@ -55,7 +60,7 @@ returns-then-s-end c =
     let m = more (goal.at.returns-then-s-end c).In-Some in
     let last = at_last l.invariant.1 c.field_end-end.result c.field_end-end.ensures c.if-s-end.true in
     let n : count_of 44 s + 1 ≡ l.k + 1 = omega arith in
-    c.counted.ensures ∙ rw m.1 (sym (row_counted s c.args.count (l.k + 1) n m.0))
+    subst (λ (f : Flight). IsFlight f c.counted.result) (sym (row_counted s c.args.count (l.k + 1) n m.0)) (rw m.1 at c.counted.ensures)
 
 -- a field follows
 next : (c : Else-s-end) →
@@ -66,7 +71,7 @@ next c =
 
 pub returns-then-count-k : goal.returns-then-count-k
 returns-then-count-k c =
-    c.refused-then-count-k.ensures ∙ sym (row_other c.args.s.now c.args.count
+    refuses (row_other c.args.s.now c.args.count
     (λ e. omega (arith, (next (goal.at.returns-then-count-k c).Else-s-end).count, c.if-count-k.true)))
 
 pub loop-v-smaller : goal.loop-v-smaller

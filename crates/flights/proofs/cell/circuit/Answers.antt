@@ -1,26 +1,17 @@
 -- `flights::cell::circuit` meets its contract. Assumes nothing.
-use mathlib.Core.Path.{sym, ◌∙◌}
-use borrow.Author.{Tests.eq-eqb, Tests.ne_eqb}
-use Rattle.std.specs.Prelude.{length}
+use Rattle.std.proofs.Common.{arith}
+use Rattle.std.proofs.lemmas.Bool.Decides.{nat_tests}
 use Rattle.flights.specs.Cell.{circuit_of}
 use Rattle.flights.proofs.cell.circuit.Goals as goal
 
-pub returns-then-t-eq0 : goal.returns-then-t-eq0
+pub returns-in-empty : goal.returns-in-empty
 unfolding circuit_of
-returns-then-t-eq0 c = rw (eq-eqb (length c.args.t.now) 0 c.if-t-eq0.true)
+returns-in-empty c = grind (arith, nat_tests)
 
-pub returns-then-same_text : goal.returns-then-same_text
+pub returns-in_default : goal.returns-in_default
 unfolding circuit_of
-returns-then-same_text c =
-    rw (
-      ne_eqb (length c.args.t.now) 0 c.if-t-eq0.false,
-      sym c.same_text.ensures ∙ c.if-same_text.true,
-    )
+returns-in_default c = grind (arith, nat_tests)
 
-pub returns : goal.returns
+pub returns-in_default-2 : goal.returns-in_default-2
 unfolding circuit_of
-returns c =
-    rw (
-      ne_eqb (length c.args.t.now) 0 c.if-t-eq0.false,
-      sym c.same_text.ensures ∙ c.if-same_text.false,
-    )
+returns-in_default-2 c = grind (arith, nat_tests)

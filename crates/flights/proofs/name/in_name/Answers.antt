@@ -1,19 +1,13 @@
--- `flights::name::in_name` meets its contract: each test on the way settles one of `in_name`'s. Assumes nothing.
-use borrow.Author.Tests.{le-leb}
-use Rattle.text.proofs.Digits.{digit_high}
+-- `flights::name::in_name` meets its contract: a digit, or else a capital letter. Assumes nothing.
+use Rattle.std.proofs.Common.{arith}
+use Rattle.std.proofs.lemmas.Bool.Decides.{nat_tests}
 use Rattle.flights.specs.Name.{in_name}
-use Rattle.flights.proofs.Names.{name_low, name_digit, name_between}
 use Rattle.flights.proofs.name.in_name.Goals as goal
 
-pub returns-then-c-lt48 : goal.returns-then-c-lt48
-returns-then-c-lt48 c = rw (name_low _ c.if-c-lt48.true)
-
-pub returns-then-c-le57 : goal.returns-then-c-le57
-returns-then-c-le57 c = rw (name_digit _ c.if-c-lt48.false c.if-c-le57.true)
-
-pub returns-then-c-lt65 : goal.returns-then-c-lt65
-returns-then-c-lt65 c = rw (name_between _ c.if-c-le57.false c.if-c-lt65.true)
-
-pub returns : goal.returns
+pub returns-then-is_ascii_digit : goal.returns-then-is_ascii_digit
 unfolding in_name
-returns c = simp (digit_high _ c.if-c-le57.false, le-leb 65 _ c.if-c-lt65.false)
+returns-then-is_ascii_digit c = grind (arith, nat_tests)
+
+pub returns-else-is_ascii_digit : goal.returns-else-is_ascii_digit
+unfolding in_name
+returns-else-is_ascii_digit c = grind (arith, nat_tests)
