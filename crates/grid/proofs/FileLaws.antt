@@ -1,5 +1,5 @@
 -- A whole text: what follows the header, and the two together. Assumes nothing.
-use Rattle.std.specs.Prelude.{ℕ, suc, ◌+◌, ◌≤◌, Bool, true, false, cond}
+use Rattle.std.specs.Prelude.{ℕ, suc, ◌+◌, ◌≤◌, Bool, true, false, cond, Result, Ok, Err}
 use mathlib.Core.{Path.◌≡◌, Path.sym, Path.ap, Path.◌∙◌, List.List, List.[], List.◌∷◌, List.◌++◌, List.map}
 use native.Mathlib.{Nat.add-zero, Omega.arith}
 use lib.{ListN.length, ListN.drop, Seq.drop-drop}
@@ -11,8 +11,7 @@ use Rattle.grid.specs.File.{names, names_well, spelled_in, unnamed, sixth, head_
 use Rattle.grid.specs.File.{rows_of, first_off, fault_line, rows_fit}
 use Rattle.grid.specs.InnerSteps.{lines_at, line_from, Passed, row_sound, rows_read, body_on, body_rows, body_no_data}
 use Rattle.grid.specs.InnerSteps.{body_read, file_read}
-use Rattle.grid.specs.declared.judge.File.{File}
-use Rattle.grid.specs.declared.judge.File.TheVariants.{On, Off}
+use Rattle.grid.specs.declared.{head.Fault.Fault, judge.File.File}
 use Rattle.grid.proofs.{HeadLaws.line_of, RowLaws.off_later}
 
 -- tests that all hold, and then others; tests one of which fails, and then others
@@ -36,9 +35,9 @@ off_keep n (false ∷ bs) cs k h e = e
 module _ (s : List ℕ) (at : ℕ) (frame : Frame) where
   body_from_rule : (first from : ℕ) (nodata : List ℕ)
       → first_off 6 (body_on s at) ≡ first_off first (map (is_row nodata) (lines_at s from))
-      → lines_at s from ≡ body_rows s at → nodata ≡ body_no_data s at → from ≤ length s → (r : File)
+      → lines_at s from ≡ body_rows s at → nodata ≡ body_no_data s at → from ≤ length s → (r : Result File Fault)
       → rows_read s from nodata frame first r → body_read s at frame r
-  body_from_rule first from nodata on rows same h (On f place fits sound) q = (
+  body_from_rule first from nodata on rows same h (Ok file) q = (
     on ∙ q.0,
     q.1,
     omega (arith, q.2),
@@ -46,11 +45,11 @@ module _ (s : List ℕ) (at : ℕ) (frame : Frame) where
     q.3 ∙ ap (rows_fit frame) rows,
     q.4 ∙ ap (λ x. all (row_sound x) (lines_at s from)) same ∙ ap (all (row_sound (body_no_data s at))) rows,
   )
-  body_from_rule first from nodata on rows same h (Off n) q = (on ∙ q.0, q.1)
+  body_from_rule first from nodata on rows same h (Err fault) q = (on ∙ q.0, q.1)
 
   pub body_named : (next : ℕ) (nodata : List ℕ) → names (line_from s at) ≡ true
       → names_well (line_from s at) ≡ true → nodata ≡ spelled_in (line_from s at)
-      → Passed s at next → (r : File) → rows_read s next nodata frame 7 r → body_read s at frame r
+      → Passed s at next → (r : Result File Fault) → rows_read s next nodata frame 7 r → body_read s at frame r
   body_named next nodata named well same p =
       let line = line_from s at in
       let on : body_on s at ≡ true ∷ map (is_row nodata) (lines_at s next) =
@@ -65,7 +64,7 @@ module _ (s : List ℕ) (at : ℕ) (frame : Frame) where
       (same ∙ sym (ap (λ b. cond b (spelled_in line) unnamed) named))
       p.inside
 
-  pub body_unnamed : names (line_from s at) ≡ false → at ≤ length s → (r : File)
+  pub body_unnamed : names (line_from s at) ≡ false → at ≤ length s → (r : Result File Fault)
       → rows_read s at unnamed frame 6 r → body_read s at frame r
   body_unnamed other h =
       let line = line_from s at in
@@ -76,9 +75,10 @@ module _ (s : List ℕ) (at : ℕ) (frame : Frame) where
       (sym (ap (λ b. cond b (spelled_in line) unnamed) other))
       h
 
-  pub body_off : names (line_from s at) ≡ true → names_well (line_from s at) ≡ false → body_read s at frame (Off 6)
+  pub body_off : names (line_from s at) ≡ true → names_well (line_from s at) ≡ false
+      → (fault : Fault) → fault.line ≡ 6 → body_read s at frame (Err fault)
   unfolding first_off
-  body_off named ill = (rw (named, ill), omega arith)
+  body_off named ill fault e = (rw (named, ill) (sym e), omega (arith, e))
 
 -- a whole text, from its header and what follows it
 module _ (s : List ℕ) (at : ℕ) (here : lines_at s at ≡ drop 5 (lines_of s)) where
@@ -104,21 +104,23 @@ module _ (s : List ℕ) (at : ℕ) (here : lines_at s at ≡ drop 5 (lines_of s)
   unfolding fault_line
   fault_here e = off_append 1 (head_on (lines_of s)) _ (omega arith) e ∙ ap (first_off 6) (sym on_here)
 
-  pub file_on : (f : Frame) → first_off 1 (head_on (lines_of s)) ≡ 0 → frame_of (lines_of s) ≡ f → (r : File)
+  pub file_on : (f : Frame) → first_off 1 (head_on (lines_of s)) ≡ 0 → frame_of (lines_of s) ≡ f
+      → (r : Result File Fault)
       → body_read s at f r → file_read s r
-  file_on f head same (On g from fits sound) q = (
+  file_on f head same (Ok file) q = (
     fault_here head ∙ q.0,
     record {
       frame = q.1 ∙ sym same;
       inside = q.2;
       rows = q.3 ∙ rows_here;
-      fitted = q.4 ∙ ap (λ x. rows_fit x (body_rows s at)) (sym q.1) ∙ ap (rows_fit g) rows_here;
+      fitted = q.4 ∙ ap (λ x. rows_fit x (body_rows s at)) (sym q.1) ∙ ap (rows_fit file.frame) rows_here;
       levels = q.5 ∙ ap (λ x. all (row_sound x) (body_rows s at)) data_here
           ∙ ap (all (row_sound (no_data_of (lines_of s)))) rows_here;
     },
   )
-  file_on f head same (Off n) q = (fault_here head ∙ q.0, q.1)
+  file_on f head same (Err fault) q = (fault_here head ∙ q.0, q.1)
 
-pub file_off : (s : List ℕ) (n : ℕ) → first_off 1 (head_on (lines_of s)) ≡ n → 1 ≤ n → file_read s (Off n)
+pub file_off : (s : List ℕ) (fault : Fault) → first_off 1 (head_on (lines_of s)) ≡ fault.line → 1 ≤ fault.line
+    → file_read s (Err fault)
 unfolding fault_line
-file_off s n e h = (off_keep 1 (head_on (lines_of s)) _ n h e, h)
+file_off s fault e h = (off_keep 1 (head_on (lines_of s)) _ fault.line h e, h)

@@ -3,28 +3,42 @@ use Rattle.std.specs.Prelude.{ℕ, zero, suc, ◌+◌, ◌-◌, ◌<◌, ◌≤�
 use mathlib.Core.{Path.◌≡◌, Path.refl, Path.sym, Path.ap, Path.◌∙◌, List.List, List.[], List.◌∷◌}
 use mathlib.Core.Bool.{true≢false}
 use native.Mathlib.Omega.{arith}
-use borrow.Author.Tests.{ltb-true, ltb-false, ne_eqb}
-use lib.{Dec.ltb, ListN.length, ListN.get_or, ListN.take, ListN.drop, ListN.length-drop, ListN.get_or-eq_default}
-use lib.Seq.{take_all, take-nil, length-take-le, get_or-drop, drop-drop}
-use Rattle.text.specs.{Line.lines_of, Number.is_got}
-use Rattle.std.specs.Prelude.{Some, None}
-use Rattle.text.proofs.{Digits.either, Sames.same_length}
+use borrow.Author.Tests.{ltb-true, ltb-false, eqb-true, eq-eqb, ne_eqb}
+use lib.{Dec.eqb, Dec.ltb}
+use lib.ListN.{length, get_or, take, drop, length-drop, get_or-eq_default}
+use lib.Seq.{take-nil, length-take-le, get_or-drop, drop-drop}
+use Rattle.std.specs.Cmp.Lexicographic.{pointwise}
+use Rattle.text.specs.{Line.lines_of, Number.is_got, Same.same_text}
+use Rattle.std.specs.Prelude.{Some, None, Ok, Err}
+use Rattle.text.proofs.{Digits.either}
 use Rattle.grid.specs.File.{begins, number_after, number_at, head_on, first_off, names_well, spelled_in}
 use Rattle.grid.specs.InnerSteps.{lines_at, line_from, LineAt, key_read}
-use Rattle.grid.specs.declared.head.{Line.Line, Keyed.Keyed}
-use Rattle.grid.specs.declared.head.Keyed.TheVariants as keyed
+use Rattle.grid.specs.declared.head.{Line.Line, Fault.Fault, Keyed.Keyed}
 use Rattle.grid.proofs.LineLaws.{passed_at}
 
--- a line that is shorter than a word doesn't begin with it
-pub begins_short : (word line : List ℕ) → length line < length word → begins word line ≡ false
-unfolding begins
-begins_short word line h = rw (take_all (length word) line (omega arith)) (same_length line word (λ e. omega arith))
+-- what std says of a prefix is what the rules say
+pub same_pointwise : (a b : List ℕ) → pointwise eqb a b ≡ same_text a b
+unfolding same_text
+same_pointwise [] [] = refl
+same_pointwise [] (y ∷ b) = refl
+same_pointwise (x ∷ a) [] = refl
+same_pointwise (x ∷ a) (y ∷ b) = rw (same_pointwise a b)
 
-pub begins_long : (word line : List ℕ) → begins word line ≡ true → length word ≤ length line
-begins_long word line e =
-    either (ltb (length line) (length word))
-    (λ short. absurd (true≢false (sym e ∙ begins_short word line (ltb-true _ _ short))))
-    (λ long. ltb-false _ _ long)
+eqb_swap : (x y : ℕ) → eqb x y ≡ eqb y x
+eqb_swap x y =
+    either (eqb x y)
+    (λ yes. yes ∙ sym (eq-eqb y x (sym (eqb-true x y yes))))
+    (λ no. no ∙ sym (ne_eqb y x (λ e. true≢false (sym (eq-eqb x y (sym e)) ∙ no))))
+
+pointwise_swap : (a b : List ℕ) → pointwise eqb a b ≡ pointwise eqb b a
+pointwise_swap [] [] = refl
+pointwise_swap [] (y ∷ b) = refl
+pointwise_swap (x ∷ a) [] = refl
+pointwise_swap (x ∷ a) (y ∷ b) = rw (eqb_swap x y, pointwise_swap a b)
+
+pub begins_pointwise : (word line : List ℕ) → pointwise eqb word (take (length word) line) ≡ begins word line
+unfolding begins
+begins_pointwise word line = pointwise_swap word _ ∙ same_pointwise _ word
 
 -- line k of a text, where it starts at `at`
 pub line_of : (s : List ℕ) (at k : ℕ) → lines_at s at ≡ drop k (lines_of s)
@@ -46,15 +60,13 @@ pub record KeyStep (s key : List ℕ) (k n next : ℕ) : Type 0 where
   pub number : number_at key k (lines_of s) ≡ Some n
   pub seen : Seen s (k + 1) next
 
-module _ (s : List ℕ) (at : ℕ) (key : List ℕ) {r : Keyed} (k : ℕ) (seen : Seen s k at)
-    (read : key_read s at key r)
+module _ (s : List ℕ) (at : ℕ) (key : List ℕ) (k : ℕ) (seen : Seen s k at)
     (here : drop k (head_on (lines_of s)) ≡ is_got (number_at key k (lines_of s)) ∷ drop (k + 1) (head_on (lines_of s)))
   where
-    pub key_step : {n next : ℕ} → r ≡ keyed.Got n next → KeyStep s key k n next
+    pub key_step : (read : Keyed) → key_read s at (k + 1) key (Ok read) → KeyStep s key k read.number read.next
     unfolding first_off
-    key_step {n} {next} e =
-        let got : key_read s at key (keyed.Got n next) = rw e at read in
-        let number : number_at key k (lines_of s) ≡ Some n =
+    key_step read got =
+        let number : number_at key k (lines_of s) ≡ Some read.number =
         ap (number_after key) (sym (line_of s at k seen.rest)) ∙ got.0 in
         record {
           number = number;
@@ -66,13 +78,13 @@ module _ (s : List ℕ) (at : ℕ) (key : List ℕ) {r : Keyed} (k : ℕ) (seen 
         }
 
     -- where it is off its layout, it is the first
-    pub key_stop : r ≡ keyed.Off → first_off 1 (head_on (lines_of s)) ≡ k + 1
+    pub key_stop : (fault : Fault) → key_read s at (k + 1) key (Err fault)
+        → (first_off 1 (head_on (lines_of s)) ≡ fault.line) × (1 ≤ fault.line)
     unfolding first_off
-    key_stop e =
-        let got : key_read s at key keyed.Off = rw e at read in
+    key_stop fault got =
         let number : number_at key k (lines_of s) ≡ None =
-        ap (number_after key) (sym (line_of s at k seen.rest)) ∙ got in
-        seen.on ∙ ap (first_off (k + 1)) here ∙ rw number
+        ap (number_after key) (sym (line_of s at k seen.rest)) ∙ got.0 in
+        (seen.on ∙ ap (first_off (k + 1)) here ∙ rw number (sym got.1), omega (arith, got.1))
 
 -- a line that names no-data well has its spelling past the word and a space
 pub names_short : (line : List ℕ) → length line < 13 → names_well line ≡ false

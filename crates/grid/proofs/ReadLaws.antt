@@ -15,7 +15,9 @@ use Rattle.grid.specs.Row.{all, values_of, given, has_values, row_given, level_i
 use Rattle.grid.specs.File.{frame_of, no_data_of, rows_of, fault_line, rows_fit}
 use Rattle.grid.specs.Read.{numbers_of, header_size, text_frame, text_levels, lines_refusal, read_refusal}
 use Rattle.grid.specs.Read.{header_after, levels_after}
+use Rattle.grid.specs.declared.judge.File.{File}
 use Rattle.grid.specs.InnerSteps.{is_sound, row_sound, Judged, Rows, shape_refusal}
+use mathlib.Core.Bool.{and_comm}
 use Rattle.grid.proofs.StoreLaws.{levels_length}
 
 -- ---- sound values: given, and no level too high
@@ -25,12 +27,6 @@ mid true true c d = refl
 mid true false true d = refl
 mid true false false d = refl
 mid false b c d = refl
-
-and_comm : (a b : Bool) → (a && b) ≡ (b && a)
-and_comm true true = refl
-and_comm true false = refl
-and_comm false true = refl
-and_comm false false = refl
 
 pub up_append : (most : ℕ) (a b : List ℕ) → all_within most (a ++ b) ≡ (all_within most a && all_within most b)
 unfolding all_within
@@ -135,8 +131,16 @@ pub off_layout_rule : (s : List ℕ) (n headers room : ℕ) → fault_line (line
 unfolding lines_refusal
 off_layout_rule s n headers room e h = rw (ne_eqb (fault_line (lines_of s)) 0 (λ z. omega arith))
 
-module _ (s : List ℕ) (f : Frame) (at : ℕ) (fits sound : Bool) (on : fault_line (lines_of s) ≡ 0)
-    (j : Judged s f at fits sound) where
+module _ (s : List ℕ) (file : File) (on : fault_line (lines_of s) ≡ 0) (j : Judged s file) where
+  abbrev f : Frame
+  f = file.frame
+
+  abbrev fits : Bool
+  fits = file.fits
+
+  abbrev sound : Bool
+  sound = file.sound
+
   judged : (headers room : ℕ)
       → read_refusal s headers room ≡ refuse 12 (fits && sided f && placed f)
       (refuse 13 sound (refuse 14 (roomy s headers room) 0))
@@ -176,7 +180,7 @@ module _ (s : List ℕ) (f : Frame) (at : ℕ) (fits sound : Bool) (on : fault_l
     levels_number : length (text_levels s) ≡ f.rows * f.columns
     levels_number = fit_length f (rows_of (lines_of s)) fitted
 
-    pub rows_ready : Rows s at f.columns f.rows
+    pub rows_ready : Rows s file.rows f.columns f.rows
     rows_ready =
         let b = fit_both f (rows_of (lines_of s)) fitted in
         record {

@@ -1,5 +1,5 @@
 -- The rows of a text, one line after the other. Assumes nothing.
-use Rattle.std.specs.Prelude.{ℕ, suc, ◌+◌, ◌<◌, ◌≤◌, Bool, true, false, cond, ◌&&◌}
+use Rattle.std.specs.Prelude.{ℕ, suc, ◌+◌, ◌<◌, ◌≤◌, Bool, true, false, cond, ◌&&◌, Some, None}
 use mathlib.Core.{Path.◌≡◌, Path.refl, Path.sym, Path.ap, Path.◌∙◌, List.List, List.[], List.◌∷◌, List.map}
 use mathlib.Core.Bool.{and-true}
 use native.Mathlib.{Nat.add-zero, Nat.add_assoc, Omega.arith}
@@ -8,28 +8,28 @@ use Rattle.network.specs.declared.Frame.{Frame}
 use Rattle.grid.specs.{Row.all, Row.values_of, Row.is_row, Row.has_values, File.first_off, File.rows_fit}
 use Rattle.grid.specs.InnerSteps.{lines_at, line_from, LineAt, row_sound, row_of}
 use Rattle.grid.specs.declared.head.Line.{Line}
-use Rattle.grid.specs.declared.judge.Row.TheVariants.{Values, Off}
+use Rattle.grid.specs.declared.judge.Row.{Row}
 use Rattle.grid.proofs.LineLaws.{line_here, line_none}
 use Rattle.grid.proofs.ValueLaws.{all_cons, all_none, and_assoc}
 
 -- a line's answer says what it is
-row_got : (nodata line : List ℕ) (n : ℕ) (fine : Bool) → row_of nodata line ≡ Values n fine
-    → (is_row nodata line ≡ true) × (length (values_of line) ≡ n) × (row_sound nodata line ≡ fine)
+row_got : (nodata line : List ℕ) (row : Row) → row_of nodata line ≡ Some row
+    → (is_row nodata line ≡ true) × (length (values_of line) ≡ row.values) × (row_sound nodata line ≡ row.sound)
 unfolding row_of
-row_got nodata line n fine e = got (is_row nodata line) (length (values_of line)) n (row_sound nodata line) fine e
+row_got nodata line row e = got (is_row nodata line) _ row e
   where
-    got : (b : Bool) (m n : ℕ) (x y : Bool) → cond b (Values m x) Off ≡ Values n y
-        → (b ≡ true) × (m ≡ n) × (x ≡ y)
-    got true m n x y e = (refl, cc, cc)
-    got false m n x y e = let z : ◌≡◌ {A = ℕ} 0 1 = cc in absurd (omega arith)
+    got : (b : Bool) (r row : Row) → cond b (Some r) None ≡ Some row
+        → (b ≡ true) × (r.values ≡ row.values) × (r.sound ≡ row.sound)
+    got true r row e = (refl, cc, cc)
+    got false r row e = cc
 
-row_lost : (nodata line : List ℕ) → row_of nodata line ≡ Off → is_row nodata line ≡ false
+row_lost : (nodata line : List ℕ) → row_of nodata line ≡ None → is_row nodata line ≡ false
 unfolding row_of
-row_lost nodata line e = lost (is_row nodata line) (length (values_of line)) (row_sound nodata line) e
+row_lost nodata line e = lost (is_row nodata line) _ e
   where
-    lost : (b : Bool) (m : ℕ) (x : Bool) → cond b (Values m x) Off ≡ Off → b ≡ false
-    lost true m x e = let z : ◌≡◌ {A = ℕ} 0 1 = cc in absurd (omega arith)
-    lost false m x e = refl
+    lost : (b : Bool) (r : Row) → cond b (Some r) None ≡ None → b ≡ false
+    lost true r e = cc
+    lost false r e = refl
 
 -- the first test that fails, by the first of them
 pub off_here : (n : ℕ) (rest : List Bool) → first_off n (false ∷ rest) ≡ n
@@ -77,16 +77,17 @@ module _ {nodata : List ℕ} {columns first : ℕ} {s : List ℕ} {from at count
         (drop 1 (lines_at s at))
     tests = ap (map (is_row nodata)) (line_here s at h)
 
-    pub rows_off_rule : row_of nodata (line_from s at) ≡ Off
+    pub rows_off_rule : row_of nodata (line_from s at) ≡ None
         → first_off first (map (is_row nodata) (lines_at s from)) ≡ first + count
     rows_off_rule e = w.on ∙ ap (first_off (first + count)) tests
         ∙ rw (row_lost nodata (line_from s at) e) (off_here (first + count) _)
 
-    pub rows_next : (l : Line) → LineAt s at l → (n : ℕ) (fine : Bool)
-        → row_of nodata (line_from s at) ≡ Values n fine
-        → RowsAt nodata columns first s from l.next (count + 1) (fits && eqb n columns) (sound && fine)
-    rows_next l line n fine e =
-        let g = row_got nodata (line_from s at) n fine e in
+    pub rows_next : (l : Line) → LineAt s at l → (row : Row) → row_of nodata (line_from s at) ≡ Some row
+        → RowsAt nodata columns first s from l.next (count + 1) (fits && eqb row.values columns) (sound && row.sound)
+    rows_next l line row e =
+        let n = row.values in
+        let fine = row.sound in
+        let g = row_got nodata (line_from s at) row e in
         let r = line.passed.rest in
         let k : count + suc (length (drop 1 (lines_at s at))) ≡ length (lines_at s from) =
         sym (ap (λ x. count + length x) (line_here s at h)) ∙ w.number in

@@ -3,16 +3,14 @@ use Rattle.std.specs.Prelude.{ℕ, suc, ◌+◌, ◌-◌, ◌<◌, ◌≤◌, Bo
 use mathlib.Core.{Path.◌≡◌, Path.refl, Path.sym, Path.ap, Path.◌∙◌, List.List, List.[], List.◌∷◌}
 use mathlib.Core.Bool.{and-true}
 use native.Mathlib.Omega.{arith}
-use borrow.Author.Tests.{ltb-true, ltb-false, le-leb, lt-leb}
+use borrow.Author.Tests.{ltb-true, ltb-false}
 use lib.{Dec.eqb, Dec.ltb, ListN.length, ListN.take, ListN.drop, ListN.length-drop, Seq.drop-drop}
 use Rattle.text.specs.{Field.up_to, Field.after, Line.onto, Number.thousandths_of, Number.is_got, Same.same_text}
-use Rattle.std.specs.Prelude.{Some, None}
-use Rattle.std.specs.Prelude.{Some}
+use Rattle.std.specs.Prelude.{Some, None, leb}
 use Rattle.network.specs.Limits.{max_network_level}
 use Rattle.text.proofs.{Digits.either, Fields.up_take, Fields.up_length, Fields.after-drop}
 use Rattle.grid.specs.Row.{all, values_of, is_value, is_row}
-use Rattle.grid.specs.InnerSteps.{is_sound, row_sound, value_refusal, row_of}
-use Rattle.grid.specs.declared.judge.Row.TheVariants.{Values, Off}
+use Rattle.grid.specs.InnerSteps.{is_sound, row_sound, value_read, row_of}
 
 values_last : (s : List ℕ) → length s ≤ length (up_to 32 s) → values_of s ≡ up_to 32 s ∷ []
 unfolding values_of up_to
@@ -68,48 +66,36 @@ module _ (s : List ℕ) (at end : ℕ) (h : at ≤ length s) (e : end ≡ at + l
       (λ no. first_and (last_at (ltb-false end (length s) no)))
 
 -- one value judged
-why : Bool → Bool → ℕ
-why a b = cond a (cond b 0 13) 17
-
-three : (a b : Bool) → why a b ≡ 17 → a ≡ false
-unfolding why
-three true true e = absurd (omega arith)
-three true false e = absurd (omega arith)
-three false b e = refl
-
-three_on : (a b : Bool) → (why a b ≡ 17 → ⊥) → (a ≡ true) × (eqb (why a b) 0 ≡ b)
-unfolding why
-three_on true true f = (refl, refl)
-three_on true false f = (refl, refl)
-three_on false b f = absurd (f refl)
-
 module _ (nodata t : List ℕ) where
-  pub value_off_rule : value_refusal nodata t ≡ 17 → is_value nodata t ≡ false
-  unfolding value_refusal why
-  value_off_rule e = three (is_value nodata t) (is_sound nodata t) e
+  pub value_off_rule : value_read nodata t ≡ None → is_value nodata t ≡ false
+  unfolding value_read
+  value_off_rule e = go (is_value nodata t) (is_sound nodata t) e
+    where
+      go : (a b : Bool) → cond a (Some b) None ≡ None → a ≡ false
+      go true b e = cc
+      go false b e = refl
 
-  pub value_on : (value_refusal nodata t ≡ 17 → ⊥)
-      → (is_value nodata t ≡ true) × (eqb (value_refusal nodata t) 0 ≡ is_sound nodata t)
-  unfolding value_refusal why
-  value_on f = three_on (is_value nodata t) (is_sound nodata t) f
+  pub value_on : (fine : Bool) → value_read nodata t ≡ Some fine
+      → (is_value nodata t ≡ true) × (is_sound nodata t ≡ fine)
+  unfolding value_read
+  value_on fine e = go (is_value nodata t) (is_sound nodata t) e
+    where
+      go : (a b : Bool) → cond a (Some b) None ≡ Some fine → (a ≡ true) × (b ≡ fine)
+      go true b e = (refl, cc)
+      go false b e = cc
 
-  -- no data, a level, one too high, neither
-  pub none_here : same_text t nodata ≡ true → value_refusal nodata t ≡ 13
-  unfolding value_refusal
+  -- no data, a level, neither
+  pub none_here : same_text t nodata ≡ true → value_read nodata t ≡ Some false
+  unfolding value_read
   none_here e = rw e (either (is_got (thousandths_of t)) (λ y. rw y) (λ n. rw n))
 
-  pub level_here : (v : ℕ) → same_text t nodata ≡ false → thousandths_of t ≡ Some v → v ≤ max_network_level
-      → value_refusal nodata t ≡ 0
-  unfolding value_refusal
-  level_here v e l h = rw (e, l, le-leb v max_network_level h)
+  pub level_here : (v : ℕ) → same_text t nodata ≡ false → thousandths_of t ≡ Some v
+      → value_read nodata t ≡ Some (leb v max_network_level)
+  unfolding value_read
+  level_here v e l = rw (e, l)
 
-  pub high_here : (v : ℕ) → same_text t nodata ≡ false → thousandths_of t ≡ Some v → max_network_level < v
-      → value_refusal nodata t ≡ 13
-  unfolding value_refusal
-  high_here v e l h = rw (e, l, lt-leb v max_network_level h)
-
-  pub neither_here : same_text t nodata ≡ false → thousandths_of t ≡ None → value_refusal nodata t ≡ 17
-  unfolding value_refusal
+  pub neither_here : same_text t nodata ≡ false → thousandths_of t ≡ None → value_read nodata t ≡ None
+  unfolding value_read
   neither_here e l = rw (e, l)
 
 -- a test of all, by the first
@@ -139,7 +125,7 @@ row_start nodata s = record { within = omega arith; few = omega arith; on = refl
 
 module _ {nodata s : List ℕ} {at count : ℕ} {sound : Bool} (w : RowAt nodata s at count sound) (end : ℕ)
     (e : end ≡ at + length (up_to 32 (drop at s))) where
-  pub row_off : is_value nodata (between s at end) ≡ false → row_of nodata s ≡ Off
+  pub row_off : is_value nodata (between s at end) ≡ false → row_of nodata s ≡ None
   unfolding row_of
   row_off f =
       let v = some_at s at end w.within e in
@@ -148,7 +134,7 @@ module _ {nodata s : List ℕ} {at count : ℕ} {sound : Bool} (w : RowAt nodata
       rw no
 
   pub row_last : length s ≤ end → is_value nodata (between s at end) ≡ true
-      → row_of nodata s ≡ Values (count + 1) (sound && is_sound nodata (between s at end))
+      → row_of nodata s ≡ Some (record { values = count + 1; sound = sound && is_sound nodata (between s at end) })
   unfolding row_of
   row_last b f =
       let v = last_at s at end w.within e b in

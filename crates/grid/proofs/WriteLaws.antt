@@ -4,7 +4,7 @@ use Rattle.std.specs.Prelude.{take, drop}
 use mathlib.Core.Path.{refl, sym, ap, ◌∙◌}
 use mathlib.Core.List.{append-nil}
 use native.Mathlib.{Nat.suc-mul, Nat.mul-le-mul, Nat.mul-le-mul_right, Numerals.add-one, Omega.arith}
-use borrow.Author.Tests.{ltb-true, ltb-false, le-leb, lt-leb, eq-eqb, ne_eqb}
+use borrow.Author.Tests.{ltb-true, ltb-false, le-leb, eq-eqb, ne_eqb}
 use lib.ListN.{length-append, length-drop, drop_of_length-le, get_or-eq_default}
 use lib.Seq.{length-take-le, drop-cons, get_or-take, get_or-drop}
 use Rattle.text.specs.{Number.show_thousandths, Field.joined_by}
@@ -142,16 +142,6 @@ module _ (levels : List ℕ) (f : Frame) (text sizes : List ℕ) where
   network_refused n e h = refused n (checked_off max_network_level levels f _ (λ z. h (e ∙ z)) ∙ sym e) h
 
   module _ (none : network_refusal levels f ≡ 0) where
-    pub text_refused : length text < length (show_network levels f) → Outcome 14 text sizes
-    text_refused h = refused 14 (checked_on max_network_level levels f _ none
-        ∙ rw (lt-leb (length (show_network levels f)) (length text) h)) (λ z. omega arith)
-
-    pub size_refused : length (show_network levels f) ≤ length text → length sizes < 1 → Outcome 14 text sizes
-    size_refused h l =
-        refused 14 (checked_on max_network_level levels f _ none
-        ∙ rw (le-leb (length (show_network levels f)) (length text) h, lt-leb 1 (length sizes) l))
-        (λ z. omega arith)
-
     pub written : length (show_network levels f) ≤ length text → 1 ≤ length sizes
         → Outcome 0 (front (show_network levels f) text) (front (length (show_network levels f) ∷ []) sizes)
     written h l =

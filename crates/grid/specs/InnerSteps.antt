@@ -5,7 +5,7 @@ use Rattle.std.specs.Prelude.{length, take, drop, nat_le, slice_index, slice_ind
 use Rattle.text.specs.Number.{show_thousandths}
 use Rattle.text.specs.Line.{lines_of}
 use Rattle.text.specs.Spelled.{crlf}
-use Rattle.std.specs.Prelude.{Some, None}
+use Rattle.std.specs.Prelude.{Option, Some, None, Result, Ok, Err}
 use Rattle.refusal.specs.Refuse.{refuse}
 use Rattle.network.specs.Limits.{max_network_level, max_origin}
 use Rattle.network.specs.Refusals.{sided, placed}
@@ -16,16 +16,12 @@ use Rattle.grid.specs.File.{names, names_well, spelled_in, head_on, frame_of, no
 use Rattle.grid.specs.File.{fault_line, rows_fit}
 use Rattle.grid.specs.Write.{key_line}
 use Rattle.grid.specs.declared.head.Line.{Line}
+use Rattle.grid.specs.declared.head.Fault.{Fault}
 use Rattle.grid.specs.declared.head.Keyed.{Keyed}
-use Rattle.grid.specs.declared.head.Keyed.TheVariants as keyed
 use Rattle.grid.specs.declared.head.Head.{Head}
-use Rattle.grid.specs.declared.head.Head.TheVariants as head
-use Rattle.grid.specs.declared.head.NoData.{NoData}
-use Rattle.grid.specs.declared.head.NoData.TheVariants as nodata
+use Rattle.grid.specs.declared.head.Named.{Named}
 use Rattle.grid.specs.declared.judge.Row.{Row}
-use Rattle.grid.specs.declared.judge.Row.TheVariants as row
 use Rattle.grid.specs.declared.judge.File.{File}
-use Rattle.grid.specs.declared.judge.File.TheVariants as file
 
 -- the lines from a place on, and the first of them
 abbrev pub lines_at : List ℕ → ℕ → List (List ℕ)
@@ -47,46 +43,50 @@ pub record LineAt (s : List ℕ) (at : ℕ) (l : Line) : Type 0 where
   pub line : take (l.end - at) (drop at s) ≡ line_from s at
   pub passed : Passed s at l.next
 
--- the number of the header line at `at`
-abbrev pub key_read : (s : List ℕ) (at : ℕ) (key : List ℕ) → Keyed → Type 0
-key_read s at key (keyed.Got n next) = (number_after key (line_from s at) ≡ Some n) × Passed s at next
-key_read s at key keyed.Off = number_after key (line_from s at) ≡ None
+-- the number of the header line at `at`, which is line `line` of its text
+abbrev pub key_read : (s : List ℕ) (at line : ℕ) (key : List ℕ) → Result Keyed Fault → Type 0
+key_read s at line key (Ok k) = (number_after key (line_from s at) ≡ Some k.number) × Passed s at k.next
+key_read s at line key (Err fault) = (number_after key (line_from s at) ≡ None) × (fault.line ≡ line)
 
 -- the five header lines
-abbrev pub head_read : List ℕ → Head → Type 0
-head_read s (head.Got f at) =
-    (first_off 1 (head_on (lines_of s)) ≡ 0) × (frame_of (lines_of s) ≡ f) × (at ≤ length s)
-    × (lines_at s at ≡ drop 5 (lines_of s))
-head_read s (head.Off n) = (first_off 1 (head_on (lines_of s)) ≡ n) × (1 ≤ n)
+abbrev pub head_read : List ℕ → Result Head Fault → Type 0
+head_read s (Ok head) =
+    (first_off 1 (head_on (lines_of s)) ≡ 0) × (frame_of (lines_of s) ≡ head.frame) × (head.next ≤ length s)
+    × (lines_at s head.next ≡ drop 5 (lines_of s))
+head_read s (Err fault) = (first_off 1 (head_on (lines_of s)) ≡ fault.line) × (1 ≤ fault.line)
 
 -- the line at `at` as one that may name the no-data value
-abbrev pub no_data_read : List ℕ → ℕ → NoData → Type 0
-no_data_read s at (nodata.Named start end next) =
-    (names (line_from s at) ≡ true) × (names_well (line_from s at) ≡ true) × (start ≤ end) × (end ≤ length s)
-    × (slice_range s start end ≡ spelled_in (line_from s at)) × Passed s at next
-no_data_read s at nodata.Unnamed = names (line_from s at) ≡ false
-no_data_read s at nodata.Off = (names (line_from s at) ≡ true) × (names_well (line_from s at) ≡ false)
+abbrev pub no_data_read : List ℕ → ℕ → Result (Option Named) Fault → Type 0
+no_data_read s at (Ok (Some named)) =
+    (names (line_from s at) ≡ true) × (names_well (line_from s at) ≡ true) × (named.start ≤ named.end)
+    × (named.end ≤ length s) × (slice_range s named.start named.end ≡ spelled_in (line_from s at))
+    × Passed s at named.next
+no_data_read s at (Ok None) = names (line_from s at) ≡ false
+no_data_read s at (Err fault) =
+    (names (line_from s at) ≡ true) × (names_well (line_from s at) ≡ false) × (fault.line ≡ 6)
 
--- one value: 17 where it is none, 13 for no data or too high a level, or 0
+-- one value: whether it is sound, which no data and too high a level are not, or that it is none
 abbrev pub is_sound : List ℕ → List ℕ → Bool
 is_sound nodata t = given nodata t && nat_le (level_in t) max_network_level
 
-unfoldable pub value_refusal : List ℕ → List ℕ → ℕ
-value_refusal nodata t = refuse 17 (is_value nodata t) (refuse 13 (is_sound nodata t) 0)
+unfoldable pub value_read : List ℕ → List ℕ → Option Bool
+value_read nodata t = cond (is_value nodata t) (Some (is_sound nodata t)) None
 
 abbrev pub row_sound : List ℕ → List ℕ → Bool
 row_sound nodata line = all (is_sound nodata) (values_of line)
 
-unfoldable pub row_of : List ℕ → List ℕ → Row
-row_of nodata line = cond (is_row nodata line) (row.Values (length (values_of line)) (row_sound nodata line)) row.Off
+unfoldable pub row_of : List ℕ → List ℕ → Option Row
+row_of nodata line =
+    cond (is_row nodata line) (Some (record { values = length (values_of line); sound = row_sound nodata line })) None
 
 -- rows from `from` on, the first of which is line `first`
-abbrev pub rows_read : (s : List ℕ) (from : ℕ) (nodata : List ℕ) (frame : Frame) (first : ℕ) → File → Type 0
-rows_read s from nodata frame first (file.On f at fits sound) =
-    (first_off first (map (is_row nodata) (lines_at s from)) ≡ 0) × (f ≡ frame) × (at ≡ from)
-    × (fits ≡ rows_fit frame (lines_at s from)) × (sound ≡ all (row_sound nodata) (lines_at s from))
-rows_read s from nodata frame first (file.Off n) =
-    (first_off first (map (is_row nodata) (lines_at s from)) ≡ n) × (1 ≤ n)
+abbrev pub rows_read : (s : List ℕ) (from : ℕ) (nodata : List ℕ) (frame : Frame) (first : ℕ)
+    → Result File Fault → Type 0
+rows_read s from nodata frame first (Ok file) =
+    (first_off first (map (is_row nodata) (lines_at s from)) ≡ 0) × (file.frame ≡ frame) × (file.rows ≡ from)
+    × (file.fits ≡ rows_fit frame (lines_at s from)) × (file.sound ≡ all (row_sound nodata) (lines_at s from))
+rows_read s from nodata frame first (Err fault) =
+    (first_off first (map (is_row nodata) (lines_at s from)) ≡ fault.line) × (1 ≤ fault.line)
 
 -- what follows the five header lines, from `at` on
 abbrev pub body_on : List ℕ → ℕ → List Bool
@@ -101,23 +101,24 @@ body_rows s at = cond (names (line_from s at)) (drop 1 (lines_at s at)) (lines_a
 abbrev pub body_no_data : List ℕ → ℕ → List ℕ
 body_no_data s at = cond (names (line_from s at)) (spelled_in (line_from s at)) unnamed
 
-abbrev pub body_read : (s : List ℕ) (at : ℕ) (frame : Frame) → File → Type 0
-body_read s at frame (file.On f from fits sound) =
-    (first_off 6 (body_on s at) ≡ 0) × (f ≡ frame) × (from ≤ length s) × (lines_at s from ≡ body_rows s at)
-    × (fits ≡ rows_fit frame (body_rows s at)) × (sound ≡ all (row_sound (body_no_data s at)) (body_rows s at))
-body_read s at frame (file.Off n) = (first_off 6 (body_on s at) ≡ n) × (1 ≤ n)
+abbrev pub body_read : (s : List ℕ) (at : ℕ) (frame : Frame) → Result File Fault → Type 0
+body_read s at frame (Ok file) =
+    (first_off 6 (body_on s at) ≡ 0) × (file.frame ≡ frame) × (file.rows ≤ length s)
+    × (lines_at s file.rows ≡ body_rows s at) × (file.fits ≡ rows_fit frame (body_rows s at))
+    × (file.sound ≡ all (row_sound (body_no_data s at)) (body_rows s at))
+body_read s at frame (Err fault) = (first_off 6 (body_on s at) ≡ fault.line) × (1 ≤ fault.line)
 
 -- what a text on its layout is judged to be
-pub record Judged (s : List ℕ) (f : Frame) (at : ℕ) (fits sound : Bool) : Type 0 where
-  pub frame : f ≡ frame_of (lines_of s)
-  pub inside : at ≤ length s
-  pub rows : lines_at s at ≡ rows_of (lines_of s)
-  pub fitted : fits ≡ rows_fit f (rows_of (lines_of s))
-  pub levels : sound ≡ all (row_sound (no_data_of (lines_of s))) (rows_of (lines_of s))
+pub record Judged (s : List ℕ) (file : File) : Type 0 where
+  pub frame : file.frame ≡ frame_of (lines_of s)
+  pub inside : file.rows ≤ length s
+  pub rows : lines_at s file.rows ≡ rows_of (lines_of s)
+  pub fitted : file.fits ≡ rows_fit file.frame (rows_of (lines_of s))
+  pub levels : file.sound ≡ all (row_sound (no_data_of (lines_of s))) (rows_of (lines_of s))
 
-abbrev pub file_read : List ℕ → File → Type 0
-file_read s (file.On f at fits sound) = (fault_line (lines_of s) ≡ 0) × Judged s f at fits sound
-file_read s (file.Off n) = (fault_line (lines_of s) ≡ n) × (1 ≤ n)
+abbrev pub file_read : List ℕ → Result File Fault → Type 0
+file_read s (Ok file) = (fault_line (lines_of s) ≡ 0) × Judged s file
+file_read s (Err fault) = (fault_line (lines_of s) ≡ fault.line) × (1 ≤ fault.line)
 
 -- so many lines from `from` on, each a row of so many values
 pub record Rows (s : List ℕ) (from columns rows : ℕ) : Type 0 where

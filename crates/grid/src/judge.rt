@@ -1,77 +1,73 @@
 // The whole of a network text judged before anything is stored: the first line off the layout, or whether its rows fit
 // and its levels are sound.
 ghost use Rattle.std.specs.Prelude.{◌≡◌, ◌≤◌, length};
-ghost use Rattle.grid.specs.InnerSteps.{value_refusal, row_of, rows_read, body_read, file_read};
+ghost use Rattle.grid.specs.InnerSteps.{value_read, row_of, rows_read, body_read, file_read};
 
-use crate::head::{Head, NoData, line_at, no_data, read_head};
+use crate::head::{Fault, line_at, no_data, read_head};
 use network::Frame;
 use network::limits::MAX_NETWORK_LEVEL;
-use refusal::both;
 use text::inner::field_end;
 use text::number::thousandths;
-use text::same::same_text;
 
-// The refusal of one value: 17 where it is none, 13 for no data or too high a level, or 0.
-fn value_refusal(s: &[u8], nodata: &[u8]) -> u32
-    ensures { result ≡ value_refusal nodata.now s.now }
+// Whether a value is sound, which no data and too high a level are not; it may be neither no data nor a level.
+fn judge_value(s: &[u8], nodata: &[u8]) -> Option<bool>
+    ensures { result ≡ value_read nodata.now s.now }
 {
-    if same_text(s, nodata) {
-        return 13;
+    if s == nodata {
+        return Some(false);
     }
-    match thousandths(s) {
-        Some(v) => {
-            if v <= MAX_NETWORK_LEVEL {
-                return 0;
-            }
-            13
-        }
-        None => 17,
-    }
+    Some(thousandths(s)? <= MAX_NETWORK_LEVEL)
 }
 
-// How many values a row has and whether all of them are sound, or that it is off the layout.
+// How many values a row has, and whether all of them are sound.
 #[derive(Clone, Copy)]
-pub enum Row {
-    Values(usize, bool),
-    Off,
+pub struct Row {
+    pub values: usize,
+    pub sound: bool,
 }
 
-// Judges the values of a row.
-fn judge_row(s: &[u8], nodata: &[u8]) -> Row
+// Judges the values of a row, which may be off the layout.
+fn judge_row(s: &[u8], nodata: &[u8]) -> Option<Row>
     ensures { result ≡ row_of nodata.now s.now }
 {
     let mut at = 0;
-    let mut count = 0;
+    let mut values = 0;
     let mut sound = true;
     loop {
         let end = field_end(s, at, b' ');
-        let refusal = value_refusal(&s[at..end], nodata);
-        if refusal == 17 {
-            return Row::Off;
-        }
-        sound = both(sound, refusal == 0);
-        count += 1;
+        let fine = judge_value(&s[at..end], nodata)?;
+        sound &= fine;
+        values += 1;
         if s.len() <= end {
-            return Row::Values(count, sound);
+            return Some(Row { values, sound });
         }
         at = end + 1;
     }
 }
 
-// What a text is judged to be: its frame, the place of its rows, whether they fit the frame and whether all values are
-// sound; or the first line off the layout.
+// What a text on its layout is judged to be: its frame, the place of its rows, whether they fit the frame and whether
+// all values are sound.
 #[derive(Clone, Copy)]
-pub enum File {
-    On(Frame, usize, bool, bool),
-    Off(usize),
+pub struct File {
+    pub frame: Frame,
+    pub rows: usize,
+    pub fits: bool,
+    pub sound: bool,
 }
 
 // Judges the rows from `from` on, the first of which is line `first`.
-fn judge_rows(s: &[u8], from: usize, nodata: &[u8], frame: Frame, first: usize) -> File
+fn judge_rows(
+    s: &[u8],
+    from: usize,
+    nodata: &[u8],
+    frame: Frame,
+    first: usize,
+) -> Result<File, Fault>
     requires { (from ≤ length s.now) × (1 ≤ first) × (first ≤ 7) }
     ensures { rows_read s.now from nodata.now frame first result }
 {
     let columns = frame.columns as usize;
+    let rows = frame.rows as usize;
     let mut at = from;
     let mut count = 0;
     let mut fits = true;
@@ -79,37 +75,44 @@ fn judge_rows(s: &[u8], from: usize, nodata: &[u8], frame: Frame, first: usize) 
     while at < s.len() {
         let line = line_at(s, at);
         let end = line.end;
-        let Row::Values(values, fine) = judge_row(&s[at..end], nodata) else {
-            return File::Off(first + count);
+        let Some(row) = judge_row(&s[at..end], nodata) else {
+            return Err(Fault {
+                line: first + count,
+            });
         };
-        fits = both(fits, values == columns);
-        sound = both(sound, fine);
+        fits &= row.values == columns;
+        sound &= row.sound;
         count += 1;
         at = line.next;
     }
-    let rows = frame.rows as usize;
-    let all = both(count == rows, fits);
-    File::On(frame, from, all, sound)
+    fits &= count == rows;
+    Ok(File {
+        frame,
+        rows: from,
+        fits,
+        sound,
+    })
 }
 
 // Judges what follows the five header lines, from `at` on.
-fn judge_body(s: &[u8], at: usize, frame: Frame) -> File
+fn judge_body(s: &[u8], at: usize, frame: Frame) -> Result<File, Fault>
     requires { at ≤ length s.now }
     ensures { body_read s.now at frame result }
 {
-    match no_data(s, at) {
-        NoData::Named(start, end, next) => judge_rows(s, next, &s[start..end], frame, 7),
-        NoData::Unnamed => judge_rows(s, at, b"-9999", frame, 6),
-        NoData::Off => File::Off(6),
+    match no_data(s, at)? {
+        Some(named) => {
+            let start = named.start;
+            let end = named.end;
+            judge_rows(s, named.next, &s[start..end], frame, 7)
+        }
+        None => judge_rows(s, at, b"-9999", frame, 6),
     }
 }
 
 // Judges a whole text.
-pub(crate) fn judge(s: &[u8]) -> File
+pub(crate) fn judge(s: &[u8]) -> Result<File, Fault>
     ensures { file_read s.now result }
 {
-    match read_head(s) {
-        Head::Got(frame, at) => judge_body(s, at, frame),
-        Head::Off(line) => File::Off(line),
-    }
+    let head = read_head(s)?;
+    judge_body(s, head.next, head.frame)
 }

@@ -57,10 +57,8 @@ fn put_values(out: &mut [u8], from: usize, row: &[u32]) -> usize
     ensures { Wrote out.old from (row_line row.now) out.new result }
 {
     let mut at = put_thousandths(out, from, row[0]);
-    let mut i = 1;
-    while i < row.len() {
-        at = put_spaced(out, at, row[i]);
-        i += 1;
+    for level in &row[1..] {
+        at = put_spaced(out, at, *level);
     }
     at
 }
@@ -83,10 +81,8 @@ fn put_rows(out: &mut [u8], from: usize, levels: &[u32], columns: usize, rows: u
         out.new result }
 {
     let mut at = from;
-    let mut left = rows;
-    while 0 < left {
-        left -= 1;
-        let start = left * columns;
+    for row in (0..rows).rev() {
+        let start = row * columns;
         at = put_row(out, at, &levels[start..start + columns]);
     }
     at

@@ -13,13 +13,11 @@ fn level_size(v: u32) -> usize
     requires { v ≤ max_network_level }
     ensures { result ≡ length (show_thousandths v) }
 {
-    if v < 10000 {
-        return 5;
+    match v {
+        0..=9_999 => 5,
+        10_000..=99_999 => 6,
+        _ => 7,
     }
-    if v < 100000 {
-        return 6;
-    }
-    7
 }
 
 // The bytes of levels, each with the byte that follows it.
@@ -28,10 +26,8 @@ fn levels_size(levels: &[u32]) -> usize
     ensures { result ≡ sizes_of levels.now }
 {
     let mut total = 0;
-    let mut i = 0;
-    while i < levels.len() {
-        total = total + level_size(levels[i]) + 1;
-        i += 1;
+    for level in levels {
+        total += level_size(*level) + 1;
     }
     total
 }
@@ -44,7 +40,7 @@ fn whole_size(n: u32) -> usize
     let mut left = n;
     let mut size = 1;
     while 10 <= left {
-        left = left / 10;
+        left /= 10;
         size += 1;
     }
     size

@@ -14,10 +14,7 @@ use text::number::thousandths;
 fn level_in(s: &[u8]) -> u32
     ensures { result ≡ level_in s.now }
 {
-    match thousandths(s) {
-        Some(v) => v,
-        None => 0,
-    }
+    thousandths(s).unwrap_or(0)
 }
 
 // Stores a row's levels from `to` on, where there is room for them.
@@ -38,26 +35,17 @@ fn store_row(s: &[u8], out: &mut [u32], to: usize)
     }
 }
 
-// How many of the rows lie south of one, which is counted from 1 in the north.
-fn rows_south(row: usize, rows: usize) -> usize
-    requires { (1 ≤ row) × (row ≤ rows) }
-    ensures { result ≡ rows - row }
-{
-    rows - row
-}
-
 // Stores the levels of all rows from `from` on, each of `columns` values, the last row first.
 pub(crate) fn store_rows(s: &[u8], from: usize, columns: usize, rows: usize, out: &mut [u32])
     requires { Rows s.now from columns rows × (rows * columns ≤ length out.old) }
     ensures { out.new ≡ front (levels_of (lines_at s.now from)) out.old }
 {
     let mut at = from;
-    let mut row = 0;
+    let mut south = rows;
     while at < s.len() {
         let line = line_at(s, at);
         let end = line.end;
-        row += 1;
-        let south = rows_south(row, rows);
+        south -= 1;
         store_row(&s[at..end], out, south * columns);
         at = line.next;
     }
@@ -71,9 +59,12 @@ pub(crate) fn store_frame(frame: Frame, out: &mut [u32])
     requires { header_size ≤ length out.old }
     ensures { out.new ≡ front (numbers_of frame) out.old }
 {
-    out[0] = frame.columns;
-    out[1] = frame.rows;
-    out[2] = frame.spacing;
-    out[3] = frame.west;
-    out[4] = frame.south;
+    let numbers = [
+        frame.columns,
+        frame.rows,
+        frame.spacing,
+        frame.west,
+        frame.south,
+    ];
+    out[..HEADER_SIZE].copy_from_slice(&numbers);
 }

@@ -1,22 +1,27 @@
 -- `grid::head::names_well` meets its contract. Assumes nothing.
 use mathlib.Core.Path.{sym, ap, ◌∙◌}
-use borrow.Author.{Tests.eq-eqb, Tests.ne_eqb}
-use Rattle.std.specs.Prelude.{get_or}
+use native.Mathlib.Omega.{arith}
+use borrow.Author.Tests.{leb-true}
 use Rattle.text.proofs.Digits.{part-rest}
 use Rattle.grid.specs.File.{names_well, is_spelling}
 use Rattle.grid.proofs.HeadLaws.{names_short}
 use Rattle.grid.proofs.head.names_well.Goals as goal
+use Rattle.grid.proofs.head.names_well.Goals.{then-line-ge-SPELLED, else-line-ge-SPELLED}
 
-pub returns-then-line-ne32 : goal.returns-then-line-ne32
+pub returns-then-line-eq32 : goal.returns-then-line-eq32
 unfolding names_well
-returns-then-line-ne32 c = let s = c.args.line.now in rw (ne_eqb (get_or s 12 0) 32 c.if-line-ne32.true)
+returns-then-line-eq32 c =
+    elim c.if-line-ge-SPELLED.branch [
+      | then-line-ge-SPELLED w ↦ rw (sym w.value-is ∙ c.if-line-eq32.true)
+          (c.is_spelling.ensures ∙ ap is_spelling (part-rest c.args.line.now 13))
+      | else-line-ge-SPELLED w ↦ absurd
+          (omega (arith, leb-true _ _ (sym w.value-is ∙ c.if-line-eq32.true)))
+    ]
 
-pub returns : goal.returns
+pub returns-else-line-eq32 : goal.returns-else-line-eq32
 unfolding names_well
-returns c =
-    let s = c.args.line.now in
-    rw (eq-eqb (get_or s 12 0) 32 c.if-line-ne32.false) (c.is_spelling.ensures
-    ∙ ap is_spelling (part-rest s 13))
-
-pub returns-then-line-lt-SPELLED : goal.returns-then-line-lt-SPELLED
-returns-then-line-lt-SPELLED c = sym (names_short _ c.if-line-lt-SPELLED.true)
+returns-else-line-eq32 c =
+    elim c.if-line-ge-SPELLED.branch [
+      | then-line-ge-SPELLED w ↦ c.if-line-eq32.false ∙ rw (sym w.value-is ∙ c.if-line-eq32.false)
+      | else-line-ge-SPELLED w ↦ c.if-line-eq32.false ∙ sym (names_short _ w.if-line-ge-SPELLED.false)
+    ]

@@ -5,8 +5,8 @@ use lib.{ListN.length}
 use Rattle.grid.proofs.ValueLaws.{RowAt}
 use Rattle.grid.proofs.judge.judge_row.Given as goal
 
-abbrev pub invariant-loop-at : goal.invariant-loop-at
-invariant-loop-at l = RowAt l.nodata l.s l.at l.count l.sound
+abbrev pub invariant-loop-fine : goal.invariant-loop-fine
+invariant-loop-fine l = RowAt l.nodata l.s l.at l.values l.sound
 
-abbrev pub decreases-loop-at : goal.decreases-loop-at
-decreases-loop-at l = length l.s - l.at
+abbrev pub decreases-loop-fine : goal.decreases-loop-fine
+decreases-loop-fine l = length l.s - l.at

@@ -3,6 +3,7 @@ use mathlib.Core.Path.{refl, sym, ap, ◌∙◌}
 use native.Mathlib.Omega.{arith}
 use Rattle.grid.specs.InnerSteps.{line_from, row_of}
 use Rattle.grid.proofs.RowLaws.{rows_start, rows_off_rule, rows_next, rows_on, rows_fit_rule, rows_sound_rule}
+use mathlib.Core.Bool.{and_comm}
 use Rattle.grid.proofs.judge.judge_rows.Goals as goal
 use Rattle.grid.proofs.judge.judge_rows.Goals.{After-judge_row}
 
@@ -45,16 +46,16 @@ loop-at-preserved c =
     let i = c.loop-at.invariant in
     let l = c.line_at-line in
     let h = c.loop-at-test.true in
-    rw (c.both-fits.ensures, c.both-sound.ensures)
-    (rows_next i h l.result l.ensures c.in-Values.values c.in-Values.fine
-    (sym (judged (goal.at.loop-at-preserved c).After-judge_row) ∙ c.in-Values.is))
+    rows_next i h l.result l.ensures c.in-Some.row
+    (sym (judged (goal.at.loop-at-preserved c).After-judge_row) ∙ c.in-Some.is)
 
 pub returns : goal.returns
 returns c =
     let a = c.args in
     let i = c.loop-at.invariant in
     let h = c.loop-at-test.false in
-    (rows_on i h, refl, refl, c.both-all.ensures ∙ sym (rows_fit_rule i h a.frame refl), sym (rows_sound_rule i h))
+    let fit = and_comm c.loop-at.fits _ ∙ sym (rows_fit_rule i h a.frame refl) in
+    (rows_on i h, refl, refl, fit, sym (rows_sound_rule i h))
 
 pub loop-at-init : goal.loop-at-init
 loop-at-init c = rows_start _ _ _ _ _ c.requires.0
