@@ -12,7 +12,7 @@ use Rattle.refusal.specs.declared.Refusal.{Refusal}
 use Rattle.refusal.proofs.Laws.{and_left, and_right, refuse_none, numbered}
 use Rattle.book_rules.specs.Columns.{Book, sound}
 use Rattle.load_rules.specs.declared.{Group.Group}
-use Rattle.load_rules.specs.{Shares.Share, Tally.tally, Tally.list_from}
+use Rattle.load_rules.specs.{Shares.Share, Shares.book_shares, Tally.tally, Tally.list_from}
 use Rattle.load_rules.specs.Factors.{sum_to, known_sum, unknown_sum, general_factor}
 use Rattle.load_rules.specs.Load.{counts_of, scaled_sum, total_of, days_fit, none_computed, load_refusal}
 use Rattle.load_rules.specs.declared.Load.{Load}
@@ -20,8 +20,9 @@ use Rattle.load_rules.specs.Load.{answer, refused_load, load_of, load_told}
 use Rattle.load_rules.specs.Told.{LoadTold}
 use Rattle.load_rules.specs.Verdict.{limit_fits, verdict_refusal, judged, judged_of}
 use Rattle.load_rules.proofs.{TallyLaws.AllGrouped, TallyLaws.rule_ten, FactorLaws.known_sum_lem}
-use Rattle.load.specs.declared.sums.{Sums.Sums, Totals.Totals}
+use Rattle.load.specs.declared.{asked.Asked.Asked, sums.Sums.Sums, sums.Totals.Totals}
 use Rattle.load.specs.InnerSteps.{table, group_at, Scalable, Bounded, sums_of, totals_of, asked_refusal, load_from}
+use Rattle.load.specs.InnerSteps.{AskedOf, shares_asked}
 use Rattle.load.proofs.BoundLaws.{scaled_sum_small}
 
 -- From the sums that the code makes
@@ -74,14 +75,18 @@ module _ (f : ℕ → Group) (days : ℕ) where
 
 -- From the shares
 
--- past the first two refusals the book is sound, the point is there and the days are in range
-pub asked_fine : (p pt : ℕ) (b : Book) (days : ℕ) → asked_refusal (sound p b && ltb pt p) days ≡ 0
-    → (sound p b ≡ true) × (pt < p) × (days_fit days ≡ true)
+-- the book is sound and the point is there
+pub fits_there : (p pt : ℕ) (b : Book) → (sound p b && ltb pt p) ≡ true → (sound p b ≡ true) × (pt < p)
+fits_there p pt b e = (and_left (sound p b) _ e, ltb-true pt p (and_right (sound p b) _ e))
+
+-- past the first two refusals both fit
+pub asked_days : (fits : Bool) (days : ℕ) → asked_refusal fits days ≡ 0 → days_fit days ≡ true
 unfolding asked_refusal
-asked_fine p pt b days e =
-    let nine = refuse_none 9 (sound p b && ltb pt p) _ (omega arith) e in
-    let eleven = refuse_none 11 (days_fit days) 0 (omega arith) nine.1 in
-    (and_left (sound p b) _ nine.0, ltb-true pt p (and_right (sound p b) _ nine.0), eleven.0)
+asked_days fits days e =
+    (refuse_none 11 (days_fit days) 0 (omega arith) (refuse_none 9 fits _ (omega arith) e).1).0
+
+pub asked_shares : {p pt : ℕ} {b : Book} {a : Asked} → AskedOf p pt b a → shares_asked a ≡ book_shares p pt b
+asked_shares same = rw (same.points_same, same.point_same, same.book_same) refl
 
 pub asked_fits : (fits : Bool) (days : ℕ) → asked_refusal fits days ≡ 0 → fits ≡ true
 unfolding asked_refusal

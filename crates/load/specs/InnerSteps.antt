@@ -1,6 +1,6 @@
 -- Inner steps: no promise uses them. What the functions of the crate require of and ensure to one another.
 -- Assumes nothing.
-use Rattle.std.specs.Prelude.{ℕ, ◌+◌, ◌*◌, ◌/◌, ◌%◌, ◌<◌, ◌≤◌, Bool, cond, ◌&&◌, List, [], ◌==◌, nat_lt, slice_index_or}
+use Rattle.std.specs.Prelude.{◌≡◌, ℕ, ◌+◌, ◌*◌, ◌/◌, ◌%◌, ◌<◌, ◌≤◌, Bool, cond, ◌&&◌, List, [], ◌==◌, nat_lt, slice_index_or}
 use Rattle.level.specs.Tables.{IsTableA, ArePowers}
 use Rattle.level.specs.Limits.{max_movements, max_energy, max_total}
 use Rattle.level.specs.Energy.{mean_of}
@@ -8,11 +8,13 @@ use Rattle.level.specs.Level.{level_of}
 use Rattle.movement.specs.Limits.{group_count}
 use Rattle.refusal.specs.Refuse.{refuse}
 use Rattle.load_rules.specs.declared.Group.{Group}
-use Rattle.load_rules.specs.Shares.{energy_in}
+use Rattle.book_rules.specs.Columns.{Book, book_lent}
+use Rattle.load_rules.specs.Shares.{Share, energy_in, book_shares}
 use Rattle.load_rules.specs.Tally.{group_with, list_from}
 use Rattle.load_rules.specs.Factors.{ratio, scaled_by, sum_to, known, unknown, known_sum, unknown_sum}
 use Rattle.load_rules.specs.Load.{counts_of, scaled_energy, days_fit, answer, refused_load}
 use Rattle.load_rules.specs.Told.{LoadTold}
+use Rattle.load.specs.declared.asked.Asked.{Asked}
 use Rattle.load.specs.declared.sums.Sums.{Sums}
 use Rattle.load.specs.declared.sums.Totals.{Totals}
 
@@ -89,6 +91,19 @@ pub record Fitting (s : Sums) (c : Group) : Type 0 where
 -- the first two refusals of a load, of its account and of a verdict. `fits`: the book is sound and the point is there
 unfoldable pub asked_refusal : (fits : Bool) (days : ℕ) → ℕ
 asked_refusal fits days = refuse 9 fits (refuse 11 (days_fit days) 0)
+
+-- the book that is asked, and what is asked of it
+abbrev pub book_asked : Asked → Book
+book_asked a = book_lent a.ids.now a.groups.now a.marks.now a.counts.now a.levels.now
+
+pub record AskedOf (points point : ℕ) (book : Book) (a : Asked) : Type 0 where
+  pub points_same : a.points ≡ points
+  pub point_same : a.point ≡ point
+  pub book_same : book_asked a ≡ book
+
+-- its shares
+abbrev pub shares_asked : Asked → List Share
+shares_asked a = book_shares a.points a.point (book_asked a)
 
 -- the load of what the groups hold, where neither 9 nor 11 is given: 10 where none is known and some are unknown
 unfoldable pub load_from : (ℕ → Group) → ℕ → LoadTold

@@ -10,7 +10,7 @@ ghost use Rattle.load_rules.specs.Account.{group_numbers, groups_to, whole_numbe
 ghost use Rattle.load_rules.specs.Account.{whole_from, account_size};
 ghost use Rattle.load.specs.InnerSteps.{group_at, Scalable, Bounded, load_from};
 
-use crate::may_ask;
+use crate::asked::Asked;
 use crate::sums::{Sums, Totals, none_computed, scaled_by, summed, totals_of};
 use crate::tally::{group_at, groups_of};
 use load_rules::{Group, Groups};
@@ -39,12 +39,8 @@ pub fn account_at(
         (account_of points point (book_lent ids.now groups.now marks.now counts.now levels.now) days)
         answer.old (told result) answer.new }
 {
-    may_ask(ids, groups, marks, counts, levels, points, point, days)?;
-    put_account(
-        groups_of(ids, groups, marks, counts, levels, points, point),
-        days,
-        answer,
-    )
+    let asked = Asked::of(ids, groups, marks, counts, levels, points, point, days)?;
+    put_account(groups_of(asked), days, answer)
 }
 
 // The account of groups that were tallied: refused as their load is.

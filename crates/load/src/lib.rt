@@ -2,18 +2,18 @@
 #![tactic(auto)]
 
 pub mod account;
+mod asked;
 mod sums;
 mod tally;
 
-ghost use Rattle.std.specs.Prelude.{◌≡◌, ◌<◌, true, ◌&&◌, nat_lt};
-ghost use Rattle.refusal.specs.Refusal.{told};
+ghost use Rattle.std.specs.Prelude.{◌≡◌, true, ◌&&◌, nat_lt};
 ghost use Rattle.book_rules.specs.Columns.{book_lent, sound};
-ghost use Rattle.load_rules.specs.Shares.{book_shares};
 ghost use Rattle.load_rules.specs.Load.{days_fit, load_of, book_load, load_told};
 ghost use Rattle.load_rules.specs.Told.{judged_told};
 ghost use Rattle.load_rules.specs.Verdict.{Judging};
-ghost use Rattle.load.specs.InnerSteps.{asked_refusal, group_at, Bounded, load_from};
+ghost use Rattle.load.specs.InnerSteps.{group_at, Bounded, load_from, shares_asked};
 
+use crate::asked::Asked;
 use level::Verdict;
 use load_rules::{Groups, Load};
 use movement::limits::{MAX_DAYS, MAX_LIMIT};
@@ -35,8 +35,8 @@ pub fn load_at(
     ensures { load_told result
         ≡ book_load points point (book_lent ids.now groups.now marks.now counts.now levels.now) days }
 {
-    may_ask(ids, groups, marks, counts, levels, points, point, days)?;
-    load_of(ids, groups, marks, counts, levels, points, point, days)
+    let asked = Asked::of(ids, groups, marks, counts, levels, points, point, days)?;
+    load_of(asked, days)
 }
 
 // The verdict on the load at a point of a book.
@@ -54,39 +54,16 @@ pub fn verdict_at(
     ensures { Judging points point (book_lent ids.now groups.now marks.now counts.now levels.now) days limit
         (judged_told result) }
 {
-    may_ask(ids, groups, marks, counts, levels, points, point, days)?;
+    let asked = Asked::of(ids, groups, marks, counts, levels, points, point, days)?;
     if MAX_LIMIT < limit {
         return Err(Refusal::WrongLevelAsked);
     }
-    let load = load_of(ids, groups, marks, counts, levels, points, point, days)?;
+    let load = load_of(asked, days)?;
     Ok(level::inner::judge(load.level, limit))
 }
 
-// 9 where the book isn't sound or the point asked for isn't there, and 11 for the days.
-pub(crate) fn may_ask(
-    ids: &[u32],
-    groups: &[u32],
-    marks: &[u32],
-    counts: &[u32],
-    levels: &[u32],
-    points: usize,
-    point: usize,
-    days: u32,
-) -> Result<(), Refusal>
-    ensures { told result ≡ asked_refusal
-        (sound points (book_lent ids.now groups.now marks.now counts.now levels.now) && nat_lt point points) days }
-{
-    if !point_fits(ids, groups, marks, counts, levels, points, point) {
-        return Err(Refusal::NotSound);
-    }
-    if !days_fit(days) {
-        return Err(Refusal::WrongDays);
-    }
-    Ok(())
-}
-
 // Whether the book is sound and the point asked for is there.
-fn point_fits(
+pub(crate) fn point_fits(
     ids: &[u32],
     groups: &[u32],
     marks: &[u32],
@@ -101,33 +78,18 @@ fn point_fits(
     soundness::is_sound(ids, groups, marks, counts, levels, points) && point < points
 }
 
-fn days_fit(days: u32) -> bool
+pub(crate) fn days_fit(days: u32) -> bool
     ensures { result ≡ days_fit days }
 {
     (1..=MAX_DAYS).contains(&days)
 }
 
 // The load where neither 9 nor 11 is given.
-fn load_of(
-    ids: &[u32],
-    groups: &[u32],
-    marks: &[u32],
-    counts: &[u32],
-    levels: &[u32],
-    points: usize,
-    point: usize,
-    days: u32,
-) -> Result<Load, Refusal>
-    requires levels_value { sound points (book_lent ids.now groups.now marks.now counts.now levels.now) ≡ true }
-    requires point_lt_points { point < points }
-    requires days_value { days_fit days ≡ true }
-    ensures { load_told result
-        ≡ load_of true (book_shares points point (book_lent ids.now groups.now marks.now counts.now levels.now)) days }
+fn load_of(asked: Asked<'_>, days: u32) -> Result<Load, Refusal>
+    requires { days_fit days ≡ true }
+    ensures { load_told result ≡ load_of true (shares_asked asked.entry) days }
 {
-    answer_from(
-        groups_of(ids, groups, marks, counts, levels, points, point),
-        days,
-    )
+    answer_from(groups_of(asked), days)
 }
 
 // The load of groups that were tallied: refused where movements count at the point and none of them is computed.

@@ -1,11 +1,10 @@
 // The tally of a book's rows: V, U and S of each group at one point.
 ghost use Rattle.std.specs.Prelude.{◌≡◌, ◌+◌, ◌<◌, ◌≤◌, true, [], ◌∷◌};
 ghost use Rattle.movement.specs.Limits.{max_level, group_count};
-ghost use Rattle.book_rules.specs.Columns.{book_lent, sound};
-ghost use Rattle.load_rules.specs.Shares.{book_shares};
 ghost use Rattle.load_rules.specs.Tally.{tally};
-ghost use Rattle.load.specs.InnerSteps.{table, group_at, flat, flat_at, Tables, RoomForOne, with_row};
+ghost use Rattle.load.specs.InnerSteps.{table, group_at, flat, flat_at, Tables, RoomForOne, with_row, shares_asked};
 
+use crate::asked::Asked;
 use load_rules::{Group, Groups};
 use movement::limits::GROUPS;
 
@@ -91,25 +90,25 @@ fn arranged(cells: [Group; GROUPS]) -> Groups
     ]
 }
 
-// The groups with all rows of a sound book that count at a point. Side by side, a row finds its group at one place.
+// The groups with all rows that count at the point. Side by side, a row finds its group at one place.
 fn with_rows(
     start: [Group; GROUPS],
     a: &[u64; 1000],
     powers: &[u64; 14],
-    ids: &[u32],
-    groups: &[u32],
-    marks: &[u32],
-    counts: &[u32],
-    levels: &[u32],
-    points: usize,
-    point: usize,
+    asked: Asked<'_>,
 ) -> [Group; GROUPS]
-    requires start_value { (start ≡ flat (tally [])) × (Tables a.now powers.now) }
-    requires levels_value { sound points (book_lent ids.now groups.now marks.now counts.now levels.now) ≡ true }
-    requires point_lt_points { point < points }
-    ensures { result
-        ≡ flat (tally (book_shares points point (book_lent ids.now groups.now marks.now counts.now levels.now))) }
+    requires { (start ≡ flat (tally [])) × (Tables a.now powers.now) }
+    ensures { result ≡ flat (tally (shares_asked asked.entry)) }
 {
+    let Asked {
+        ids,
+        groups,
+        marks,
+        counts,
+        levels,
+        points,
+        point,
+    } = asked;
     let mut cells = start;
     for i in 0..ids.len() {
         let at = i * points + point;
@@ -123,65 +122,18 @@ fn with_rows(
 }
 
 // The same of the groups as they travel: they come in once and go out once.
-fn tallied(
-    start: Groups,
-    a: &[u64; 1000],
-    powers: &[u64; 14],
-    ids: &[u32],
-    groups: &[u32],
-    marks: &[u32],
-    counts: &[u32],
-    levels: &[u32],
-    points: usize,
-    point: usize,
-) -> Groups
-    requires start_value { (start ≡ table (tally [])) × (Tables a.now powers.now) }
-    requires levels_value { sound points (book_lent ids.now groups.now marks.now counts.now levels.now) ≡ true }
-    requires point_lt_points { point < points }
-    ensures { result
-        ≡ table (tally (book_shares points point (book_lent ids.now groups.now marks.now counts.now levels.now))) }
+fn tallied(start: Groups, a: &[u64; 1000], powers: &[u64; 14], asked: Asked<'_>) -> Groups
+    requires { (start ≡ table (tally [])) × (Tables a.now powers.now) }
+    ensures { result ≡ table (tally (shares_asked asked.entry)) }
 {
-    arranged(with_rows(
-        side_by_side(start),
-        a,
-        powers,
-        ids,
-        groups,
-        marks,
-        counts,
-        levels,
-        points,
-        point,
-    ))
+    arranged(with_rows(side_by_side(start), a, powers, asked))
 }
 
-// The groups of a sound book at a point.
-pub(crate) fn groups_of(
-    ids: &[u32],
-    groups: &[u32],
-    marks: &[u32],
-    counts: &[u32],
-    levels: &[u32],
-    points: usize,
-    point: usize,
-) -> Groups
-    requires levels_value { sound points (book_lent ids.now groups.now marks.now counts.now levels.now) ≡ true }
-    requires point_lt_points { point < points }
-    ensures { result
-        ≡ table (tally (book_shares points point (book_lent ids.now groups.now marks.now counts.now levels.now))) }
+// The groups of what is asked.
+pub(crate) fn groups_of(asked: Asked<'_>) -> Groups
+    ensures { result ≡ table (tally (shares_asked asked.entry)) }
 {
     let a = level::tables::table_a();
     let powers = level::tables::powers();
-    tallied(
-        no_groups(),
-        &a,
-        &powers,
-        ids,
-        groups,
-        marks,
-        counts,
-        levels,
-        points,
-        point,
-    )
+    tallied(no_groups(), &a, &powers, asked)
 }

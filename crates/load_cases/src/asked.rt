@@ -21,7 +21,7 @@ fn enter(
     let kind = number(line, 7);
     let time = number(line, 8);
     let mass = number(line, 9);
-    book::enter(
+    let _ = book::enter(
         ids,
         groups,
         marks,
@@ -47,7 +47,7 @@ fn supply(
 ) {
     let mut given = [0u32; 8];
     let n = numbers(line, 6, &mut given);
-    book::supply(
+    let _ = book::supply(
         ids,
         groups,
         marks,
@@ -69,7 +69,7 @@ fn withdraw(
 ) {
     let points = place(line, 4);
     let identity = number(line, 5);
-    book::withdraw(ids, groups, marks, counts, levels, points, identity);
+    let _ = book::withdraw(ids, groups, marks, counts, levels, points, identity);
 }
 
 // The refusal, the total, the level and whether it is given, and V and U of the first and the last group.

@@ -7,15 +7,10 @@ use Rattle.load.proofs.CellLaws.{flat-table, table-flat}
 use Rattle.load.proofs.tally.tallied.Goals as goal
 
 pub with_rows-requires : goal.with_rows-requires
-with_rows-requires c =
-    record {
-      start_value = (
-        c.side_by_side.ensures ∙ ap (λ cs. flat (group_at cs)) c.requires.start_value.0 ∙ flat-table (tally []),
-        c.requires.start_value.1,
-      );
-      levels_value = c.requires.levels_value;
-      point_lt_points = c.requires.point_lt_points;
-    }
+with_rows-requires c = (
+  c.side_by_side.ensures ∙ ap (λ cs. flat (group_at cs)) c.requires.0 ∙ flat-table (tally []),
+  c.requires.1,
+)
 
 pub returns : goal.returns
 returns c =

@@ -1,30 +1,20 @@
 use Rattle.std.specs.Prelude.{◌≡◌, length, get_or}
 use mathlib.Core.Path.{sym, ap, subst, ◌∙◌}
 use native.Mathlib.Omega.{arith}
-use Rattle.book_rules.specs.Columns.{Book, book_lent}
 use Rattle.load_rules.specs.{Shares.shares_to, Shares.book_shares, Tally.tally}
-use Rattle.load.specs.InnerSteps.{flat, flat_at, RoomForOne}
+use Rattle.load.specs.InnerSteps.{flat, flat_at, RoomForOne, book_asked}
 use Rattle.load.proofs.RowLaws.{Row, row_at, row_next, row_skipped}
 use Rattle.load.proofs.tally.with_rows.Goals as goal
-use Rattle.load.proofs.tally.with_rows.Goals.{In-loop-i, Start, then-counts-at-ne0, else-counts-at-ne0}
-
-abbrev book : Start → Book
-book s = book_lent s.args.ids.now s.args.groups.now s.args.marks.now s.args.counts.now s.args.levels.now
+use Rattle.load.proofs.tally.with_rows.Goals.{In-loop-i, then-counts-at-ne0, else-counts-at-ne0}
 
 -- the row that a turn reads
-row : (c : In-loop-i)
-    → let a = c.args in Row a.points a.point (book_lent a.ids.now a.groups.now a.marks.now a.counts.now a.levels.now)
-    c.loop-i.i
-row c =
-    let a = c.args in
-    row_at a.points a.point (book_lent a.ids.now a.groups.now a.marks.now a.counts.now a.levels.now)
-    c.requires.levels_value c.requires.point_lt_points
-    c.loop-i.i (omega arith)
+row : (c : In-loop-i) → let a = c.args.asked in Row a.points a.point (book_asked a) c.loop-i.i
+row c = let a = c.args.asked in row_at a.points a.point (book_asked a) a.sound a.there c.loop-i.i (omega arith)
 
 pub with_row-requires : goal.with_row-requires
 unfolding flat_at
 with_row-requires c =
-    let g = get_or c.args.groups.now c.loop-i.i 0 in
+    let g = get_or c.args.asked.groups.now c.loop-i.i 0 in
     record {
       room_for_one = (
         subst (λ cs. RoomForOne (flat_at cs g)) (sym c.loop-i.invariant)
@@ -32,34 +22,31 @@ with_row-requires c =
         (row (goal.at.with_row-requires c).In-loop-i).group<,
         (row (goal.at.with_row-requires c).In-loop-i).level≤,
       );
-      tables = c.requires.start_value.1;
+      tables = c.requires.1;
     }
 
 pub loop-i-preserved : goal.loop-i-preserved
 unfolding flat_at
 loop-i-preserved c =
-    let p = c.args.points in
-    let pt = c.args.point in
+    let a = c.args.asked in
     let i = c.loop-i.i in
     elim c.if-counts-at-ne0.branch [
-      | then-counts-at-ne0 w ↦ w.cells-is ∙ row_next p pt (book (goal.at.loop-i-preserved c).Start)
-          c.requires.levels_value c.requires.point_lt_points i (omega arith)
+      | then-counts-at-ne0 w ↦ w.cells-is ∙ row_next a.points a.point (book_asked a) a.sound a.there i (omega arith)
           c.loop-i.cells w.with_row.result c.loop-i.invariant w.if-counts-at-ne0.true w.with_row.ensures
       | else-counts-at-ne0 w ↦ w.cells-is ∙ c.loop-i.invariant
           ∙ ap (λ ss. flat (tally ss))
-          (row_skipped p pt (book (goal.at.loop-i-preserved c).Start) c.requires.levels_value
-          c.requires.point_lt_points i w.if-counts-at-ne0.false)
+          (row_skipped a.points a.point (book_asked a) a.sound a.there i w.if-counts-at-ne0.false)
     ]
 
 pub returns : goal.returns
 unfolding book_shares
 returns c =
-    let e : c.loop-i.i ≡ length c.args.ids.now = omega arith in
-    c.loop-i.invariant
-    ∙ ap (λ n. flat (tally (shares_to c.args.points c.args.point (book (goal.at.returns c).Start) n))) e
+    let a = c.args.asked in
+    let e : c.loop-i.i ≡ length a.ids.now = omega arith in
+    c.loop-i.invariant ∙ ap (λ n. flat (tally (shares_to a.points a.point (book_asked a) n))) e
 
 pub loop-i-init : goal.loop-i-init
-loop-i-init c = unfold shares_to in c.requires.start_value.0
+loop-i-init c = unfold shares_to in c.requires.0
 
 pub overflow_mul-at : goal.overflow_mul-at
 overflow_mul-at c = omega (arith, (row c).in_levels)
