@@ -19,7 +19,7 @@ use Rattle.load_rules.proofs.Accounts.{account_group, account_whole, accounts_ea
 use Rattle.text.specs.Sheet.{ended, line}
 use Rattle.text.specs.{Line.lines_of, Field.field_of, Index.many, Number.show_number, Letter.show_letter}
 use Rattle.text.proofs.Fields.{Free}
-use Rattle.register.specs.declared.limits_csv.LimitsFile.{LimitsFile}
+use Rattle.register.specs.LimitsFile.{LimitsFile}
 use Rattle.register.specs.Letter.{type_letters, kind_letters}
 use Rattle.report_text.specs.Text.{book_refusal, book_text}
 use Rattle.text.proofs.Sheets.{at_least, least_free, lines_ended}

@@ -3,7 +3,7 @@
 use mathlib.Core.{Path.◌≡◌, Path.refl, Path.sym, Path.ap, Path.◌∙◌, List.List}
 use Prim.Native.Nat.{ℕ}
 use Rattle.book_rules.specs.History.{empty_book, booked}
-use Rattle.register.specs.declared.limits_csv.LimitsFile.{LimitsFile}
+use Rattle.register.specs.LimitsFile.{LimitsFile}
 use Rattle.register.specs.LimitsFile.{limits_of}
 use Rattle.report_steps.specs.Reading.{Reading}
 use Rattle.report_steps.proofs.Bookings.{register_booked}

@@ -11,7 +11,7 @@ use Rattle.text.specs.Field.{count_of, field_of}
 use Rattle.text.specs.Index.{many}
 use Rattle.text.specs.Number.{show_number}
 use Rattle.text.specs.Spelled.{bytes}
-use Rattle.register.specs.declared.limits_csv.LimitsFile.{LimitsFile}
+use Rattle.register.specs.LimitsFile.{LimitsFile}
 use Rattle.report_text.specs.Text.{book_refusal, book_text}
 use Rattle.explain_text.specs.Text.{explain_text}
 

@@ -6,7 +6,7 @@ use Rattle.text.specs.Sheet.{ended}
 use Rattle.text.specs.Spelled.{crlf}
 use Rattle.book_rules.specs.Columns.{Book}
 use Rattle.room.specs.Room.{Wrote}
-use Rattle.register.specs.declared.limits_csv.LimitsFile.{LimitsFile}
+use Rattle.register.specs.LimitsFile.{LimitsFile}
 use Rattle.text.proofs.Sheets.{ended_append}
 use Rattle.report_text.proofs.Lines.{wrote_header}
 use Rattle.explain_text.specs.Text.{header_line, lines_at, lines_to, points_text}

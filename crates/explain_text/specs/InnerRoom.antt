@@ -8,7 +8,7 @@ use Rattle.room.specs.Room.{Wrote}
 use Rattle.text.specs.Sheet.{comma}
 use Rattle.text.specs.Spelled.{crlf}
 use Rattle.text.specs.Number.{show_number}
-use Rattle.register.specs.declared.limits_csv.LimitsFile.{LimitsFile}
+use Rattle.register.specs.LimitsFile.{LimitsFile}
 use Rattle.report_text.specs.declared.inner.Report.{Report}
 use Rattle.report_text.specs.Text.{book_refusal}
 use Rattle.explain_text.specs.declared.amounts.Amounts.{Amounts}

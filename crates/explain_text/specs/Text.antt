@@ -16,7 +16,7 @@ use Rattle.text.specs.Number.{show_number}
 use Rattle.text.specs.Spelled.{bytes}
 use Rattle.text.specs.Letter.{show_letter}
 use Rattle.register.specs.Letter.{type_letters, kind_letters}
-use Rattle.register.specs.declared.limits_csv.LimitsFile.{LimitsFile}
+use Rattle.register.specs.LimitsFile.{LimitsFile}
 use Rattle.report_text.specs.Text.{book_refusal}
 use Rattle.explain_text.specs.declared.amounts.Amounts.{Amounts}
 

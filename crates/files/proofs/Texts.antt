@@ -6,7 +6,7 @@ use borrow.Author.Tests.{ne_eqb}
 use Rattle.room.specs.Room.{Wrote}
 use Rattle.room.proofs.Laws.{wrote_front, wrote_fits}
 use Rattle.book_rules.specs.{Columns.Book, History.empty_book}
-use Rattle.register.specs.declared.limits_csv.LimitsFile.{LimitsFile}
+use Rattle.register.specs.LimitsFile.{LimitsFile}
 use Rattle.register.specs.LimitsFile.{limits_of}
 use Rattle.stream.specs.declared.Turn.{Turn}
 use Rattle.stream.specs.{Reading.reading_at, Feeding.turned_to, Feeding.Done}

@@ -3,7 +3,7 @@
 use Rattle.std.specs.Prelude.{◌≡◌, ℕ, ◌≤◌, List, length, take}
 use Rattle.room.specs.Room.{Wrote}
 use Rattle.book_rules.specs.Columns.{Book}
-use Rattle.register.specs.declared.limits_csv.LimitsFile.{LimitsFile}
+use Rattle.register.specs.LimitsFile.{LimitsFile}
 use Rattle.channel.specs.System.Origin.{input}
 use Rattle.stream.specs.Coming.{Coming, Heard}
 use Rattle.report_steps.specs.Reading.{Reading}

@@ -8,7 +8,7 @@ use lib.{Dec.leb, Dec.eqb, ListN.length, ListN.get_or, ListN.take, Seq.length-ta
 use Rattle.text.proofs.{Digits.either, Indices.length_listing}
 use Rattle.text.specs.Line.{bare_line}
 use Rattle.room.specs.Room.{front, fits_in, then_room, WritesTwo}
-use Rattle.register.specs.declared.cell.Cells.{Cells}
+use Rattle.register.specs.Cell.{Cells}
 use Rattle.register.specs.declared.cell.Table.TheVariants.{Register}
 use Rattle.register.specs.Cell.{cells_of}
 use Rattle.register.specs.declared.row.{Fields.Fields, Layout.Layout, Answer.Answer}

@@ -4,7 +4,7 @@ use Rattle.refusal.specs.Refuse.{refuse}
 use Rattle.refusal.specs.Range.{all_within}
 use Rattle.movement.specs.Limits.{max_level}
 use Rattle.register.specs.declared.row.Fields.{Fields}
-use Rattle.register.specs.declared.row.Layout.{Layout}
+use Rattle.register.specs.Row.{Layout}
 use Rattle.register.specs.Row.{fault_of}
 use Rattle.register.specs.Write.{write_fault}
 

@@ -16,12 +16,15 @@ use Rattle.text.proofs.{Digits.either, Digits.got_value, Fields.fields_joined}
 use Rattle.text.proofs.Indices.{every_each, many_zero, many_full, listing_at, listing_same, length_listing}
 use Rattle.register.specs.Cell.{cell_at, got_at, value_at, blank_at, cell_text, cells_of}
 use Rattle.register.specs.Row.{eight_from, fields_of, row_layout, cells_layout, layout_of, fault_of, row_refusal}
-use Rattle.register.specs.Row.{answer_number, RowRead}
+use Rattle.register.specs.Row.{RowRead}
 use Rattle.register.specs.Write.{columns, text_at, show_line, show_row, zero_where_blank, row_levels_fit, write_fault}
-use Rattle.register.specs.Write.{write_refusal, written_number, RowWritten}
+use Rattle.register.specs.Write.{write_refusal, RowWritten}
 use Rattle.register.specs.declared.cell.Table.TheVariants.{Register}
-use Rattle.register.specs.declared.row.{Layout.Layout, Answer.Answer}
-use Rattle.register.specs.declared.write.Written.{Written}
+use Rattle.std.specs.Prelude.{Result}
+use Rattle.refusal.specs.declared.Refusal.{Refusal}
+use Rattle.refusal.specs.Refusal.{told}
+use Rattle.register.specs.Row.{Layout}
+use Rattle.register.specs.declared.row.Fields.{Fields}
 use Rattle.register.proofs.Columns.{cell_exact, cell_blank, text_blank, text_marked, text_head}
 use Rattle.register.proofs.{Writes.column_level, Rows.row_none_lem, Rows.layout_points}
 
@@ -226,11 +229,11 @@ read_writable n s room e =
     (sym (ap (λ r. fault_of r.fields (all_within 12000 r.levels)) o.1.row) ∙ none.1)
 
 -- a call that read a row, and a call that writes what was read: the same bytes, with its CRLF
-pub read_back : {n : ℕ} {line held got old new : List ℕ} {read : Answer} {answer : Written}
-    → RowRead n line held read got → answer_number read ≡ 0
+pub read_back : {n : ℕ} {line held got old new : List ℕ} {read : Result Fields Refusal} {answer : Result ℕ Refusal}
+    → RowRead n line held read got → told read ≡ 0
     → RowWritten n (layout_of n line).fields (take n (layout_of n line).levels) old answer new
     → length (bare_line line) + 2 ≤ length old
-    → (written_number answer ≡ 0) × (new ≡ front (bare_line line ++ crlf) old)
+    → (told answer ≡ 0) × (new ≡ front (bare_line line ++ crlf) old)
 unfolding write_refusal
 read_back {n} {line} {held} {got} {old} r e w room =
     let none = sym r.number ∙ e in

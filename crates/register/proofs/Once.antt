@@ -1,13 +1,13 @@
 -- Two outcomes of one call are equal: an answer's number and values are the answer. Assumes nothing.
 use Rattle.std.specs.Prelude.{ℕ}
 use mathlib.Core.{Path.◌≡◌, Path.sym, Path.ap, Path.◌∙◌, List.List}
-use native.Mathlib.Omega.{arith}
-use Rattle.register.specs.Row.{answer_number, answer_values, field_list, RowRead}
-use Rattle.register.specs.Write.{written_number, written_values, RowWritten}
-use Rattle.register.specs.declared.row.{Fields.Fields, Answer.Answer}
-use Rattle.register.specs.declared.row.Answer.TheVariants as answer
-use Rattle.register.specs.declared.write.Written.{Written}
-use Rattle.register.specs.declared.write.Written.TheVariants as written
+use Rattle.std.specs.Prelude.{Result, Ok, Err}
+use Rattle.refusal.specs.declared.Refusal.{Refusal}
+use Rattle.refusal.specs.Refusal.{told}
+use Rattle.refusal.proofs.Laws.{same_number}
+use Rattle.register.specs.Row.{answer_values, field_list, RowRead}
+use Rattle.register.specs.Write.{written_values, RowWritten}
+use Rattle.register.specs.declared.row.Fields.{Fields}
 
 six : {a b c d e m a' b' c' d' e' m' : ℕ} → a ≡ a' → b ≡ b' → c ≡ c' → d ≡ d'
     → e ≡ e' → m ≡ m'
@@ -25,25 +25,24 @@ fields_same f g e =
     let m : f.computed ≡ g.computed = cc in
     six a b c d t m
 
-pub answer_same : (a b : Answer) → answer_number a ≡ answer_number b → answer_values a ≡ answer_values b → a ≡ b
-answer_same (answer.Row f) (answer.Row g) n v = ap answer.Row (fields_same f g v)
-answer_same (answer.Row f) (answer.Refused k) n v = let z : ◌≡◌ {A = ℕ} 0 1 = cc in absurd (omega arith)
-answer_same (answer.Refused k) (answer.Row g) n v = let z : ◌≡◌ {A = ℕ} 0 1 = cc in absurd (omega arith)
-answer_same (answer.Refused j) (answer.Refused k) n v = ap answer.Refused n
+pub answer_same : (a b : Result Fields Refusal) → told a ≡ told b → answer_values a ≡ answer_values b → a ≡ b
+answer_same (Ok f) (Ok g) n v = ap Ok (fields_same f g v)
+answer_same (Ok f) (Err why) n v = cc
+answer_same (Err why) (Ok g) n v = cc
+answer_same (Err why) (Err more) n v = ap Err (same_number why more n)
 
-pub written_same : (a b : Written) → written_number a ≡ written_number b → written_values a ≡ written_values b
-    → a ≡ b
-written_same (written.Size j) (written.Size k) n v = let e : j ≡ k = cc in ap written.Size e
-written_same (written.Size j) (written.Refused k) n v = let z : ◌≡◌ {A = ℕ} 0 1 = cc in absurd (omega arith)
-written_same (written.Refused j) (written.Size k) n v = let z : ◌≡◌ {A = ℕ} 0 1 = cc in absurd (omega arith)
-written_same (written.Refused j) (written.Refused k) n v = ap written.Refused n
+pub written_same : (a b : Result ℕ Refusal) → told a ≡ told b → written_values a ≡ written_values b → a ≡ b
+written_same (Ok j) (Ok k) n v = cc
+written_same (Ok j) (Err why) n v = cc
+written_same (Err why) (Ok k) n v = cc
+written_same (Err why) (Err more) n v = ap Err (same_number why more n)
 
-pub read_once_lem : {n : ℕ} {line old new new' : List ℕ} {a b : Answer} → RowRead n line old a new
+pub read_once_lem : {n : ℕ} {line old new new' : List ℕ} {a b : Result Fields Refusal} → RowRead n line old a new
     → RowRead n line old b new' → (a ≡ b) × (new ≡ new')
 read_once_lem {a = a} {b = b} r s =
     (answer_same a b (r.number ∙ sym s.number) (r.values ∙ sym s.values), r.levels ∙ sym s.levels)
 
-pub write_once : {n : ℕ} {f : Fields} {levels old new new' : List ℕ} {a b : Written}
+pub write_once : {n : ℕ} {f : Fields} {levels old new new' : List ℕ} {a b : Result ℕ Refusal}
     → RowWritten n f levels old a new → RowWritten n f levels old b new' → (a ≡ b) × (new ≡ new')
 write_once {a = a} {b = b} r s =
     (written_same a b (r.number ∙ sym s.number) (r.values ∙ sym s.values), r.bytes ∙ sym s.bytes)

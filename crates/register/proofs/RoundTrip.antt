@@ -14,13 +14,16 @@ use Rattle.text.proofs.{Digits.either, Fields.Free, Fields.join_field, Fields.jo
 use Rattle.text.proofs.Indices.{every_all, many_no, many_all, listing_at, listing_of, length_listing}
 use Rattle.text.proofs.{Lines.bare_back, Shown.level_least}
 use Rattle.register.specs.Cell.{row_cell, cell_at, got_at, value_at, blank_at, cell_text, cells_of, got_cells}
-use Rattle.register.specs.Row.{eight_from, row_layout, cells_layout, layout_of, fault_of, row_refusal, answer_number}
+use Rattle.register.specs.Row.{eight_from, row_layout, cells_layout, layout_of, fault_of, row_refusal}
 use Rattle.register.specs.Row.{answer_values, field_list, RowRead}
-use Rattle.register.specs.Write.{columns, text_at, show_line, show_row, write_fault, write_refusal, written_number}
+use Rattle.register.specs.Write.{columns, text_at, show_line, show_row, write_fault, write_refusal}
 use Rattle.register.specs.Write.{RowWritten}
 use Rattle.register.specs.declared.cell.Table.TheVariants.{Register}
-use Rattle.register.specs.declared.row.{Fields.Fields, Layout.Layout, Answer.Answer}
-use Rattle.register.specs.declared.write.Written.{Written}
+use Rattle.std.specs.Prelude.{Result}
+use Rattle.refusal.specs.declared.Refusal.{Refusal}
+use Rattle.refusal.specs.Refusal.{told}
+use Rattle.register.specs.Row.{Layout}
+use Rattle.register.specs.declared.row.Fields.{Fields}
 use Rattle.register.proofs.Columns.{text_no_comma, text_back, text_blank, text_marked, shown_level}
 use Rattle.register.proofs.Writes.{Fine, fault_fine, fine_writable, column_level}
 use Rattle.room.proofs.Answers.{first_none_lem}
@@ -157,10 +160,11 @@ refusal_back n f levels room fine h =
     rw (fine.fields, fine.identity, within_zeros 12000 (8 - length levels) levels fine.within, le-leb n room h)
 
 -- a call that wrote a row, and a call that reads what it wrote: the same fields and the same levels
-pub written_back : {n : ℕ} {f : Fields} {levels old new held got : List ℕ} {answer : Written} {read : Answer}
-    → RowWritten n f levels old answer new → written_number answer ≡ 0
+pub written_back : {n : ℕ} {f : Fields} {levels old new held got : List ℕ} {answer : Result ℕ Refusal}
+    {read : Result Fields Refusal}
+    → RowWritten n f levels old answer new → told answer ≡ 0
     → RowRead n (take (length (show_row f levels)) new) held read got → n ≤ length held
-    → (answer_number read ≡ 0) × (answer_values read ≡ field_list f) × (got ≡ front levels held)
+    → (told read ≡ 0) × (answer_values read ≡ field_list f) × (got ≡ front levels held)
 unfolding write_refusal
 written_back {n} {f} {levels} {old} {new} {held} {got} {answer} {read} w e r h =
     let none = sym w.number ∙ e in

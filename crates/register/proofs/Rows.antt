@@ -1,9 +1,18 @@
 -- Laws of a row's refusals and of limits.csv. Assumes nothing.
-use Rattle.std.specs.Prelude.{ℕ, ◌-◌, ◌/◌, ◌%◌, ◌<◌, ◌≤◌}
-use mathlib.Core.{Path.◌≡◌, Path.ap, List.List, List.[], Bool.false, Bool.◌&&◌}
+use Rattle.std.specs.Prelude.{ℕ, ◌+◌, ◌-◌, ◌/◌, ◌%◌, ◌<◌, ◌≤◌}
+use Rattle.std.proofs.lemmas.List.{get_or-take, get_or-drop}
+use Rattle.text.proofs.Indices.{listing_of}
+use Rattle.std.specs.Prelude.{Err}
+use Rattle.refusal.specs.Refusal.{number_of}
+use Rattle.refusal.specs.declared.Refusal.{Refusal}
+use Rattle.refusal.proofs.Laws.{numbered}
+use Rattle.text.specs.Line.{bare_line}
+use Rattle.register.specs.declared.cell.Table.TheVariants.{Register}
+use Rattle.register.specs.Row.{eight_from, layout_told, RowRead, cells_layout, row_layout}
+use mathlib.Core.{Path.◌≡◌, Path.ap, Path.sym, Path.◌∙◌, List.List, List.[], Bool.false, Bool.◌&&◌}
 use native.Mathlib.Omega.{arith}
-use borrow.Author.Tests.{leb-true, ltb-true, eqb-true}
-use lib.{ListN.length, ListN.take, Dec.leb, Dec.ltb, Dec.eqb}
+use borrow.Author.Tests.{leb-true, ltb-true, eqb-true, ne_eqb}
+use lib.{ListN.length, ListN.take, ListN.drop, ListN.get_or, ListN.length-drop, Seq.length-take-le, Dec.leb, Dec.ltb, Dec.eqb}
 use Rattle.refusal.specs.{Refuse.refuse, Range.all_within}
 use Rattle.refusal.proofs.Laws.{and_left, and_right, refuse_none}
 use Rattle.text.specs.{Field.count_of, Same.same_text}
@@ -13,7 +22,7 @@ use Rattle.register.specs.{Cell.cells_of, Row.points_fit, Row.layout_of, Row.fau
 use Rattle.register.specs.Header.{header_of}
 use Rattle.room.proofs.Answers.{first_none_lem}
 use Rattle.register.specs.declared.cell.Table.{Table}
-use Rattle.register.specs.declared.row.Layout.{Layout}
+use Rattle.register.specs.Row.{Layout}
 use Rattle.register.proofs.Readings.{cells_other}
 
 -- a row that was read: its layout, its rules and its room
@@ -60,3 +69,45 @@ header_range full lead s n e =
 pub cells_empty : (table : Table) (count : ℕ) → 1 < count → (cells_of table count []).read ≡ false
 unfolding count_of
 cells_empty table count h = ap (λ c. c.read) (cells_other table [] count (λ e. omega arith))
+
+-- eight values, as a part of the values
+pub eight_part : (k : ℕ) (v : List ℕ) → k + 8 ≤ length v → take (k + 8 - k) (drop k v) ≡ eight_from k v
+unfolding eight_from
+eight_part k v h =
+    let n : k + 8 - k ≡ 8 = omega arith in
+    let part = take 8 (drop k v) in
+    let long : length part ≡ 8 = length-take-le 8 (drop k v) (simp length-drop (omega arith)) in
+    let all = listing_of {A = ℕ} (λ i. get_or v (k + i) 0) part 0
+    (λ i b. sym (get_or-take 8 (drop k v) i 0 (omega arith) ∙ get_or-drop k v i 0)) in
+    rw n (sym (rw long at all))
+
+-- a text off its layout has refusal 16
+pub layout_off : (n : ℕ) (s : List ℕ) → ((layout_of n s).refusal ≡ 0 → ⊥) → (layout_of n s).refusal ≡ 16
+unfolding layout_of cells_layout row_layout
+layout_off n s h =
+    let c = cells_of Register (5 + n) (bare_line s) in
+    either (points_fit n)
+    (λ yes. either c.read
+    (λ on. either (eqb c.blanks 0)
+    (λ none. absurd (h (rw (yes, on, none))))
+    (λ some. either (eqb c.blanks n)
+    (λ all. absurd (h (rw (yes, on, some, all))))
+    (λ few. rw (yes, on, some, few))))
+    (λ off. rw (yes, off)))
+    (λ no. rw no)
+
+-- a row that is refused leaves the levels that were lent
+pub row_unread : {n : ℕ} {line old : List ℕ} (why : Refusal)
+    → number_of why ≡ row_refusal n (layout_of n line) (length old) → RowRead n line old (Err why) old
+row_unread {n} {line} {old} why e =
+    let bad = ne_eqb (number_of why) 0 (λ z. omega (arith, numbered why)) in
+    record { number = e; values = rw (← e, bad); levels = rw (← e, bad) }
+
+pub row_off : {n : ℕ} {line old : List ℕ} (why : Refusal) → layout_told (Err why) ≡ layout_of n line
+    → RowRead n line old (Err why) old
+unfolding row_refusal
+row_off {n} {line} {old} why e =
+    let some = ne_eqb (number_of why) 0 (λ z. omega (arith, numbered why)) in
+    let sixteen : number_of why ≡ 16 = ap (λ l. l.refusal) e ∙ layout_off n line
+    (λ z. omega (arith, numbered why, ap (λ l. l.refusal) e)) in
+    row_unread why (rw (← e, some) sixteen)

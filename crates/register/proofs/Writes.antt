@@ -11,7 +11,11 @@ use Rattle.movement.specs.Aircraft.{mass_fits, aircraft_numbered}
 use Rattle.text.specs.{Field.joined_by, Index.listing, Number.show_whole}
 use Rattle.text.proofs.{Digits.either, Fields.join_snoc, Indices.listing_more, Indices.listing_cons}
 use Rattle.register.specs.{Cell.shown_cell, InnerCell.top_of, Row.points_fit, Row.fault_of}
-use Rattle.register.specs.Write.{columns, zero_where_blank, row_levels_fit, write_fault}
+use Rattle.std.specs.Prelude.{Err}
+use Rattle.refusal.specs.declared.Refusal.{Refusal}
+use Rattle.refusal.specs.Refusal.{number_of}
+use Rattle.refusal.proofs.Laws.{numbered}
+use Rattle.register.specs.Write.{columns, zero_where_blank, row_levels_fit, write_fault, write_refusal, RowWritten}
 use Rattle.register.specs.InnerCell.{comma_at, Writable}
 use Rattle.register.specs.declared.row.Fields.{Fields}
 
@@ -129,3 +133,10 @@ fine_writable {n} {f} {levels} fine =
 -- the comma before a column is at most one byte
 pub comma_most : (k : ℕ) → length (comma_at k) ≤ 1
 comma_most k = either (eqb k 0) (λ yes. rw yes (omega arith)) (λ no. rw no (omega arith))
+
+-- a row that is refused leaves the buffer that was lent
+pub row_unwritten : {n : ℕ} {f : Fields} {levels old : List ℕ} (why : Refusal)
+    → number_of why ≡ write_refusal n f levels (length old) → RowWritten n f levels old (Err why) old
+row_unwritten {n} {f} {levels} {old} why e =
+    let bad = ne_eqb (number_of why) 0 (λ z. omega (arith, numbered why)) in
+    record { number = e; values = rw (← e, bad); bytes = rw (← e, bad) }

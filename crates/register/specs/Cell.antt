@@ -13,7 +13,6 @@ use Rattle.register.specs.Letter.{type_letters, kind_letters}
 use Rattle.register.specs.Column.{level_columns, max_columns, in_column}
 use Rattle.register.specs.declared.cell.Table.{Table}
 use Rattle.register.specs.declared.cell.Table.TheVariants.{Register, LimitsFile}
-use Rattle.register.specs.declared.cell.Cells.{Cells}
 
 -- a level that may be left blank; its value is then zero
 unfoldable pub level_or_blank : List ℕ → Option ℕ
@@ -55,6 +54,12 @@ value_at table s k = value_of (cell_at table s k)
 -- level i of a line is left blank
 abbrev pub blank_at : List ℕ → ℕ → Bool
 blank_at s i = length (field_of (byte ",") (level_columns + i) s) == 0
+
+-- the fields of a line: whether all could be read, how many levels are blank, and the values, zero past the last
+pub record Cells : Type 0 where
+  pub read : Bool
+  pub blanks : ℕ
+  pub values : List ℕ
 
 -- a line that has to have `count` fields, each on its layout: how many levels are blank, and the values, zero past the
 -- last

@@ -1,5 +1,7 @@
 -- limits.csv as a whole text: RULES, "Files and the report program". Assumes nothing.
 use Rattle.std.specs.Prelude.{ℕ, ◌+◌, cond, ◌&&◌, List, [], length, replicate, nat_le, slice_index, slice_index_or}
+use Rattle.std.specs.Prelude.{Result, Ok, Err}
+use Rattle.refusal.specs.Refusal.{number_of}
 use Rattle.refusal.specs.Range.{all_within}
 use Rattle.movement.specs.Limits.{max_points, max_days, max_limit}
 use Rattle.text.specs.Line.{lines_of}
@@ -8,12 +10,29 @@ use Rattle.register.specs.Cell.{cells_of}
 use Rattle.register.specs.Row.{eight_from}
 use Rattle.register.specs.Header.{header_of, limits_header, limits_lead}
 use Rattle.register.specs.declared.cell.Table.TheVariants as table
-use Rattle.register.specs.declared.limits_csv.LimitsFile.{LimitsFile}
+use Rattle.register.specs.declared.limits_csv.Limits.{Limits}
+use Rattle.register.specs.declared.limits_csv.LimitsRefused.{LimitsRefused}
+
+-- what limits.csv reads as: points, days and a limit for each point, zero past the points; or a refusal and its line
+pub record LimitsFile : Type 0 where
+  pub refusal : ℕ
+  pub line : ℕ
+  pub points : ℕ
+  pub days : ℕ
+  pub limits : List ℕ
 
 -- a refusal and its line
 abbrev pub refused_limits : ℕ → ℕ → LimitsFile
 refused_limits number line =
     record { refusal = number; line = line; points = 0; days = 0; limits = replicate max_points 0 }
+
+-- limits that are accepted, and what a reading tells
+abbrev pub accepted_limits : Limits → LimitsFile
+accepted_limits l = record { refusal = 0; line = 0; points = l.points; days = l.days; limits = l.limits }
+
+abbrev pub limits_told : Result Limits LimitsRefused → LimitsFile
+limits_told (Ok l) = accepted_limits l
+limits_told (Err r) = refused_limits (number_of r.why) r.line
 
 -- days and limits in their ranges: 11 and then 15, at line 2
 unfoldable pub judged_limits : ℕ → List ℕ → LimitsFile

@@ -2,6 +2,8 @@
 use Rattle.std.specs.Prelude.{◌≡◌, ℕ, ◌+◌, Bool, true, cond, ◌&&◌, List, [], ◌∷◌, ◌++◌, length, ◌==◌, nat_le}
 use Rattle.std.specs.Prelude.{slice_index}
 use Rattle.refusal.specs.Refuse.{refuse}
+use Rattle.std.specs.Prelude.{Result, Ok, Err}
+use Rattle.refusal.specs.Refusal.{told}
 use Rattle.refusal.specs.Range.{all_within}
 use Rattle.movement.specs.Rules.{levels_fit}
 use Rattle.text.specs.Field.{joined_by}
@@ -12,8 +14,7 @@ use Rattle.register.specs.Column.{level_columns}
 use Rattle.register.specs.Cell.{cell_text}
 use Rattle.register.specs.Row.{points_fit, fault_of}
 use Rattle.register.specs.declared.row.Fields.{Fields}
-use Rattle.register.specs.declared.write.Written.{Written}
-use Rattle.register.specs.declared.write.Written.TheVariants.{Size, Refused}
+use Rattle.refusal.specs.declared.Refusal.{Refusal}
 
 -- the values of a row's columns
 abbrev pub columns : Fields → List ℕ → List ℕ
@@ -46,18 +47,15 @@ write_fault n f levels = refuse 9 (points_fit n && nat_le f.computed 1)
 unfoldable pub write_refusal : (n : ℕ) (f : Fields) (levels : List ℕ) (room : ℕ) → ℕ
 write_refusal n f levels room = then_room (write_fault n f levels) (nat_le (length (show_row f levels)) room)
 
--- the rules' number of an answer, and its value
-abbrev pub written_number : Written → ℕ
-written_number (Size k) = 0
-written_number (Refused n) = n
-
-abbrev pub written_values : Written → List ℕ
-written_values (Size k) = k ∷ []
-written_values (Refused n) = []
+-- the value of an answer
+abbrev pub written_values : Result ℕ Refusal → List ℕ
+written_values (Ok k) = k ∷ []
+written_values (Err why) = []
 
 -- a row written: what is answered, and what the lent buffer then holds
-pub record RowWritten (n : ℕ) (f : Fields) (levels old : List ℕ) (answer : Written) (new : List ℕ) : Type 0 where
-  pub number : written_number answer ≡ write_refusal n f levels (length old)
+pub record RowWritten (n : ℕ) (f : Fields) (levels old : List ℕ) (answer : Result ℕ Refusal) (new : List ℕ)
+    : Type 0 where
+  pub number : told answer ≡ write_refusal n f levels (length old)
   pub values : written_values answer
       ≡ cond (write_refusal n f levels (length old) == 0) (length (show_row f levels) ∷ []) []
   pub bytes : new ≡ leaves (write_refusal n f levels (length old)) (show_row f levels) old

@@ -1,8 +1,8 @@
 // The columns of a register's row and of the second line of limits.csv, read field by field.
-ghost use Rattle.std.specs.Prelude.{◌≡◌, ◌≤◌, if◌then◌else◌, nat_eq};
+ghost use Rattle.std.specs.Prelude.{◌≡◌, ◌≤◌, if◌then◌else◌};
 ghost use Rattle.register.specs.Column.{max_columns};
-ghost use Rattle.register.specs.Cell.{level_or_blank, row_cell, cell_of, cells_of, got_cells, off_cells};
-ghost use Rattle.register.specs.InnerCell.{blank_cell};
+ghost use Rattle.register.specs.Cell.{level_or_blank, row_cell, cell_of, cells_of};
+ghost use Rattle.register.specs.InnerCell.{blank_cell, cells_told};
 
 use crate::column::{IDENTITY, KIND, LEVELS, MASS, MAX_COLUMNS, TIME, TYPE};
 use text::clock::time;
@@ -16,10 +16,9 @@ pub enum Table {
     LimitsFile,
 }
 
-// The fields of a line: whether all could be read, how many levels are blank, and the values, zero past the last.
+// The fields of a line: how many levels are blank, and the values, zero past the last.
 #[derive(Clone, Copy)]
-pub struct Cells {
-    pub read: bool,
+pub struct Line {
     pub blanks: u32,
     pub values: [u32; MAX_COLUMNS],
 }
@@ -28,32 +27,20 @@ pub struct Cells {
 fn level_or_blank(t: &[u8]) -> Option<u32>
     ensures { result ≡ level_or_blank t.now }
 {
-    if t.len() == 0 {
-        return Some(0);
-    }
-    level(t)
+    if t.is_empty() { Some(0) } else { level(t) }
 }
 
 // What stands in column `k` of a register's row.
 fn row_cell(k: usize, t: &[u8]) -> Option<u32>
     ensures { result ≡ row_cell k t.now }
 {
-    if k == IDENTITY {
-        return whole(t);
+    match k {
+        IDENTITY | MASS => whole(t),
+        TYPE => letter(t, b"GKH"),
+        KIND => letter(t, b"SL"),
+        TIME => time(t),
+        _ => level_or_blank(t),
     }
-    if k == TYPE {
-        return letter(t, b"GKH");
-    }
-    if k == MASS {
-        return whole(t);
-    }
-    if k == KIND {
-        return letter(t, b"SL");
-    }
-    if k == TIME {
-        return time(t);
-    }
-    level_or_blank(t)
 }
 
 // What stands in column `k` of either.
@@ -70,59 +57,25 @@ fn cell(table: Table, k: usize, t: &[u8]) -> Option<u32>
 fn blank_level(k: usize, t: &[u8]) -> u32
     ensures { result ≡ (if blank_cell k t.now then 1 else 0) }
 {
-    if k < LEVELS {
-        return 0;
-    }
-    if t.len() == 0 { 1 } else { 0 }
-}
-
-fn off_cells() -> Cells
-    ensures { result ≡ off_cells }
-{
-    Cells {
-        read: false,
-        blanks: 0,
-        values: [0u32; MAX_COLUMNS],
-    }
-}
-
-// The fields of a line that had `k` of them and has to have `count`.
-fn counted(k: usize, count: usize, blanks: u32, values: [u32; MAX_COLUMNS]) -> Cells
-    ensures { result ≡ (if nat_eq k count then got_cells blanks values else off_cells) }
-{
-    if k != count {
-        return off_cells();
-    }
-    Cells {
-        read: true,
-        blanks,
-        values,
-    }
+    (LEVELS <= k && t.is_empty()) as u32
 }
 
 // The fields of a line that has to have `count` of them, in one pass.
-pub(crate) fn read_cells(s: &[u8], table: Table, count: usize) -> Cells
+pub(crate) fn read_cells(s: &[u8], table: Table, count: usize) -> Option<Line>
     requires { (1 ≤ count) × (count ≤ max_columns) }
-    ensures { result ≡ cells_of table count s.now }
+    ensures { cells_told result ≡ cells_of table count s.now }
 {
     let mut values = [0u32; MAX_COLUMNS];
     let mut blanks = 0;
     let mut at = 0;
-    let mut k = 0;
-    loop {
+    for k in 0..count {
         let end = field_end(s, at, b',');
-        let Some(v) = cell(table, k, &s[at..end]) else {
-            return off_cells();
-        };
-        values[k] = v;
+        values[k] = cell(table, k, &s[at..end])?;
         blanks += blank_level(k, &s[at..end]);
-        k += 1;
-        if s.len() <= end {
-            return counted(k, count, blanks, values);
-        }
-        if count <= k {
-            return off_cells();
+        if (end == s.len()) != (k + 1 == count) {
+            return None;
         }
         at = end + 1;
     }
+    Some(Line { blanks, values })
 }

@@ -3,7 +3,6 @@ ghost use Rattle.std.specs.Prelude.{◌≡◌};
 ghost use Rattle.register.specs.Header.{header_of, register_header, register_lead, limits_header, limits_lead};
 
 use movement::limits::MAX_POINTS;
-use text::same::same_text;
 
 // The bytes before their points: id,type,mtow,kind,time and days.
 const REGISTER_LEAD: usize = 22;
@@ -15,20 +14,11 @@ fn header_points(s: &[u8], full: &[u8], lead: usize) -> Option<u32>
     ensures { result ≡ header_of full.now lead s.now }
 {
     let n = s.len();
-    if n <= lead {
-        return None;
-    }
-    if full.len() < n {
-        return None;
-    }
-    if (n - lead) % 3 != 0 {
+    if n <= lead || (n - lead) % 3 != 0 {
         return None;
     }
     let points = (n - lead) / 3;
-    if MAX_POINTS < points {
-        return None;
-    }
-    if same_text(s, &full[..n]) {
+    if points <= MAX_POINTS && full.starts_with(s) {
         Some(points as u32)
     } else {
         None

@@ -15,7 +15,7 @@ use Rattle.book_rules.specs.History.{list_refusal, accepted, empty_book, movemen
 use Rattle.book_rules.specs.History.Held.{none, holds}
 use Rattle.load_rules.specs.Shares.{Everywhere}
 use Rattle.load_rules.proofs.Brings.{each_brings}
-use Rattle.register.specs.declared.row.Layout.{Layout}
+use Rattle.register.specs.Row.{Layout}
 use Rattle.register.specs.Row.{layout_of}
 use Rattle.stream.specs.Reading.{opening, line_read}
 use Rattle.report_steps.specs.Intake.{entering, supplying}

@@ -8,7 +8,7 @@ use Rattle.text.specs.Sheet.{refused_text}
 use Rattle.movement.specs.Limits.{max_points}
 use Rattle.book_rules.specs.{Columns.sound, History.empty_book, History.booked, History.sizes_fit}
 use Rattle.book_rules.proofs.History.{history_sound}
-use Rattle.register.specs.declared.limits_csv.LimitsFile.{LimitsFile}
+use Rattle.register.specs.LimitsFile.{LimitsFile}
 use Rattle.register.specs.LimitsFile.{limits_of}
 use Rattle.register.proofs.LimitsFront.{limits_front}
 use Rattle.stream.specs.Coming.{Coming}

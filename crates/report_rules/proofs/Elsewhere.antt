@@ -19,7 +19,7 @@ use Rattle.book_rules.specs.History.{Movement, movement, added, standing, counts
 use Rattle.book_rules.specs.History.{sizes_fit, standing_refusal, list_refusal, accepted, empty_book}
 use Rattle.book_rules.specs.History.Held.{none}
 use Rattle.book_rules.proofs.History.{Told, told, told_empty, refusal_told}
-use Rattle.register.specs.declared.row.Layout.{Layout}
+use Rattle.register.specs.Row.{Layout}
 use Rattle.register.specs.Row.{layout_of}
 use Rattle.stream.specs.Reading.{opening, line_read, lines_read, closing, whole_read}
 use Rattle.report_steps.specs.Intake.{taken_number, entering, supplying, entered_taken, layout_taken, row_taken}

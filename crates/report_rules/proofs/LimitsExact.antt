@@ -18,7 +18,7 @@ use Rattle.text.proofs.Indices.{every_each, every_all, length_listing}
 use Rattle.register.specs.{Cell.limits_cell, Cell.cell_at, Cell.got_at, Cell.value_at, Cell.cells_of, Row.eight_from}
 use Rattle.register.specs.Header.{header_of, limits_header}
 use Rattle.register.specs.declared.cell.Table.TheVariants as table
-use Rattle.register.specs.declared.limits_csv.LimitsFile.{LimitsFile}
+use Rattle.register.specs.LimitsFile.{LimitsFile}
 use Rattle.register.specs.LimitsFile.{refused_limits, judged_limits, second_limits, headed_limits, limits_of}
 use Rattle.report_rules.specs.LimitsSpelled.{Headed, Valued, RefusedAt, Accepted, LimitsExactly}
 use Rattle.report_rules.proofs.{Printed.listing_at, Printed.value_at_rule, Headers.header_is, Headers.is_header_lem}

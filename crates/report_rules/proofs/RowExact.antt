@@ -10,7 +10,7 @@ use Rattle.text.proofs.{Digits.either, Indices.every_all, Indices.many_no, Indic
 use Rattle.register.specs.Cell.{level_or_blank, row_cell, got_at, value_at, blank_at, got_cells, cells_of}
 use Rattle.register.specs.{Cell.shown_cell, InnerCell.top_of}
 use Rattle.register.specs.Row.{points_fit, off_layout, row_layout, cells_layout, layout_of}
-use Rattle.register.specs.declared.cell.Cells.{Cells}
+use Rattle.register.specs.Cell.{Cells}
 use Rattle.register.specs.declared.cell.Table.TheVariants.{Register}
 use Rattle.register.specs.declared.row.Fields.{Fields}
 use Rattle.register.proofs.Columns.{cell_level, shown_back_lem, shown_level, top_level_lem}

@@ -16,7 +16,7 @@ use Rattle.book_rules.specs.{Lookup.Row, Lookup.Enters}
 use Rattle.book_rules.specs.Lookup.Row.{nowhere, row}
 use Rattle.book_rules.specs.Reasons.{Fields, Levels, NoIdentity, Full}
 use Rattle.book_rules.proofs.{Kept.after-sound, Order.refusal_order, Outcome.call_holds, SoundBook.sound_exactly}
-use Rattle.register.specs.declared.row.Layout.{Layout}
+use Rattle.register.specs.Row.{Layout}
 use Rattle.register.specs.Cell.{cells_of}
 use Rattle.register.specs.declared.cell.Table.TheVariants.{Register}
 use Rattle.register.specs.Row.{points_fit, eight_from, row_layout, cells_layout, layout_of}

@@ -13,7 +13,7 @@ use Rattle.book_rules.specs.History.{Held, Movement, movement, step, list_of, Ma
 use Rattle.book_rules.specs.History.{booked}
 use Rattle.book_rules.specs.History.Held.{none, holds}
 use Rattle.book_rules.proofs.History.{Told, refusal_told, told}
-use Rattle.register.specs.declared.row.Layout.{Layout}
+use Rattle.register.specs.Row.{Layout}
 use Rattle.register.specs.Row.{layout_of}
 use Rattle.report_steps.specs.declared.Taken.TheVariants.{Entered, PassedOver, Refused}
 use Rattle.report_steps.specs.Intake.{taken_number, entering, supplying, entered_taken}

@@ -16,7 +16,7 @@ use Rattle.text.specs.{Line.lines_of, Field.count_of, Field.field_of, Index.list
 use Rattle.text.specs.{Number.show_level}
 use Rattle.text.specs.Spelled.{bytes}
 use Rattle.text.proofs.{Fields.Free, Indices.length_listing}
-use Rattle.register.specs.declared.limits_csv.LimitsFile.{LimitsFile}
+use Rattle.register.specs.LimitsFile.{LimitsFile}
 use Rattle.register.specs.LimitsFile.{limits_of}
 use Rattle.report_steps.specs.{Reading.registered, Booking.register_calls}
 use Rattle.report_steps.proofs.Bookings.{register_booked}

@@ -13,7 +13,7 @@ use Rattle.register.specs.Cell.{cell_at, got_at, value_at, shown_cell}
 use Rattle.text.proofs.{Digits.got_value, Indices.every_each}
 use Rattle.register.specs.{InnerCell.blank_cell, InnerCell.top_of, Row.eight_from, Row.row_layout, Row.layout_of}
 use Rattle.register.specs.declared.cell.Table.TheVariants.{Register}
-use Rattle.register.specs.declared.row.Layout.{Layout}
+use Rattle.register.specs.Row.{Layout}
 use Rattle.register.proofs.{Columns.cell_exact, Columns.shown_level, Columns.top_level_lem, Rows.layout_points}
 use Rattle.register.proofs.Converse.{OnLayout, marked}
 use Rattle.report_rules.specs.Spelled.{column, RowSpelled}

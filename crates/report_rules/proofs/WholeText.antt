@@ -23,7 +23,7 @@ use Rattle.load_rules.specs.Afresh.{load_after}
 use Rattle.load_rules.proofs.CountedOnce.{counted_once}
 use Rattle.register.specs.{Cell.cells_of, Row.eight_from, Header.header_of, Header.limits_header}
 use Rattle.register.specs.declared.cell.Table.TheVariants as table
-use Rattle.register.specs.declared.limits_csv.LimitsFile.{LimitsFile}
+use Rattle.register.specs.LimitsFile.{LimitsFile}
 use Rattle.register.specs.LimitsFile.{judged_limits, second_limits, headed_limits, limits_of}
 use Rattle.report_steps.specs.Booking.{register_calls}
 use Rattle.report_steps.proofs.Bookings.{register_booked}

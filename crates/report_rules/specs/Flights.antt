@@ -15,8 +15,8 @@ use Rattle.text.specs.Line.{lines_of}
 use Rattle.text.specs.Field.{field_of}
 use Rattle.text.specs.Number.{show_number, show_level}
 use Rattle.text.specs.Spelled.{bytes}
-use Rattle.register.specs.declared.row.Layout.{Layout}
-use Rattle.register.specs.declared.limits_csv.LimitsFile.{LimitsFile}
+use Rattle.register.specs.Row.{Layout}
+use Rattle.register.specs.LimitsFile.{LimitsFile}
 use Rattle.register.specs.LimitsFile.{limits_of}
 use Rattle.register.specs.Row.{layout_of}
 use Rattle.report_steps.specs.declared.Taken.TheVariants.{PassedOver}

@@ -6,7 +6,7 @@ use Rattle.text.specs.Line.{lines_of}
 use Rattle.text.specs.Field.{count_of, field_of}
 use Rattle.text.specs.Number.{show_whole, show_level}
 use Rattle.text.specs.Spelled.{bytes}
-use Rattle.register.specs.declared.limits_csv.LimitsFile.{LimitsFile}
+use Rattle.register.specs.LimitsFile.{LimitsFile}
 use Rattle.register.specs.LimitsFile.{limits_of}
 
 -- line 1 is the header of n points, 1 to 8

@@ -5,7 +5,7 @@ use Rattle.channel.specs.System.{Origin, First, Whole, Broken}
 use Rattle.channel.specs.System.Origin.{input, file}
 use Rattle.book_rules.specs.Columns.{Book}
 use Rattle.book_rules.specs.History.{empty_book}
-use Rattle.register.specs.declared.limits_csv.LimitsFile.{LimitsFile}
+use Rattle.register.specs.LimitsFile.{LimitsFile}
 use Rattle.register.specs.LimitsFile.{limits_of}
 use Rattle.stream.specs.Coming.{Coming, Heard, Of}
 use Rattle.report_steps.specs.Stream.{longest_row}

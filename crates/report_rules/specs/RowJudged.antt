@@ -6,7 +6,7 @@ use Rattle.book_rules.specs.Lookup.{found}
 use Rattle.book_rules.specs.Lookup.Row.{nowhere}
 use Rattle.book_rules.specs.Reasons.{Fields, NoIdentity, Full}
 use Rattle.book_rules.specs.Order.{Given}
-use Rattle.register.specs.declared.row.Layout.{Layout}
+use Rattle.register.specs.Row.{Layout}
 use Rattle.register.specs.Row.{layout_of}
 
 -- a row with levels, not all of them up to 120.00

@@ -10,7 +10,7 @@ use Rattle.text.specs.Line.{lines_of}
 use Rattle.book_rules.specs.{Columns.Book, Calls.refusal, Calls.after}
 use Rattle.book_rules.specs.History.{Made, booked, movements, empty_book, rows_of}
 use Rattle.book_rules.proofs.{Accepted.after_refused, History.history_rows}
-use Rattle.register.specs.declared.row.Layout.{Layout}
+use Rattle.register.specs.Row.{Layout}
 use Rattle.register.specs.Row.{layout_of}
 use Rattle.report_steps.specs.Intake.{entering, layout_after, entered_after, row_after}
 use Rattle.stream.specs.Reading.{line_read, lines_read, opening, closing, whole_read}

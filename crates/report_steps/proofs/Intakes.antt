@@ -7,7 +7,7 @@ use lib.{ListN.take, ListN.replicate, Dec.eqb}
 use borrow.Author.Tests.{eq-eqb, ne_eqb}
 use Rattle.book_rules.specs.{Columns.Book, Columns.sound, Calls.Call, Calls.Called, Calls.refusal, Calls.after}
 use Rattle.book_rules.proofs.{Accepted.after_refused, Kept.after-sound}
-use Rattle.register.specs.declared.row.Layout.{Layout}
+use Rattle.register.specs.Row.{Layout}
 use Rattle.register.specs.Row.{layout_of}
 use Rattle.report_steps.specs.declared.Taken.{Taken}
 use Rattle.report_steps.specs.declared.Taken.TheVariants.{Entered, PassedOver, Refused}

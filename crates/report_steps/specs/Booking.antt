@@ -5,7 +5,7 @@ use Rattle.book_rules.specs.Columns.{Book}
 use Rattle.book_rules.specs.Calls.{refusal}
 use Rattle.book_rules.specs.History.{Made, made}
 use Rattle.text.specs.Line.{lines_of}
-use Rattle.register.specs.declared.row.Layout.{Layout}
+use Rattle.register.specs.Row.{Layout}
 use Rattle.register.specs.Row.{layout_of}
 use Rattle.report_steps.specs.Intake.{entering, supplying}
 use Rattle.stream.specs.Reading.{opening, line_read}

@@ -3,7 +3,7 @@
 use Rattle.std.specs.Prelude.{ℕ, cond, List, take, replicate, ◌==◌}
 use Rattle.book_rules.specs.Columns.{Book}
 use Rattle.book_rules.specs.Calls.{Call, refusal, after}
-use Rattle.register.specs.declared.row.Layout.{Layout}
+use Rattle.register.specs.Row.{Layout}
 use Rattle.register.specs.Row.{layout_of}
 use Rattle.report_steps.specs.declared.Taken.{Taken}
 use Rattle.report_steps.specs.declared.Taken.TheVariants.{Entered, PassedOver, Refused}

@@ -12,7 +12,7 @@ use Rattle.text.specs.Spelled.{crlf}
 use Rattle.text.specs.Index.{listing}
 use Rattle.room.specs.Room.{Wrote}
 use Rattle.room.proofs.Laws.{wrote_then, wrote_none}
-use Rattle.register.specs.declared.limits_csv.LimitsFile.{LimitsFile}
+use Rattle.register.specs.LimitsFile.{LimitsFile}
 use Rattle.report_text.specs.Text.{header_line, point_fields, point_line}
 use Rattle.report_text.specs.Text.{points_text, book_refusal}
 use Rattle.report_text.specs.InnerRoom.{longest_point}

@@ -5,7 +5,7 @@ use Rattle.refusal.specs.Refusal.{told}
 use Rattle.room.specs.Room.{Wrote}
 use Rattle.movement.specs.Limits.{max_points}
 use Rattle.book_rules.specs.Columns.{Book}
-use Rattle.register.specs.declared.limits_csv.LimitsFile.{LimitsFile}
+use Rattle.register.specs.LimitsFile.{LimitsFile}
 use Rattle.report_text.specs.declared.inner.Report.{Report}
 use Rattle.report_text.specs.Text.{book_text, book_refusal}
 

@@ -13,7 +13,7 @@ use Rattle.text.specs.Number.{show_number, show_level}
 use Rattle.text.specs.Index.{listing}
 use Rattle.text.specs.Spelled.{bytes}
 use Rattle.text.specs.Sheet.{ended, line, refused_text}
-use Rattle.register.specs.declared.limits_csv.LimitsFile.{LimitsFile}
+use Rattle.register.specs.LimitsFile.{LimitsFile}
 use Rattle.report_text.specs.Totals.{all_computed, all_missing}
 
 -- the rounded level or `below`; `over` or `within`

@@ -26,6 +26,12 @@ put_part {A} a n xs {ys} {zs} e l =
     ∙ ap (λ k. take a xs ++ (zs ++ drop (a + k) xs)) (sym l)
     ∙ sym (append_assoc (take a xs) zs (drop (a + length zs) xs))
 
+-- what the n first of a room now hold, and what it held past them
+pub front_part : {A : Type 0} (n : ℕ) (xs : List A) {ys zs : List A} → ys ≡ zs → length zs ≡ n
+    → ys ++ drop n xs ≡ front zs xs
+front_part {A} n xs {ys} {zs} e l =
+    ap (λ (t : List A). t ++ drop n xs) e ∙ ap (λ k. zs ++ drop k xs) (sym l)
+
 pub length-put : (s : List ℕ) (at : ℕ) (t : List ℕ) → at + length t ≤ length s
     → length (put s at t) ≡ length s
 unfolding put

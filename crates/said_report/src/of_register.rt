@@ -4,6 +4,7 @@ use crate::table::{Table, first_over};
 use movement::limits::MAX_MASS;
 use register::column::{IDENTITY, LEVELS, MASS};
 use register::header::register_points;
+use register::row::read_layout;
 use said::note::{self, Note};
 use said::odd;
 use said::part::first_line;
@@ -47,9 +48,8 @@ fn layout(note: &mut Note, number: u64, row: Row, whole: bool, points: u32) {
 
 // Rule 1: of its fields a row on its layout can only have the mass out of range.
 fn mass_off(line: &[u8], points: u32) -> &'static [u8] {
-    let layout = register::row::read_layout(line, points);
-    let fields = layout.fields;
-    if MAX_MASS < fields.mass {
+    let over = read_layout(line, points).is_ok_and(|row| MAX_MASS < row.fields.mass);
+    if over {
         b", expected 1,000,000 or less"
     } else {
         b" where type is 'K' (small), expected less than 6,000"

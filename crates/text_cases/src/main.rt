@@ -8,37 +8,21 @@ mod written;
 
 use cases::fields::{letter, text};
 use cases::inner::line_past;
+use movement::limits::MAX_POINTS;
 
 // The descriptor of standard input.
 const STDIN_FILENO: i32 = 0;
 
 fn judge(line: &[u8], text: &[u8]) {
-    let kind = letter(line);
-    if kind == b'l' {
-        read::layout(line, text);
-        return;
+    match letter(line) {
+        b'l' => read::layout(line, text),
+        b'r' => read::row(line, text, &mut [0u32; MAX_POINTS]),
+        b'f' => read::row(line, text, &mut [0u32; 1]),
+        b'c' => read::limits(line, text),
+        b'w' => written::write(line),
+        b'u' => written::write_short(line),
+        kind => read::header(kind, line, text),
     }
-    if kind == b'r' {
-        read::row(line, text);
-        return;
-    }
-    if kind == b'f' {
-        read::few(line, text);
-        return;
-    }
-    if kind == b'c' {
-        read::limits(line, text);
-        return;
-    }
-    if kind == b'w' {
-        written::write(line);
-        return;
-    }
-    if kind == b'u' {
-        written::write_short(line);
-        return;
-    }
-    read::header(kind, line, text);
 }
 
 fn case(line: &[u8]) {

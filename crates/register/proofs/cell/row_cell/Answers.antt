@@ -1,26 +1,26 @@
 -- `register::cell::row_cell` meets its contract: each column by its own reader. Assumes nothing.
-use mathlib.Core.Path.{sym, ◌∙◌}
-use native.Mathlib.Omega.{arith}
+use Rattle.std.proofs.Common.{arith}
+use Rattle.std.proofs.lemmas.Bool.Decides.{nat_tests}
+use Rattle.std.proofs.lemmas.Grind.{common_steps}
 use Rattle.register.specs.Cell.{row_cell}
-use Rattle.register.proofs.Columns.{cell_level}
 use Rattle.register.proofs.cell.row_cell.Goals as goal
 
-pub returns : goal.returns
-returns c = c.level_or_blank.ensures
-    ∙ sym (cell_level c.args.k (omega arith)
-    c.args.t.now)
+pub returns-in-0 : goal.returns-in-0
+unfolding row_cell
+returns-in-0 c = grind (arith, common_steps, nat_tests)
 
-pub returns-then-k-eq-IDENTITY : goal.returns-then-k-eq-IDENTITY
-returns-then-k-eq-IDENTITY c = unfold row_cell in c.whole.ensures ∙ rw c.if-k-eq-IDENTITY.true
+pub returns-in-1 : goal.returns-in-1
+unfolding row_cell
+returns-in-1 c = grind (arith, common_steps, nat_tests)
 
-pub returns-then-k-eq-TYPE : goal.returns-then-k-eq-TYPE
-returns-then-k-eq-TYPE c = unfold row_cell in c.letter.ensures ∙ rw c.if-k-eq-TYPE.true
+pub returns-in-3 : goal.returns-in-3
+unfolding row_cell
+returns-in-3 c = grind (arith, common_steps, nat_tests)
 
-pub returns-then-k-eq-MASS : goal.returns-then-k-eq-MASS
-returns-then-k-eq-MASS c = unfold row_cell in c.whole-then-k-eq-MASS.ensures ∙ rw c.if-k-eq-MASS.true
+pub returns-in-4 : goal.returns-in-4
+unfolding row_cell
+returns-in-4 c = grind (arith, common_steps, nat_tests)
 
-pub returns-then-k-eq-KIND : goal.returns-then-k-eq-KIND
-returns-then-k-eq-KIND c = unfold row_cell in c.letter-then-k-eq-KIND.ensures ∙ rw c.if-k-eq-KIND.true
-
-pub returns-then-k-eq-TIME : goal.returns-then-k-eq-TIME
-returns-then-k-eq-TIME c = unfold row_cell in c.time.ensures ∙ rw c.if-k-eq-TIME.true
+pub returns-in_default : goal.returns-in_default
+unfolding row_cell
+returns-in_default c = grind (arith, common_steps, nat_tests)

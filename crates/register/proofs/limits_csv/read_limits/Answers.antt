@@ -36,7 +36,7 @@ points c =
 pub returns-in_default : goal.returns-in_default
 unfolding limits_of
 returns-in_default c =
-    c.refused_limits.ensures ∙ rw (sym (points (goal.at.returns-in_default c).After-limits_points) ∙ c.in_default.is)
+    rw (sym (points (goal.at.returns-in_default c).After-limits_points) ∙ c.in_default.is)
 
 -- the header was read, so there is a line
 headed : (c : In-Some)
@@ -74,8 +74,7 @@ returns-then-s-end-lt2 c =
     let empty : first_line (drop (c.line_end-end.result + 2) s) ≡ [] =
     line_none s (c.line_end-end.result + 2)
     (omega (arith, c.if-s-end-lt2.true, within (goal.at.returns-then-s-end-lt2 c).After-line_end-end)) in
-    c.refused_limits-then-s-end-lt2.ensures
-    ∙ rw (
+    rw (
       headed (goal.at.returns-then-s-end-lt2 c).In-Some,
       (second (goal.at.returns-then-s-end-lt2 c).In-Some).0
           ∙ empty,

@@ -1,16 +1,16 @@
 -- `register::limits_csv::second_limits` meets its contract. Assumes nothing.
 use Rattle.std.specs.Prelude.{◌+◌, ◌-◌, ◌≤◌}
-use mathlib.Core.{Path.◌≡◌, Path.ap, Path.◌∙◌, Bool.cond}
+use mathlib.Core.{Path.◌≡◌, Path.sym, Path.ap, Path.◌∙◌, Bool.cond}
 use native.Mathlib.Omega.{arith}
-use borrow.Author.{Tests.le-leb, Tests.lt-leb, Tests.not-true, Tests.not-false}
+use borrow.Author.{Tests.le-leb, Tests.lt-leb}
 use lib.{Dec.leb, ListN.length, ListN.take, ListN.drop, ListN.length-drop}
 use Rattle.text.specs.Line.{first_line, lines_of}
 use Rattle.text.proofs.Lines.{line_take, line_length, lines-one}
-use Rattle.register.specs.Cell.{cells_of}
+use Rattle.register.specs.{Cell.cells_of, InnerCell.cells_told}
 use Rattle.register.specs.LimitsFile.{judged_limits, refused_limits, second_limits}
 use Rattle.register.specs.declared.cell.Table.TheVariants.{LimitsFile}
 use Rattle.register.proofs.limits_csv.second_limits.Goals as goal
-use Rattle.register.proofs.limits_csv.second_limits.Goals.{After-line_end-end, After-read_cells-cells, Else-not-cells}
+use Rattle.register.proofs.limits_csv.second_limits.Goals.{After-line_end-end, After-read_cells, In-Some}
 
 -- the line ends within the text
 within : (c : After-line_end-end) → c.line_end-end.result ≤ length c.args.s.now
@@ -25,52 +25,39 @@ within c =
     )
 
 -- the cells are those of the second line
-second : (c : After-read_cells-cells) → let a = c.args in
-    c.read_cells-cells.result ≡ cells_of LimitsFile (1 + a.points) (first_line (drop a.start a.s.now))
+second : (c : After-read_cells) → let a = c.args in
+    cells_told c.read_cells.result ≡ cells_of LimitsFile (1 + a.points) (first_line (drop a.start a.s.now))
 second c =
     let a = c.args in
     let t = drop a.start a.s.now in
-    let n : c.line_end-end.result - a.start ≡ length (first_line t) =
-    omega (arith, c.line_end-end.ensures) in
-    c.read_cells-cells.ensures ∙ ap (cells_of LimitsFile (1 + a.points)) (ap (λ k. take k t) n ∙ line_take t)
+    let n : c.line_end-end.result - a.start ≡ length (first_line t) = omega (arith, c.line_end-end.ensures) in
+    c.read_cells.ensures ∙ ap (cells_of LimitsFile (1 + a.points)) (ap (λ k. take k t) n ∙ line_take t)
 
-pub returns-then-not-cells : goal.returns-then-not-cells
+pub returns-in_default : goal.returns-in_default
 unfolding second_limits
-returns-then-not-cells c =
-    c.refused_limits.ensures
-    ∙ rw (
-      ← second (goal.at.returns-then-not-cells c).After-read_cells-cells,
-      not-true c.read_cells-cells.result.read c.if-not-cells.true,
-    )
+returns-in_default c =
+    let off = ap cells_told (sym c.in_default.is) ∙ second (goal.at.returns-in_default c).After-read_cells in rw (← off)
 
 -- past the first test the bytes behind the line decide
-past : (c : Else-not-cells) →
+past : (c : In-Some) →
     let a = c.args in
     let t = drop a.start a.s.now in
     second_limits a.points (first_line t) (1 + length (lines_of t))
-    ≡ cond (leb (length t) (length (first_line t) + 2)) (judged_limits a.points c.read_cells-cells.result.values)
+    ≡ cond (leb (length t) (length (first_line t) + 2)) (judged_limits a.points c.in-Some.line.values)
     (refused_limits 16 3)
 unfolding second_limits
 past c =
     let a = c.args in
-    let t = drop a.start a.s.now in
-    let n : c.line_end-end.result - a.start ≡ length (first_line t) = omega (arith, c.line_end-end.ensures) in
-    let cells : c.read_cells-cells.result ≡ cells_of LimitsFile (1 + a.points) (first_line t) =
-    c.read_cells-cells.ensures ∙ ap (cells_of LimitsFile (1 + a.points)) (ap (λ k. take k t) n ∙ line_take t) in
-    rw (
-      ← cells,
-      not-false c.read_cells-cells.result.read c.if-not-cells.false,
-      lines-one (drop a.start a.s.now),
-    )
+    let on = ap cells_told (sym c.in-Some.is) ∙ second (goal.at.In-Some c).After-read_cells in
+    rw (← on, lines-one (drop a.start a.s.now))
 
 pub returns-then-s-end-gt2 : goal.returns-then-s-end-gt2
 returns-then-s-end-gt2 c =
     let a = c.args in
     let t = drop a.start a.s.now in
     let long = length-drop a.start a.s.now in
-    c.refused_limits-then-s-end-gt2.ensures
-    ∙ rw (
-      past (goal.at.returns-then-s-end-gt2 c).Else-not-cells,
+    rw (
+      past (goal.at.returns-then-s-end-gt2 c).In-Some,
       lt-leb (length t) (length (first_line t) + 2) (omega (arith, c.line_end-end.ensures, c.if-s-end-gt2.true)),
     )
 
@@ -82,7 +69,7 @@ returns c =
     let inside = within (goal.at.returns c).After-line_end-end in
     c.judged_limits.ensures
     ∙ rw (
-      past (goal.at.returns c).Else-not-cells,
+      past (goal.at.returns c).In-Some,
       le-leb (length t) (length (first_line t) + 2) (omega (arith, c.line_end-end.ensures, c.if-s-end-gt2.false)),
     )
 

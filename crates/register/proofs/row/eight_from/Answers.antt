@@ -1,22 +1,7 @@
-use Rattle.std.specs.Prelude.{◌+◌, get_or}
-use mathlib.Core.{Path.◌≡◌, Path.refl, Path.◌∙◌, List.append-nil}
-use native.Mathlib.Omega.{arith}
-use Rattle.text.specs.Index.{listing}
-use Rattle.text.proofs.Indices.{store_more}
-use Rattle.register.specs.Row.{eight_from}
+-- `register::row::eight_from` meets its contract: eight values are copied. Assumes nothing.
+use Rattle.std.proofs.Common.{◌∙◌, arith}
+use Rattle.register.proofs.Rows.{eight_part}
 use Rattle.register.proofs.row.eight_from.Goals as goal
 
-pub loop-i-preserved : goal.loop-i-preserved
-loop-i-preserved c = (
-  rw c.loop-i.invariant.0
-      (store_more (λ j. get_or c.args.values (c.args.k + j) 0) c.loop-i.i 8
-      c.loop-i-test.true),
-  omega arith,
-)
-
 pub returns : goal.returns
-unfolding eight_from
-returns c = let e : c.loop-i.i ≡ 8 = omega arith in rw e at c.loop-i.invariant.0 ∙ append-nil _
-
-pub loop-i-init : goal.loop-i-init
-loop-i-init c = unfold listing in (refl, omega arith)
+returns c = c.copy_from_slice.ensures.after ∙ eight_part c.args.k c.args.values (omega arith)

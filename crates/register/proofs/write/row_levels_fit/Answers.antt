@@ -1,27 +1,18 @@
--- `register::write::row_levels_fit` meets its contract. Assumes nothing.
-use mathlib.Core.Path.{◌∙◌}
-use borrow.Author.{Tests.eq-eqb, Tests.ne_eqb}
-use Rattle.refusal.proofs.Laws.{settled}
+-- `register::write::row_levels_fit` meets its contract: its tests are those of `row_levels_fit`. Assumes nothing.
+use Rattle.std.proofs.Common.{arith}
+use Rattle.std.proofs.lemmas.Bool.Decides.{nat_tests}
+use Rattle.std.proofs.lemmas.Grind.{common_steps}
 use Rattle.register.specs.Write.{row_levels_fit}
 use Rattle.register.proofs.write.row_levels_fit.Goals as goal
 
-pub returns-then-mark-eq0 : goal.returns-then-mark-eq0
+pub returns-then-mark-ne0 : goal.returns-then-mark-ne0
 unfolding row_levels_fit
-returns-then-mark-eq0 c =
-    c.all_within.ensures ∙ rw (
-      settled c.levels_fit.ensures
-          c.if-not-levels_fit.false,
-      eq-eqb c.args.mark 0
-          c.if-mark-eq0.true,
-    )
+returns-then-mark-ne0 c = grind (arith, common_steps, nat_tests)
 
-pub returns : goal.returns
+pub returns-else-mark-ne0 : goal.returns-else-mark-ne0
 unfolding row_levels_fit
-returns c =
-    rw (
-      settled c.levels_fit.ensures c.if-not-levels_fit.false,
-      ne_eqb c.args.mark 0 c.if-mark-eq0.false,
-    )
+returns-else-mark-ne0 c = grind (arith, common_steps, nat_tests)
 
-pub returns-then-not-levels_fit : goal.returns-then-not-levels_fit
-returns-then-not-levels_fit c = unfold row_levels_fit in rw (settled c.levels_fit.ensures c.if-not-levels_fit.true)
+pub returns-else-levels_fit : goal.returns-else-levels_fit
+unfolding row_levels_fit
+returns-else-levels_fit c = grind (arith, common_steps, nat_tests)
