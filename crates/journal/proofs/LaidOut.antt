@@ -11,7 +11,7 @@ use Rattle.book_rules.specs.Calls.Call.{enter, supply, take_back, withdraw}
 use Rattle.journal.specs.Journal.{width_of, call_at, calls_of, laid_out}
 use Rattle.journal.specs.Spelling.{spelled, journal_of, LaidExactly, Laid}
 use Rattle.journal.proofs.Reading.{complete_width, calls_more, laid_more, laid_complete, nothing_left}
-use Rattle.journal.proofs.Reading.{laid_cut, tail_is_lem}
+use Rattle.journal.proofs.Reading.{laid_cut}
 use Rattle.journal.proofs.Audit.{laid_spelled, journal_calls}
 
 -- The numbers of a call in front of the others
@@ -112,7 +112,7 @@ laid_exactly j =
 
 cut : (j : List ℕ) → 0 < length j → (width_of j < 1) ⊎ (length j < width_of j) → laid_out j ≡ false
 cut j h k =
-    laid_cut j 0 (width_of j) (ap width_of (sym (tail_is_lem j 0))) h (⊎_elim (λ z. inl z) (λ z. inr (omega arith)) k)
+    laid_cut j (width_of j) refl h k
 
 unknown : (n : ℕ) (rest : List ℕ) → (n ≡ 0) ⊎ (4 < n) → laid_out (n ∷ rest) ≡ false
 unfolding width_of

@@ -3,12 +3,17 @@ use Rattle.std.specs.Prelude.{◌≡◌, ℕ, zero, suc, ◌+◌, ◌-◌, ◌<�
 use mathlib.Core.Path.{refl, sym, ap, ◌∙◌}
 use mathlib.Core.Bool.{and-false}
 use mathlib.Core.{List.List, List.[], List.◌∷◌, Logic.◌⊎◌, Logic.⊎_elim}
-use native.Mathlib.Omega.{arith}
-use lib.{ListN.length, ListN.take, ListN.drop, ListN.get_or, ListN.length-drop, Seq.drop-drop, Seq.take_all}
-use borrow.Author.Tests.{le-leb, lt-leb, leb-true, ne_eqb}
+use native.Mathlib.{Nat.pos_of_ne-zero, Omega.arith}
+use lib.{ListN.length, ListN.take, ListN.drop, ListN.get_or, ListN.length-drop, Seq.take_all}
+use borrow.Author.Tests.{le-leb, lt-leb, leb-true, eqb-true, eqb-false}
 use Rattle.refusal.proofs.Laws.{and_left, and_right}
 use Rattle.book_rules.specs.Calls.{Call}
-use Rattle.book_rules.specs.Calls.Call.{enter, supply, take_back, withdraw}
+use Rattle.book_rules.specs.Calls.Call.{take_back, withdraw}
+use Rattle.std.specs.Prelude.{Option, Some, None}
+use Rattle.journal.specs.declared.numbers.Kind.{Kind}
+use Rattle.journal.specs.declared.numbers.Kind.TheVariants.{Enter, Supply, TakeBack, Withdraw}
+use Rattle.journal.specs.InnerKind.{kind_numbered}
+use Rattle.journal.specs.Journal.{enter_at, supply_at}
 use Rattle.journal.specs.Journal.{width_of, call_at, complete, calls_from, laid_out_from, calls_of, laid_out}
 
 -- numbers that belong to the call before are passed over
@@ -70,12 +75,7 @@ unfolding laid_out laid_out_from calls_of calls_from
 nothing_left [] h = (refl, refl)
 nothing_left (x ∷ j) h = absurd (omega arith)
 
--- The same, at number `at` of a journal whose rest is lent as a part
-
-pub past : (xs : List ℕ) (i : ℕ) → length xs ≤ i → get_or xs i 0 ≡ 0
-past [] i h = refl
-past (x ∷ xs) zero h = absurd (omega arith)
-past (x ∷ xs) (suc i) h = past xs i (omega arith)
+-- The same, where the rest is lent as a part
 
 -- the part from `at` on
 abbrev pub tail : List ℕ → ℕ → List ℕ
@@ -84,108 +84,53 @@ tail j at = take (length j - at) (drop at j)
 pub tail_is_lem : (j : List ℕ) (at : ℕ) → tail j at ≡ drop at j
 tail_is_lem j at = take_all (length j - at) (drop at j) (omega (arith, length-drop at j))
 
+pub length_tail : (j : List ℕ) (at : ℕ) → length (tail j at) ≡ length j - at
+length_tail j at = ap length (tail_is_lem j at) ∙ length-drop at j
+
+-- what a loop's test says of what is left
+pub some_left : (j : List ℕ) {t : Bool} → t ≡ eqb (length j) 0 → t ≡ false → 0 < length j
+some_left j e f = pos_of_ne-zero (eqb-false (length j) 0 (sym e ∙ f))
+
+pub none_left : (j : List ℕ) {t : Bool} → t ≡ eqb (length j) 0 → t ≡ true → length j ≤ 0
+none_left j e f = let z = eqb-true (length j) 0 (sym e ∙ f) in omega arith
+
 -- a call that is not complete: of no known kind, or cut short
-pub laid_cut : (j : List ℕ) (at w : ℕ) → w ≡ width_of (tail j at) → at < length j
-    → (w < 1) ⊎ (length j - at < w)
-    → laid_out (drop at j) ≡ false
+pub laid_cut : (j : List ℕ) (w : ℕ) → w ≡ width_of j → 0 < length j → (w < 1) ⊎ (length j < w) → laid_out j ≡ false
 unfolding complete
-laid_cut j at w e h k =
-    let v : w ≡ width_of (drop at j) = e ∙ ap width_of (tail_is_lem j at) in
-    let n = length-drop at j in
-    laid_off (drop at j) (omega arith)
-    (⊎_elim (λ a. rw (lt-leb 1 (width_of (drop at j)) (omega arith)) refl)
-    (λ a. rw (lt-leb (width_of (drop at j)) (length (drop at j)) (omega arith))
-    (and-false (leb 1 (width_of (drop at j))))) k)
+laid_cut j w e h k =
+    laid_off j h
+    (⊎_elim (λ a. rw (lt-leb 1 (width_of j) (omega arith)) refl)
+    (λ a. rw (lt-leb (width_of j) (length j) (omega arith)) (and-false (leb 1 (width_of j)))) k)
 
 -- a complete call, and what follows it
-pub record Step (j : List ℕ) (at w : ℕ) : Type 0 where
+pub record Step (j : List ℕ) (w : ℕ) : Type 0 where
   pub some : 1 ≤ w
-  pub fits : at + w ≤ length j
-  pub complete= : complete (tail j at) ≡ true
-  pub laid : laid_out (drop at j) ≡ laid_out (drop (at + w) j)
-  pub calls : calls_of (drop at j) ≡ call_at (tail j at) ∷ calls_of (drop (at + w) j)
+  pub fits : w ≤ length j
+  pub complete= : complete j ≡ true
+  pub laid : laid_out j ≡ laid_out (tail j w)
+  pub calls : calls_of j ≡ call_at j ∷ calls_of (tail j w)
 
-step_of : (j : List ℕ) (at w : ℕ) → w ≡ width_of (tail j at) → at < length j
-    → complete (drop at j) ≡ true → Step j at w
-step_of j at w e h t =
-    let v : w ≡ width_of (drop at j) = e ∙ ap width_of (tail_is_lem j at) in
-    let n = length-drop at j in
-    let ww = complete_width (drop at j) t in
-    let d : drop (width_of (drop at j)) (drop at j) ≡ drop (at + w) j = drop-drop (width_of (drop at j)) at j
-    ∙ ap (λ k. drop (at + k) j) (sym v) in
+step_of : (j : List ℕ) (w : ℕ) → w ≡ width_of j → 0 < length j → complete j ≡ true → Step j w
+step_of j w e h t =
+    let ww = complete_width j t in
+    let d : drop (width_of j) j ≡ tail j w = ap (λ k. drop k j) (sym e) ∙ sym (tail_is_lem j w) in
     record {
       some = omega arith;
       fits = omega arith;
-      complete= = ap complete (tail_is_lem j at) ∙ t;
-      laid = laid_more (drop at j) (omega arith) t ∙ ap laid_out d;
-      calls = calls_more (drop at j) (omega arith) t ∙ (λ i. call_at (sym (tail_is_lem j at) i) ∷ calls_of (d i));
+      complete= = t;
+      laid = laid_more j h t ∙ ap laid_out d;
+      calls = calls_more j h t ∙ ap (λ (k : List ℕ). call_at j ∷ calls_of k) d;
     }
 
 -- by the tests of the check
-pub step_tested : (j : List ℕ) (at w : ℕ) → w ≡ width_of (tail j at) → at < length j → 1 ≤ w
-    → w ≤ length j - at
-    → Step j at w
+pub step_tested : (j : List ℕ) (w : ℕ) → w ≡ width_of j → 0 < length j → 1 ≤ w → w ≤ length j → Step j w
 unfolding complete
-step_tested j at w e h a b =
-    let v : w ≡ width_of (drop at j) = e ∙ ap width_of (tail_is_lem j at) in
-    let n = length-drop at j in
-    step_of j at w e h (rw (
-      le-leb 1 (width_of (drop at j)) (omega arith),
-      le-leb (width_of (drop at j)) (length (drop at j)) (omega arith),
-    ) refl)
+step_tested j w e h a b =
+    step_of j w e h (rw (le-leb 1 (width_of j) (omega arith), le-leb (width_of j) (length j) (omega arith)) refl)
 
 -- or by the layout
-pub step_laid : (j : List ℕ) (at w : ℕ) → w ≡ width_of (tail j at) → at < length j
-    → laid_out (drop at j) ≡ true
-    → Step j at w
-step_laid j at w e h l = step_of j at w e h (laid_complete (drop at j) (omega (arith, length-drop at j)) l)
-
--- What the first number says of the call
-
-module _ (j : List ℕ) where
-  pub width_enter : get_or j 0 0 ≡ 1 → width_of j ≡ 7 + get_or j 6 0
-  unfolding width_of
-  width_enter e = rw e refl
-
-  pub width_supply : get_or j 0 0 ≡ 2 → width_of j ≡ 3 + get_or j 2 0
-  unfolding width_of
-  width_supply e = rw e refl
-
-  pub width_take_back : get_or j 0 0 ≡ 3 → width_of j ≡ 2
-  unfolding width_of
-  width_take_back e = rw e refl
-
-  pub width_withdraw : get_or j 0 0 ≡ 4 → width_of j ≡ 2
-  unfolding width_of
-  width_withdraw e = rw e refl
-
-  pub width_none : (get_or j 0 0 ≡ 1 → ⊥) → (get_or j 0 0 ≡ 2 → ⊥) → (get_or j 0 0 ≡ 3 → ⊥)
-      → (get_or j 0 0 ≡ 4 → ⊥)
-      → width_of j ≡ 0
-  unfolding width_of
-  width_none a b d e =
-      rw (ne_eqb (get_or j 0 0) 1 a, ne_eqb (get_or j 0 0) 2 b, ne_eqb (get_or j 0 0) 3 d, ne_eqb (get_or j 0 0) 4 e)
-      refl
-
-  pub call_enter : get_or j 0 0 ≡ 1
-      → call_at j
-      ≡ enter (get_or j 1 0) (get_or j 2 0) (get_or j 3 0) (get_or j 4 0) (get_or j 5 0)
-      (take (get_or j 6 0) (drop 7 j))
-  unfolding call_at
-  call_enter e = rw e refl
-
-  pub call_supply : get_or j 0 0 ≡ 2 → call_at j ≡ supply (get_or j 1 0) (take (get_or j 2 0) (drop 3 j))
-  unfolding call_at
-  call_supply e = rw e refl
-
-  pub call_take_back : get_or j 0 0 ≡ 3 → call_at j ≡ take_back (get_or j 1 0)
-  unfolding call_at
-  call_take_back e = rw e refl
-
-  pub call_withdraw : (get_or j 0 0 ≡ 1 → ⊥) → (get_or j 0 0 ≡ 2 → ⊥) → (get_or j 0 0 ≡ 3 → ⊥)
-      → call_at j ≡ withdraw (get_or j 1 0)
-  unfolding call_at
-  call_withdraw a b d = rw (ne_eqb (get_or j 0 0) 1 a, ne_eqb (get_or j 0 0) 2 b, ne_eqb (get_or j 0 0) 3 d) refl
+pub step_laid : (j : List ℕ) (w : ℕ) → w ≡ width_of j → 0 < length j → laid_out j ≡ true → Step j w
+step_laid j w e h l = step_of j w e h (laid_complete j h l)
 
 -- the width by the three tests on the first number
 width_by : (j : List ℕ) (a b d : Bool) → eqb (get_or j 0 0) 1 ≡ a → eqb (get_or j 0 0) 2 ≡ b
@@ -206,3 +151,67 @@ complete_two j e =
     by false true d p w = omega (arith, p, w)
     by false false true p w = omega (arith, p, w)
     by false false false p w = absurd (omega (arith, p, w))
+
+-- What the kind of the call says of it
+
+abbrev pub width_for : Option Kind → List ℕ → ℕ
+width_for (Some Enter) j = 7 + get_or j 6 0
+width_for (Some Supply) j = 3 + get_or j 2 0
+width_for (Some TakeBack) j = 2
+width_for (Some Withdraw) j = 2
+width_for None j = 0
+
+pub width_kind : (j : List ℕ) {k : Option Kind} → k ≡ kind_numbered (get_or j 0 0) → width_of j ≡ width_for k j
+unfolding width_of
+width_kind j {k} e =
+    by (eqb (get_or j 0 0) 1) (eqb (get_or j 0 0) 2) (eqb (get_or j 0 0) 3) (eqb (get_or j 0 0) 4)
+    ∙ ap (λ (o : Option Kind). width_for o j) (sym e)
+  where
+    by : (a b c d : Bool)
+        → cond a (7 + get_or j 6 0) (cond b (3 + get_or j 2 0) (cond (c || d) 2 0))
+        ≡ width_for (cond a (Some Enter) (cond b (Some Supply) (cond c (Some TakeBack) (cond d (Some Withdraw) None)))) j
+    by true b c d = refl
+    by false true c d = refl
+    by false false true d = refl
+    by false false false true = refl
+    by false false false false = refl
+
+abbrev pub call_for : Option Kind → List ℕ → Call
+call_for (Some Enter) j = enter_at j
+call_for (Some Supply) j = supply_at j
+call_for (Some TakeBack) j = take_back (get_or j 1 0)
+call_for (Some Withdraw) j = withdraw (get_or j 1 0)
+call_for None j = withdraw (get_or j 1 0)
+
+pub call_kind : (j : List ℕ) {k : Option Kind} → k ≡ kind_numbered (get_or j 0 0) → call_at j ≡ call_for k j
+unfolding call_at
+call_kind j {k} e =
+    by (eqb (get_or j 0 0) 1) (eqb (get_or j 0 0) 2) (eqb (get_or j 0 0) 3) (eqb (get_or j 0 0) 4)
+    ∙ ap (λ (o : Option Kind). call_for o j) (sym e)
+  where
+    by : (a b c d : Bool)
+        → cond a (enter_at j) (cond b (supply_at j) (cond c (take_back (get_or j 1 0)) (withdraw (get_or j 1 0))))
+        ≡ call_for (cond a (Some Enter) (cond b (Some Supply) (cond c (Some TakeBack) (cond d (Some Withdraw) None)))) j
+    by true b c d = refl
+    by false true c d = refl
+    by false false true d = refl
+    by false false false true = refl
+    by false false false false = refl
+
+-- Counting calls
+
+pub record Counted (j rest : List ℕ) (count : ℕ) : Type 0 where
+  pub within : count + length rest ≤ length j
+  pub laid : laid_out rest ≡ true
+  pub calls : length (calls_of j) ≡ count + length (calls_of rest)
+
+pub counted_more : {j rest : List ℕ} {w count : ℕ} → Counted j rest count → Step rest w
+    → Counted j (tail rest w) (count + 1)
+counted_more {j} {rest} {w} {count} c s =
+    let l = length_tail rest w in
+    let n = ap length s.calls in
+    record {
+      within = omega (arith, s.some, s.fits, c.within);
+      laid = sym s.laid ∙ c.laid;
+      calls = omega (arith, c.calls);
+    }

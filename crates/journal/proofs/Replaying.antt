@@ -9,31 +9,26 @@ use Rattle.refusal.proofs.Laws.{refuse_none}
 use Rattle.room.specs.Room.{front}
 use Rattle.room.proofs.Laws.{front_to, front_to_more, front_to_end}
 use Rattle.book_rules.specs.{Columns.Book, Columns.sound, Calls.Call, Calls.Called, Calls.refusal, Calls.after}
-use Rattle.book_rules.specs.History.{Made, made, booked, answered}
+use Rattle.book_rules.specs.History.{made, booked, answered}
 use Rattle.book_rules.proofs.Kept.{called_sound}
 use Rattle.journal.specs.Journal.{call_at, calls_of, laid_out, made_for, calls_for, replay_refusal, Replayed}
-use Rattle.journal.proofs.Reading.{Step, tail, nothing_left}
-
--- the calls still to make from number `at` on
-abbrev pub calls : ℕ → List ℕ → ℕ → List Made
-calls p j at = calls_for p (drop at j)
+use Rattle.journal.proofs.Reading.{Step, tail, length_tail, nothing_left}
 
 -- all answers of the journal
 abbrev pub all : ℕ → Book → List ℕ → List ℕ
 all p b j = answered b (calls_for p j)
 
-pub record Replaying (p : ℕ) (b₀ : Book) (j room₀ : List ℕ) (at made : ℕ) (b : Book)
-    (room : List ℕ) : Type 0 where
-  pub within : at ≤ length j
+pub record Replaying (p : ℕ) (b₀ : Book) (j room₀ rest : List ℕ) (made : ℕ) (b : Book) (room : List ℕ) : Type 0 where
+  pub within : length rest ≤ length j
   pub sound= : sound p b ≡ true
-  pub laid : laid_out (drop at j) ≡ true
-  pub book : booked b₀ (calls_for p j) ≡ booked b (calls p j at)
-  pub answers : drop made (all p b₀ j) ≡ answered b (calls p j at)
+  pub laid : laid_out rest ≡ true
+  pub book : booked b₀ (calls_for p j) ≡ booked b (calls_for p rest)
+  pub answers : drop made (all p b₀ j) ≡ answered b (calls_for p rest)
   pub done : made ≤ length (all p b₀ j)
   pub answered= : room ≡ front_to (all p b₀ j) room₀ made
 
 pub replay_starts : (p : ℕ) (b : Book) (j room : List ℕ) → sound p b ≡ true → laid_out j ≡ true
-    → Replaying p b j room 0 0 b room
+    → Replaying p b j room j 0 b room
 replay_starts p b j room s l = record {
   within = omega arith;
   sound= = s;
@@ -44,26 +39,23 @@ replay_starts p b j room s l = record {
   answered= = refl;
 }
 
-more : (p at w : ℕ) (j : List ℕ) → Step j at w
-    → calls p j at ≡ made p (call_at (tail j at)) ∷ calls p j (at + w)
+more : (p w : ℕ) (j : List ℕ) → Step j w → calls_for p j ≡ made p (call_at j) ∷ calls_for p (tail j w)
 unfolding made_for
-more p at w j s = ap (made_for p) s.calls
+more p w j s = ap (made_for p) s.calls
 
--- what the call at `at` answers is the next answer of all
-pub record Next (p : ℕ) (b₀ : Book) (j : List ℕ) (at w made : ℕ) (b : Book) : Type 0 where
+-- what the next call answers is the next answer of all
+pub record Next (p : ℕ) (b₀ : Book) (j rest : List ℕ) (w made : ℕ) (b : Book) : Type 0 where
   pub inside : made < length (all p b₀ j)
-  pub answer : get_or (all p b₀ j) made 0 ≡ refusal p b (call_at (tail j at))
-  pub later : drop (made + 1) (all p b₀ j) ≡ answered (after p b (call_at (tail j at))) (calls p j (at + w))
+  pub answer : get_or (all p b₀ j) made 0 ≡ refusal p b (call_at rest)
+  pub later : drop (made + 1) (all p b₀ j) ≡ answered (after p b (call_at rest)) (calls_for p (tail rest w))
 
-pub next : {p : ℕ} {b₀ : Book} {j room₀ : List ℕ} {at w made : ℕ} {b : Book} {room : List ℕ}
-    → Replaying p b₀ j room₀ at made b room → Step j at w
-    → Next p b₀ j at w made b
+pub next : {p : ℕ} {b₀ : Book} {j room₀ rest : List ℕ} {w made : ℕ} {b : Book} {room : List ℕ}
+    → Replaying p b₀ j room₀ rest made b room → Step rest w → Next p b₀ j rest w made b
 unfolding answered
-next {p} {b₀} {j} {room₀} {at} {w} {made} {b} {room} r step =
+next {p} {b₀} {j} {room₀} {rest} {w} {made} {b} {room} r step =
     let s = all p b₀ j in
-    let e : drop made s ≡ refusal p b (call_at (tail j at)) ∷ answered (after p b (call_at (tail j at)))
-    (calls p j (at + w)) =
-    r.answers ∙ ap (answered b) (more p at w j step) in
+    let e : drop made s ≡ refusal p b (call_at rest) ∷ answered (after p b (call_at rest)) (calls_for p (tail rest w)) =
+    r.answers ∙ ap (answered b) (more p w rest step) in
     record {
       inside = omega (arith, ap length e, length-drop made s);
       answer =
@@ -72,34 +64,35 @@ next {p} {b₀} {j} {room₀} {at} {w} {made} {b} {room} r step =
       later = sym (drop-drop 1 made s) ∙ ap (drop 1) e;
     }
 
-pub replay_more : {p : ℕ} {b₀ : Book} {j room₀ : List ℕ} {at w made r : ℕ} {b b' : Book} {room : List ℕ}
-    → Replaying p b₀ j room₀ at made b room → Step j at w
-    → length (all p b₀ j) ≤ length room₀ → Called p b (call_at (tail j at)) r b'
-    → Replaying p b₀ j room₀ (at + w) (made + 1) b' (set room made r)
+-- where the call answered r, as it is told
+pub replay_more : {p : ℕ} {b₀ : Book} {j room₀ rest : List ℕ} {w made r said : ℕ} {b b' : Book} {room : List ℕ}
+    → Replaying p b₀ j room₀ rest made b room → Step rest w
+    → length (all p b₀ j) ≤ length room₀ → Called p b (call_at rest) r b' → said ≡ r
+    → Replaying p b₀ j room₀ (tail rest w) (made + 1) b' (set room made said)
 unfolding booked
-replay_more {p} {b₀} {j} {room₀} {at} {w} {made} {r} {b} {b'} {room} s step l c =
+replay_more {p} {b₀} {j} {room₀} {rest} {w} {made} {r} {said} {b} {b'} {room} s step l c e =
     let n = next s step in
     let i = n.inside in
     record {
-      within = step.fits;
+      within = omega (arith, length_tail rest w, s.within);
       sound= = called_sound s.sound= c;
       laid = sym step.laid ∙ s.laid;
       book =
-          s.book ∙ ap (booked b) (more p at w j step)
-          ∙ ap (λ (k : Book). booked k (calls p j (at + w))) (sym c.book);
-      answers = n.later ∙ ap (λ (k : Book). answered k (calls p j (at + w))) (sym c.book);
+          s.book ∙ ap (booked b) (more p w rest step)
+          ∙ ap (λ (k : Book). booked k (calls_for p (tail rest w))) (sym c.book);
+      answers = n.later ∙ ap (λ (k : Book). answered k (calls_for p (tail rest w))) (sym c.book);
       done = omega arith;
-      answered= = front_to_more (all p b₀ j) room₀ s.answered= (n.answer ∙ sym c.answer) i (omega arith);
+      answered= = front_to_more (all p b₀ j) room₀ s.answered= (n.answer ∙ sym c.answer ∙ sym e) i (omega arith);
     }
 
 -- all calls are made
-pub replay_ends : {p : ℕ} {b₀ : Book} {j room₀ : List ℕ} {at made : ℕ} {b : Book} {room : List ℕ}
-    → Replaying p b₀ j room₀ at made b room → length j ≤ at
+pub replay_ends : {p : ℕ} {b₀ : Book} {j room₀ rest : List ℕ} {made : ℕ} {b : Book} {room : List ℕ}
+    → Replaying p b₀ j room₀ rest made b room → length rest ≤ 0
     → (b ≡ booked b₀ (calls_for p j)) × (room ≡ front (all p b₀ j) room₀)
 unfolding booked answered made_for
-replay_ends {p} {b₀} {j} {room₀} {at} {made} {b} {room} r h =
+replay_ends {p} {b₀} {j} {room₀} {rest} {made} {b} {room} r h =
     let s = all p b₀ j in
-    let none : calls_of (drop at j) ≡ [] = (nothing_left (drop at j) (omega (arith, length-drop at j))).1 in
+    let none : calls_of rest ≡ [] = (nothing_left rest h).1 in
     let e : drop made s ≡ [] = r.answers ∙ ap (λ (cs : List Call). answered b (made_for p cs)) none in
     let n : made ≡ length s = omega (arith, ap length e, length-drop made s, r.done) in (
       sym (r.book ∙ ap (λ (cs : List Call). booked b (made_for p cs)) none),

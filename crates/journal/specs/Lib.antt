@@ -1,3 +1,4 @@
+pub mod InnerKind
 pub mod Journal
 pub mod Spelling
 pub mod Replay

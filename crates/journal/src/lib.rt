@@ -6,6 +6,7 @@ mod making;
 mod numbers;
 
 ghost use Rattle.std.specs.Prelude.{◌≡◌, ◌≤◌, true, length};
+ghost use Rattle.refusal.specs.Refusal.{told};
 ghost use Rattle.book_rules.specs.Columns.{book_lent, sound};
 ghost use Rattle.book_rules.specs.History.{booked, answered};
 ghost use Rattle.room.specs.Room.{front};
@@ -13,9 +14,10 @@ ghost use Rattle.journal.specs.Journal.{laid_out, calls_of, calls_for, replay_re
 
 use making::make_call;
 use numbers::{count_calls, is_laid_out, width_of};
+use refusal::{Refusal, told};
 use soundness::is_sound;
 
-// 16, then 9, then 14, or 0.
+// 16, then 9, then 14.
 fn replay_refusal(
     ids: &[u32],
     groups: &[u32],
@@ -25,20 +27,20 @@ fn replay_refusal(
     points: usize,
     journal: &[u32],
     room: usize,
-) -> u32
-    ensures { result
+) -> Result<(), Refusal>
+    ensures { told result
         ≡ replay_refusal points (book_lent ids.now groups.now marks.now counts.now levels.now) journal.now room }
 {
     if !is_laid_out(journal) {
-        return 16;
+        return Err(Refusal::OffLayout);
     }
     if !is_sound(ids, groups, marks, counts, levels, points) {
-        return 9;
+        return Err(Refusal::NotSound);
     }
     if room < count_calls(journal) {
-        return 14;
+        return Err(Refusal::TooLittleRoom);
     }
-    0
+    Ok(())
 }
 
 // Makes every call of a journal on the layout, on a sound book, with room for every answer.
@@ -61,14 +63,13 @@ fn run(
         ≡ front (answered (book_lent ids.old groups.old marks.old counts.old levels.old) (calls_for points journal.now))
         answers.old }
 {
-    let mut at = 0;
+    let mut rest = journal;
     let mut made = 0;
-    while at < journal.len() {
-        let width = width_of(&journal[at..]);
-        let answer = make_call(ids, groups, marks, counts, levels, points, &journal[at..]);
-        answers[made] = answer;
+    while !rest.is_empty() {
+        let answer = make_call(ids, groups, marks, counts, levels, points, rest);
+        answers[made] = told(answer);
         made += 1;
-        at += width;
+        rest = &rest[width_of(rest)..];
     }
 }
 
@@ -82,11 +83,11 @@ pub fn replay(
     points: usize,
     journal: &[u32],
     answers: &mut [u32],
-) -> u32
+) -> Result<(), Refusal>
     ensures { Replayed points (book_lent ids.old groups.old marks.old counts.old levels.old) journal.now
-        answers.old result (book_lent ids.new groups.new marks.new counts.new levels.new) answers.new }
+        answers.old (told result) (book_lent ids.new groups.new marks.new counts.new levels.new) answers.new }
 {
-    let refused = replay_refusal(
+    replay_refusal(
         ids,
         groups,
         marks,
@@ -95,10 +96,7 @@ pub fn replay(
         points,
         journal,
         answers.len(),
-    );
-    if refused != 0 {
-        return refused;
-    }
+    )?;
     run(ids, groups, marks, counts, levels, points, journal, answers);
-    0
+    Ok(())
 }

@@ -1,41 +1,37 @@
-use mathlib.Core.{Path.sym, Path.ap, Path.◌∙◌}
-use Rattle.std.specs.Prelude.{length, drop}
+use mathlib.Core.{Path.ap}
+use Rattle.std.specs.Prelude.{length}
 use native.Mathlib.Omega.{arith}
-use lib.ListN.{length-drop}
-use Rattle.journal.proofs.Reading.{Step, step_laid, nothing_left}
+use Rattle.journal.proofs.Reading.{Step, step_laid, nothing_left, length_tail, some_left, none_left, counted_more}
 use Rattle.journal.proofs.numbers.count_calls.Goals as goal
-use Rattle.journal.proofs.numbers.count_calls.Goals.{After-width_of-at}
+use Rattle.journal.proofs.numbers.count_calls.Goals.{After-width_of}
 
-step : (c : After-width_of-at)
-    → Step c.args.journal.now c.loop-at.at c.width_of-at.result
+step : (c : After-width_of) → Step c.loop-rest.rest.now c.width_of.result
 step c =
-    step_laid _ _ _ c.width_of-at.ensures c.loop-at-test.true
-    c.loop-at.invariant.1.1.0
+    step_laid _ _ c.width_of.ensures (some_left _ c.is_empty.ensures c.loop-rest-test.true)
+    c.loop-rest.invariant.laid
 
-pub loop-at-preserved : goal.loop-at-preserved
-loop-at-preserved c =
-    let s = step c in
-    let n = ap length s.calls in
-    (s.fits, (omega (arith, s.some), (sym s.laid ∙ c.loop-at.invariant.1.1.0, omega arith)))
+pub loop-rest-preserved : goal.loop-rest-preserved
+loop-rest-preserved c = counted_more c.loop-rest.invariant (step (goal.at.loop-rest-preserved c).After-width_of)
+
+pub loop-rest-smaller : goal.loop-rest-smaller
+loop-rest-smaller c =
+    let s = step (goal.at.loop-rest-smaller c).After-width_of in
+    omega (arith, s.some, s.fits, length_tail c.loop-rest.rest.now c.width_of.result)
+
+pub slice_bounds-rest-count : goal.slice_bounds-rest-count
+slice_bounds-rest-count c = (step (goal.at.slice_bounds-rest-count c).After-width_of).fits
+
+pub slice_bounds-rest-start : goal.slice_bounds-rest-start
+slice_bounds-rest-start c = (step (goal.at.slice_bounds-rest-start c).After-width_of).fits
+
+pub offset_bounds-rest-width_of : goal.offset_bounds-rest-width_of
+offset_bounds-rest-width_of c =
+    let s = (step (goal.at.offset_bounds-rest-width_of c).After-width_of).fits in omega arith
 
 pub returns : goal.returns
 returns c =
-    let j = c.args.journal.now in
-    let l = length-drop c.loop-at.at j in
-    let n = ap length (nothing_left (drop c.loop-at.at j) (omega arith)).1 in
+    let n = ap length (nothing_left c.loop-rest.rest.now (none_left _ c.is_empty.ensures c.loop-rest-test.false)).1 in
     omega arith
 
-pub loop-at-init : goal.loop-at-init
-loop-at-init c = (omega arith, (omega arith, (c.requires, omega arith)))
-
-pub offset_bounds-journal-at : goal.offset_bounds-journal-at
-offset_bounds-journal-at c = omega arith
-
-pub overflow_add-at : goal.overflow_add-at
-overflow_add-at c = let s = (step c).fits in omega arith
-
-pub overflow_add-count : goal.overflow_add-count
-overflow_add-count c = let s = (step c).fits in let t = (step c).some in omega arith
-
-pub loop-at-smaller : goal.loop-at-smaller
-loop-at-smaller c = let s = step c in omega (arith, s.some, s.fits)
+pub loop-rest-init : goal.loop-rest-init
+loop-rest-init c = record { within = omega arith; laid = c.requires; calls = omega arith }
