@@ -6,8 +6,8 @@
 #![tactic(auto)]
 
 use cases::fields::{numbers, place};
-use cases::inner::line_past;
 use cases::show::{field, list, say};
+use refusal::told;
 
 // The descriptor of standard input.
 const STDIN_FILENO: i32 = 0;
@@ -47,7 +47,7 @@ fn replayed(
     let mut ids = [0u32; 3];
     let mut groups = [0u32; 3];
     let mut marks = [0u32; 3];
-    let got = journal::replay(
+    let got = told(journal::replay(
         &mut ids,
         &mut groups,
         &mut marks,
@@ -56,7 +56,7 @@ fn replayed(
         points,
         calls,
         answers,
-    );
+    ));
     shown(b"  replay", &[got], line, 6);
     shown(b"  calls", answers, line, 7);
     show_book(&ids, &groups, &marks, counts, levels, line);
@@ -67,13 +67,7 @@ fn lent(counts: &mut [u32], levels: &mut [u32], answers: &mut [u32], calls: &[u3
     let said = place(line, 2);
     let many = place(line, 3);
     let room = place(line, 4);
-    if counts.len() < said {
-        return;
-    }
-    if levels.len() < many {
-        return;
-    }
-    if answers.len() < room {
+    if counts.len() < said || levels.len() < many || answers.len() < room {
         return;
     }
     replayed(
@@ -98,11 +92,8 @@ fn case(line: &[u8]) {
 }
 
 fn run(script: &[u8]) {
-    let mut at = 0;
-    while at < script.len() {
-        let next = line_past(script, at);
-        case(&script[at..next]);
-        at = next;
+    for line in script.split_inclusive(|b| *b == b'\n') {
+        case(line);
     }
 }
 
