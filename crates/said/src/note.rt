@@ -1,8 +1,9 @@
 // A sentence, put together in a buffer so that it goes out in one write. What finds no room is left out.
-ghost use Rattle.std.specs.Prelude.{◌<◌, ◌≤◌};
+ghost use Rattle.std.specs.Prelude.{◌≤◌};
+ghost use Rattle.said.specs.declared.note.TheConstants.{ROOM};
 
 use sentence::MAX_SENTENCE;
-use text::inner::put_number;
+use text::inner::put_any_number;
 
 // The descriptor of standard error.
 const STDERR_FILENO: i32 = 2;
@@ -15,19 +16,15 @@ const SHOWN: usize = 100;
 
 const MAX_DIGITS: usize = 20;
 
+// The digits in base 16, of which a byte has two.
+const HALVES: [u8; 16] = *b"0123456789abcdef";
+
 // A sentence as far as it is put together.
 #[derive(Drop)]
 pub struct Note {
     text: [u8; ROOM],
     size: usize,
-    ghost fits: { size ≤ 2048 },
-}
-
-// A digit of a byte's two in base 16.
-fn half(n: u8) -> u8
-    requires { n < 16 }
-{
-    if n < 10 { b'0' + n } else { b'a' + (n - 10) }
+    ghost fits: { size ≤ ROOM },
 }
 
 impl Note {
@@ -74,7 +71,7 @@ impl Note {
     // A number.
     pub fn number(&mut self, n: u64) {
         let mut digits = [0u8; MAX_DIGITS];
-        let size = put_number(&mut digits, 0, n);
+        let size = put_any_number(&mut digits, 0, n);
         self.words(&digits[..size]);
     }
 
@@ -98,8 +95,8 @@ impl Note {
             32..=126 => self.byte(b),
             _ => {
                 self.words(b"\\x");
-                self.byte(half(b / 16));
-                self.byte(half(b % 16));
+                self.byte(HALVES[(b / 16) as usize]);
+                self.byte(HALVES[(b % 16) as usize]);
             }
         }
     }

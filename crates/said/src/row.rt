@@ -67,13 +67,6 @@ impl<'a> Row<'a> {
         self.names(note, end);
     }
 
-    // A line of which not all bytes are there: a row has at most so many.
-    pub fn too_long(&self, note: &mut Note, most: u64) {
-        note.words(b"the line is longer than any row, which has up to ");
-        note.number(most);
-        note.words(b" bytes and CRLF");
-    }
-
     // A line without bytes; the first line may also be missing.
     pub fn empty(&self, note: &mut Note, end: usize, first: bool) {
         note.words(if first {
@@ -83,4 +76,11 @@ impl<'a> Row<'a> {
         });
         self.names(note, end);
     }
+}
+
+// A line of which not all bytes are there: a row has at most so many.
+pub fn too_long(note: &mut Note, most: u64) {
+    note.words(b"the line is longer than any row, which has up to ");
+    note.number(most);
+    note.words(b" bytes and CRLF");
 }

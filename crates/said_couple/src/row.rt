@@ -4,7 +4,7 @@ use flights::column::{CIRCUIT, CLASS, DATE, KIND, NUMBER, TIME};
 use flights::{TRACK_COLUMNS, read_flight};
 use said::note::Note;
 use said::part::last;
-use said::row::Row;
+use said::row::{Row, too_long};
 use said::{clock, field, odd};
 
 // The header of a file of so many columns: tracks.csv, or the movements.
@@ -31,7 +31,7 @@ pub(crate) fn reason(
     } else if let Some(what) = odd::of_csv(row.line) {
         note.words(what);
     } else if !whole {
-        row.too_long(note, if is_tracks { 46 } else { 48 });
+        too_long(note, if is_tracks { 46 } else { 48 });
     } else if row.line.is_empty() {
         empty(note, number, is_tracks, row);
     } else {

@@ -8,7 +8,7 @@ use register::row::read_layout;
 use said::note::{self, Note};
 use said::odd;
 use said::part::first_line;
-use said::row::Row;
+use said::row::{Row, too_long};
 
 // The number of points in the header and in limits.csv.
 fn points_off(note: &mut Note, here: u32, there: u32) {
@@ -36,7 +36,7 @@ fn layout(note: &mut Note, number: u64, row: Row, whole: bool, points: u32) {
     if let Some(what) = odd::of_csv(row.line) {
         note.words(what);
     } else if !whole {
-        row.too_long(note, 84);
+        too_long(note, 84);
     } else if row.line.is_empty() {
         row.empty(note, end, number == 1);
     } else if number == 1 {
