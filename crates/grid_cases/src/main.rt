@@ -7,26 +7,17 @@ mod read;
 mod written;
 
 use cases::fields::{letter, text};
-use cases::inner::line_past;
 
 // The descriptor of standard input.
 const STDIN_FILENO: i32 = 0;
 
 fn judge(line: &[u8], text: &[u8]) {
-    let kind = letter(line);
-    if kind == b'f' {
-        read::file(line, text);
-        return;
+    match letter(line) {
+        b'f' => read::file(line, text),
+        b'n' => read::network(line, text),
+        b'r' => read::room(line, text),
+        kind => written::case(kind, line),
     }
-    if kind == b'n' {
-        read::network(line, text);
-        return;
-    }
-    if kind == b'r' {
-        read::room(line, text);
-        return;
-    }
-    written::case(kind, line);
 }
 
 fn case(line: &[u8]) {
@@ -36,11 +27,8 @@ fn case(line: &[u8]) {
 }
 
 fn run(script: &[u8]) {
-    let mut at = 0;
-    while at < script.len() {
-        let next = line_past(script, at);
-        case(&script[at..next]);
-        at = next;
+    for line in script.split_inclusive(|b| *b == b'\n') {
+        case(line);
     }
 }
 

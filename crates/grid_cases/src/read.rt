@@ -1,10 +1,11 @@
 // Network files that are read.
 use cases::show::{list, say, told};
 use grid::read::{fault_line, read_network};
+use refusal::Refusal;
 
 // The answer and the line at fault.
-pub(crate) fn show(line: &[u8], answer: u32, fault: usize) {
-    told(line, 2, 1, &[answer as u64, fault as u64]);
+pub(crate) fn show(line: &[u8], answer: Result<(), Refusal>, fault: usize) {
+    told(line, 2, 1, &[refusal::told(answer) as u64, fault as u64]);
 }
 
 // Numbers in a line, each with a space before it.

@@ -7,9 +7,8 @@ use network::Frame;
 
 // The first `size` bytes of a text are read again.
 fn again(text: &[u8], size: u32) {
-    let n = size as usize;
-    if n <= text.len() {
-        network(b"||and read again: #0 #1, should be 0 0\n", &text[0..n]);
+    if let Some(written) = text.get(..size as usize) {
+        network(b"||and read again: #0 #1, should be 0 0\n", written);
     }
 }
 
@@ -44,15 +43,15 @@ fn write_two(line: &[u8], levels: &[u32]) {
     let mut text = [b'.'; 82];
     let mut size = [7u32; 1];
     let answer = write_network(levels, frame, &mut text, &mut size);
-    told(line, 3, 1, &[answer as u64]);
+    told(line, 3, 1, &[refusal::told(answer) as u64]);
 }
 
 fn write(kind: u8, line: &[u8], levels: &[u32]) {
     if kind == b'w' {
         write_wide(line, levels);
-        return;
+    } else {
+        write_two(line, levels);
     }
-    write_two(line, levels);
 }
 
 pub(crate) fn case(kind: u8, line: &[u8]) {
