@@ -39,18 +39,12 @@ pub fn print_part(
         let step = put_step(levels, frame, v, edges, counts, closed, at, &mut piece);
         let more = step.size;
         if room.len() - size < more {
-            return Part {
-                next: at,
-                size: size,
-            };
+            return Part { next: at, size };
         }
         size = text::inner::put_text(room, size, &piece[..more]);
         at = step.next;
     }
-    Part {
-        next: at,
-        size: size,
-    }
+    Part { next: at, size }
 }
 
 // How many bytes the whole text has.

@@ -2,6 +2,7 @@
 #![tactic(auto)]
 
 ghost use Rattle.std.specs.Prelude.{◌≤◌, length, take};
+ghost use Rattle.refusal.specs.Refusal.{told};
 ghost use Rattle.network.specs.Edges.{Checked};
 ghost use Rattle.network.specs.Refusals.{contour_refusal};
 ghost use Rattle.wkt.specs.Text.{text_of};
@@ -11,6 +12,7 @@ ghost use Rattle.wkt.specs.InnerParts.{lines_from, Printable, PrintableNow, text
 use contour::inner::Progress;
 use network::Frame;
 use network::limits::{MAX_EDGES, MAX_NETWORK_LEVEL};
+use refusal::Refusal;
 
 pub mod inner;
 mod place;
@@ -39,7 +41,7 @@ pub struct Part {
     pub size: usize,
 }
 
-// The text of listed contours and its size, or 14 where there is no room for them.
+// The text of listed contours and its size, where there is room for them.
 fn print_listed(
     levels: &[u32],
     frame: Frame,
@@ -49,28 +51,26 @@ fn print_listed(
     closed: &[u32],
     text: &mut [u8],
     size: &mut [u32],
-) -> u32
+) -> Result<(), Refusal>
     requires { PrintableNow levels frame v edges counts closed }
-    ensures { Prints 0 (text_before levels frame v edges counts closed) text size result }
+    ensures { Prints 0 (text_before levels frame v edges counts closed) text size (told result) }
 {
     let needed = inner::text_size(levels, frame, v, edges, counts, closed);
-    if needed <= text.len() {
-        if 1 <= size.len() {
-            inner::print_part(
-                levels,
-                frame,
-                v,
-                edges,
-                counts,
-                closed,
-                inner::first(),
-                text,
-            );
-            size[0] = needed as u32;
-            return 0;
-        }
+    if text.len() < needed || size.is_empty() {
+        return Err(Refusal::TooLittleRoom);
     }
-    14
+    inner::print_part(
+        levels,
+        frame,
+        v,
+        edges,
+        counts,
+        closed,
+        inner::first(),
+        text,
+    );
+    size[0] = needed as u32;
+    Ok(())
 }
 
 // The same of contours at the fronts of longer buffers.
@@ -84,14 +84,14 @@ fn print_fronts(
     got: Progress,
     text: &mut [u8],
     size: &mut [u32],
-) -> u32
+) -> Result<(), Refusal>
     requires { ((got.edges ≤ length edges.now)
         × ((got.contours ≤ length counts.now) × (got.contours ≤ length closed.now)))
         × Printable levels.now frame v (take got.edges edges.now) (take got.contours counts.now)
         (take got.contours closed.now) }
     ensures { Prints 0
         (text_of levels.now frame v (lines_from (take got.edges edges.now)
-        (take got.contours counts.now) (take got.contours closed.now))) text size result }
+        (take got.contours counts.now) (take got.contours closed.now))) text size (told result) }
 {
     let n = got.edges;
     let m = got.contours;
@@ -108,9 +108,15 @@ fn print_fronts(
 }
 
 // The text of the contours of a network that is not refused.
-fn print_checked(levels: &[u32], frame: Frame, v: u32, text: &mut [u8], size: &mut [u32]) -> u32
+fn print_checked(
+    levels: &[u32],
+    frame: Frame,
+    v: u32,
+    text: &mut [u8],
+    size: &mut [u32],
+) -> Result<(), Refusal>
     requires { Checked levels.now frame }
-    ensures { Prints 0 (network_text levels.now frame v) text size result }
+    ensures { Prints 0 (network_text levels.now frame v) text size (told result) }
 {
     let mut edges = [0u32; MAX_EDGES];
     let mut counts = [0u32; MAX_EDGES];
@@ -136,13 +142,10 @@ pub fn print_contours(
     v: u32,
     text: &mut [u8],
     size: &mut [u32],
-) -> u32
+) -> Result<(), Refusal>
     ensures { Prints (contour_refusal levels.now frame v)
-        (network_text levels.now frame v) text size result }
+        (network_text levels.now frame v) text size (told result) }
 {
-    let why = network::contour_refusal(levels, frame, v, MAX_NETWORK_LEVEL);
-    if why == 0 {
-        return print_checked(levels, frame, v, text, size);
-    }
-    why
+    network::contour_refusal(levels, frame, v, MAX_NETWORK_LEVEL)?;
+    print_checked(levels, frame, v, text, size)
 }

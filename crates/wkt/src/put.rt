@@ -55,23 +55,18 @@ fn put_before(piece: &mut [u8], line: usize, point: usize) -> usize
     requires { 64 ≤ length piece.old }
     ensures { Wrote piece.old 0 (before_text line point) piece.new result }
 {
-    if point == 0 {
-        if line == 0 {
-            return text::inner::put_text(piece, 0, b"MULTILINESTRING ((");
-        }
-        return text::inner::put_text(piece, 0, b", (");
+    match (point, line) {
+        (0, 0) => text::inner::put_text(piece, 0, b"MULTILINESTRING (("),
+        (0, _) => text::inner::put_text(piece, 0, b", ("),
+        _ => text::inner::put_text(piece, 0, b", "),
     }
-    text::inner::put_text(piece, 0, b", ")
 }
 
 // The place of a point's edge past the line's first: past the last edge a closed line is at its first again.
 fn around(point: usize, count: usize) -> usize
     ensures { result ≡ (if nat_lt point count then point else point - count) }
 {
-    if point < count {
-        return point;
-    }
-    point - count
+    if point < count { point } else { point - count }
 }
 
 // One piece of the text, at the front of a buffer.
@@ -99,7 +94,7 @@ pub(crate) fn put_step(
         return Part {
             next: Cursor {
                 line: line + 1,
-                start: start,
+                start,
                 point: 0,
             },
             size: put_end(piece, line),
@@ -120,8 +115,8 @@ pub(crate) fn put_step(
     let place = put_before(piece, line, point);
     Part {
         next: Cursor {
-            line: line,
-            start: start,
+            line,
+            start,
             point: point + 1,
         },
         size: put_place(levels, frame, v, n, piece, place),
