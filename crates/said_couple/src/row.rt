@@ -2,6 +2,7 @@
 use flights::cell::cell;
 use flights::column::{CIRCUIT, CLASS, DATE, KIND, NUMBER, TIME};
 use flights::{TRACK_COLUMNS, read_flight};
+use refusal::Refusal;
 use said::note::Note;
 use said::part::last;
 use said::row::{Row, too_long};
@@ -54,8 +55,7 @@ fn empty(note: &mut Note, number: u64, is_tracks: bool, row: Row) {
 
 // A date that doesn't exist, or a row past the last that there may be.
 fn of_values(note: &mut Note, columns: usize, row: Row) {
-    let flight = read_flight(row.line, columns);
-    if flight.refusal == 18 {
+    if let Err(Refusal::WrongFlights) = read_flight(row.line, columns) {
         row.column_is(
             note,
             DATE,
