@@ -9,5 +9,5 @@ pub extern "C" fn okubinrafo_sentence(refusal: u32, text: &mut [u8], size: &mut 
     ensures { WritesTwo 0 (sentence_of refusal) (length (sentence_of refusal) ∷ [])
         text.old size.old result text.new size.new }
 {
-    sentence::write_sentence(refusal, text, size)
+    refusal::told(sentence::write_sentence(refusal, text, size))
 }

@@ -10,16 +10,12 @@ pub fn put_any(out: &mut [u8], number: u32) -> usize
     requires { max_sentence ≤ length out.old }
     ensures { Wrote out.old 0 (sentence_of number) out.new result }
 {
-    if number < 7 {
-        return of_movement(out, number);
+    match number {
+        0..=6 => of_movement(out, number),
+        7..=11 => of_load(out, number),
+        12..=17 => of_file(out, number),
+        _ => of_later(out, number),
     }
-    if number < 12 {
-        return of_load(out, number);
-    }
-    if number < 18 {
-        return of_file(out, number);
-    }
-    of_later(out, number)
 }
 
 // 1 to 6: a movement, its identity and its row.
