@@ -11,10 +11,11 @@ ghost use Rattle.text.specs.Spelled.{crlf};
 ghost use Rattle.text.specs.InnerWithin.{WroteWithin};
 ghost use Rattle.explain_text.specs.Text.{header_line, lines_at, points_text};
 ghost use Rattle.explain_text.specs.InnerRoom.{longest_point, header_size, longest_text, Explained};
+ghost use Rattle.register.specs.LimitsFile.{accepted_limits};
 
 use crate::lines::put_point;
 use load::account::account_at;
-use register::limits_csv::LimitsFile;
+use register::limits_csv::Limits;
 use report_text::inner::{Report, book_refusal};
 use text::inner::{put_end, put_refused, put_text};
 
@@ -78,11 +79,13 @@ fn put_points(
     marks: &[u32],
     counts: &[u32],
     levels: &[u32],
-    limits: LimitsFile,
+    limits: Limits,
 ) -> usize
-    requires limits_fit { LimitsFit limits × (longest_text ≤ length out.old) }
-    requires levels_value { book_refusal limits (book_lent ids.now groups.now marks.now counts.now levels.now) ≡ 0 }
-    ensures { Wrote out.old 0 (points_text limits (book_lent ids.now groups.now marks.now counts.now levels.now))
+    requires limits_fit { LimitsFit (accepted_limits limits) × (longest_text ≤ length out.old) }
+    requires levels_value { book_refusal (accepted_limits limits)
+        (book_lent ids.now groups.now marks.now counts.now levels.now) ≡ 0 }
+    ensures { Wrote out.old 0
+        (points_text (accepted_limits limits) (book_lent ids.now groups.now marks.now counts.now levels.now))
         out.new result }
 {
     let points = limits.points as usize;
@@ -104,11 +107,11 @@ pub fn put_explained(
     marks: &[u32],
     counts: &[u32],
     levels: &[u32],
-    limits: LimitsFile,
+    limits: Limits,
 ) -> Report
-    requires { LimitsFit limits × (longest_text ≤ length out.old) }
-    ensures { Explained limits (book_lent ids.now groups.now marks.now counts.now levels.now) out.old result
-        out.new }
+    requires { LimitsFit (accepted_limits limits) × (longest_text ≤ length out.old) }
+    ensures { Explained (accepted_limits limits) (book_lent ids.now groups.now marks.now counts.now levels.now)
+        out.old result out.new }
 {
     let points = limits.points as usize;
     let outcome = book_refusal(ids, groups, marks, counts, levels, points, limits.days);

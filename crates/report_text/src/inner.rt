@@ -16,13 +16,14 @@ ghost use Rattle.report_text.specs.InnerRoom.{longest_word, longest_judged, long
 ghost use Rattle.report_text.specs.InnerRoom.{longest_point, header_size, longest_report};
 ghost use Rattle.report_text.specs.InnerRoom.{LimitsFit, Reported};
 ghost use Rattle.text.specs.InnerWithin.{WroteWithin};
+ghost use Rattle.register.specs.LimitsFile.{accepted_limits};
 
 use crate::totals::added_up;
 use level::{Level, Verdict};
 use load::load_at;
 use load_rules::{Counts, Load};
 use refusal::Refusal;
-use register::limits_csv::LimitsFile;
+use register::limits_csv::Limits;
 use text::inner::{
     put_any_level, put_any_number, put_byte, put_end, put_field, put_refused, put_text, put_word,
 };
@@ -122,11 +123,13 @@ fn put_points(
     marks: &[u32],
     counts: &[u32],
     levels: &[u32],
-    limits: LimitsFile,
+    limits: Limits,
 ) -> usize
-    requires limits_fit { LimitsFit limits × (longest_report ≤ length out.old) }
-    requires answered { book_refusal limits (book_lent ids.now groups.now marks.now counts.now levels.now) ≡ 0 }
-    ensures { Wrote out.old 0 (points_text limits (book_lent ids.now groups.now marks.now counts.now levels.now))
+    requires limits_fit { LimitsFit (accepted_limits limits) × (longest_report ≤ length out.old) }
+    requires answered { book_refusal (accepted_limits limits)
+        (book_lent ids.now groups.now marks.now counts.now levels.now) ≡ 0 }
+    ensures { Wrote out.old 0
+        (points_text (accepted_limits limits) (book_lent ids.now groups.now marks.now counts.now levels.now))
         out.new result }
 {
     let points = limits.points as usize;
@@ -168,11 +171,11 @@ pub fn put_report(
     marks: &[u32],
     counts: &[u32],
     levels: &[u32],
-    limits: LimitsFile,
+    limits: Limits,
 ) -> Report
-    requires { LimitsFit limits × (longest_report ≤ length out.old) }
-    ensures { Reported limits (book_lent ids.now groups.now marks.now counts.now levels.now) out.old result
-        out.new }
+    requires { LimitsFit (accepted_limits limits) × (longest_report ≤ length out.old) }
+    ensures { Reported (accepted_limits limits) (book_lent ids.now groups.now marks.now counts.now levels.now)
+        out.old result out.new }
 {
     let points = limits.points as usize;
     let outcome = book_refusal(ids, groups, marks, counts, levels, points, limits.days);

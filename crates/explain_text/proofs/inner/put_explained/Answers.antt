@@ -6,6 +6,7 @@ use Rattle.refusal.proofs.Laws.{numbered}
 use Rattle.book_rules.specs.Columns.{Book, book_of}
 use Rattle.report_text.proofs.Points.{text_refused, text_points}
 use Rattle.explain_text.specs.Text.{explain_text}
+use Rattle.register.specs.LimitsFile.{accepted_limits}
 use Rattle.explain_text.proofs.inner.put_explained.Goals as goal
 use Rattle.explain_text.proofs.inner.put_explained.Goals.{Start}
 
@@ -21,7 +22,7 @@ unfolding explain_text
 returns-in-Err c =
     let q = c.number.ensures ∙ c.in-Err.ensures in
     record {
-      wrote = text_refused c.args.limits (book (goal.at.returns-in-Err c).Start) _ q
+      wrote = text_refused (accepted_limits c.args.limits) (book (goal.at.returns-in-Err c).Start) _ q
           (λ z. let some = numbered c.in-Err.why in omega (arith, c.number.ensures, z)) c.put_refused-size.ensures.wrote;
       refused = c.in-Err.ensures;
     }
@@ -30,7 +31,7 @@ pub returns-in-Ok : goal.returns-in-Ok
 unfolding explain_text
 returns-in-Ok c =
     record {
-      wrote = text_points c.args.limits (book (goal.at.returns-in-Ok c).Start) c.in-Ok.ensures refl
+      wrote = text_points (accepted_limits c.args.limits) (book (goal.at.returns-in-Ok c).Start) c.in-Ok.ensures refl
           c.put_points-size.ensures;
       refused = c.book_refusal-outcome.ensures;
     }

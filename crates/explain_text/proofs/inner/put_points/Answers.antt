@@ -4,6 +4,7 @@ use native.Mathlib.Omega.{arith}
 use Rattle.book_rules.specs.Columns.{Book, book_of}
 use Rattle.text.proofs.Within.{within_none, within_more, within_then, within_is}
 use Rattle.explain_text.specs.{InnerRoom.longest_point}
+use Rattle.register.specs.LimitsFile.{accepted_limits}
 use Rattle.report_text.proofs.Judging.{point_answered}
 use Rattle.explain_text.proofs.Points.{points_none, points_more, points_all}
 use Rattle.explain_text.proofs.inner.put_points.Goals as goal
@@ -54,7 +55,7 @@ returns c =
     let q : c.loop-point.point ≡ c.args.limits.points = omega
     arith in
     let room = c.requires.limits_fit in
-    points_all c.args.limits (book (goal.at.returns c).Start) c.put_header-at.ensures.wrote
+    points_all (accepted_limits c.args.limits) (book (goal.at.returns c).Start) c.put_header-at.ensures.wrote
     c.loop-point.invariant.0.wrote q
     (omega (
       arith,

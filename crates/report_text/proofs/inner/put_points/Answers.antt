@@ -5,6 +5,7 @@ use Rattle.refusal.proofs.Laws.{numbered}
 use Rattle.book_rules.specs.Columns.{book_of}
 use Rattle.load_rules.specs.{Load.refused_load, Told.LoadTold}
 use Rattle.report_text.specs.InnerRoom.{longest_point}
+use Rattle.register.specs.LimitsFile.{accepted_limits}
 use Rattle.report_text.proofs.Judging.{point_answered}
 use Rattle.report_text.proofs.Points.{points_none, points_more, points_all}
 use Rattle.report_text.proofs.Levels.{load_level}
@@ -50,7 +51,7 @@ returns c =
     (arith, c.loop-point.invariant, c.loop-point-test.false) in
     let a = c.args in
     let b = book_of a.ids.now a.groups.now a.marks.now a.counts.now a.levels.now in
-    points_all a.limits b c.put_header-at.ensures.wrote c.loop-point.invariant.0 q
+    points_all (accepted_limits a.limits) b c.put_header-at.ensures.wrote c.loop-point.invariant.0 q
     (omega (
       arith,
       c.loop-point.invariant,
