@@ -1,5 +1,5 @@
--- Laws for the loops that read a column from its front: what the whole says, said of what is still to be read. Assumes
--- nothing.
+-- Laws for what reads a column from its front: identities two by two, and rows, where what the whole says is said of
+-- what is still to be read. Assumes nothing.
 use mathlib.Core.{Path.◌≡◌, Path.refl, Path.sym, Path.ap, Path.◌∙◌, Bool.Bool, Bool.true, Bool.false, Bool.◌&&◌}
 use mathlib.Core.{Bool.false≢true, Logic.⊎_elim}
 use mathlib.Core.List.{List, [], ◌∷◌}
@@ -78,8 +78,3 @@ rows_end p xs gs ms cs ls i h = ap (λ (l : List ℕ). rows_sound p l gs ms cs l
 -- the number of values in a column of p a row fits
 pub product_fits : (rows points : ℕ) → rows ≤ max_rows → points ≤ max_points → Fits w64 (rows * points)
 product_fits rows points h k = let e : rows * points ≤ max_rows * max_points = mul-le-mul h k in omega arith
-
--- a flag that fell stays down
-pub flag_falls : (f r : Bool) → (f && (false && r)) ≡ (false && r)
-flag_falls true r = refl
-flag_falls false r = refl

@@ -1,11 +1,11 @@
 -- Laws of `zero_elsewhere`: pair by pair, and point by point. Assumes nothing.
 use mathlib.Core.{Path.◌≡◌, Path.refl, Path.ap, Path.◌∙◌, Bool.Bool, Bool.true, Bool.◌&&◌, Bool.◌||◌, Bool.or-true}
-use Rattle.std.specs.Prelude.{ℕ, zero, suc, ◌+◌, ◌<◌, ◌≤◌, List, [], ◌∷◌, ◌==◌, nat_lt}
+use Rattle.std.specs.Prelude.{ℕ, zero, suc, ◌<◌, List, [], ◌∷◌, ◌==◌, nat_lt}
 use Rattle.std.specs.List.{list_all, zip}
 use native.Mathlib.{Nat.not-suc-le-zero, Omega.arith}
-use lib.{Dec.eqb, Dec.ltb, ListN.length, ListN.drop, ListN.get_or, ListN.replicate, ListN.drop_of_length-le}
+use lib.{Dec.eqb, Dec.ltb, ListN.length, ListN.get_or, ListN.replicate}
 use borrow.Author.Tests.{eqb-true, eq-eqb, lt-ltb}
-use Rattle.refusal.proofs.{Laws.and_left, Laws.and_right, Ranges.drop_more}
+use Rattle.refusal.proofs.{Laws.and_left, Laws.and_right}
 use Rattle.movement.specs.Rules.{zero_elsewhere}
 
 -- as the code reads them, pair by pair
@@ -18,18 +18,6 @@ pairs (c ∷ cs) (l ∷ ls) = ap (λ t. (nat_lt 0 c || l == 0) && t) (pairs cs l
 pub elsewhere_pairs : (cs ls : List ℕ) (b : Bool) → b ≡ list_all (λ p. nat_lt 0 p.0 || p.1 == 0) (zip cs ls)
     → b ≡ zero_elsewhere cs ls
 elsewhere_pairs cs ls b e = e ∙ pairs cs ls
-
--- one point more is read
-pub elsewhere_more : (cs ls : List ℕ) (i : ℕ) {t : Bool} → i < length cs → i < length ls
-    → (ltb 0 (get_or cs i 0) || eqb (get_or ls i 0) 0) ≡ t
-    → zero_elsewhere (drop i cs) (drop i ls) ≡ (t && zero_elsewhere (drop (i + 1) cs) (drop (i + 1) ls))
-unfolding zero_elsewhere
-elsewhere_more cs ls i h k e = rw (drop_more cs i h, drop_more ls i k, e) refl
-
--- all points are read
-pub elsewhere_end : (cs ls : List ℕ) (i : ℕ) → length cs ≤ i → zero_elsewhere (drop i cs) (drop i ls) ≡ true
-unfolding zero_elsewhere
-elsewhere_end cs ls i h = ap (λ (l : List ℕ). zero_elsewhere l (drop i ls)) (drop_of_length-le cs h)
 
 -- of one point
 silent : (c l : ℕ) → (ltb 0 c || eqb l 0) ≡ true → c ≡ 0 → l ≡ 0

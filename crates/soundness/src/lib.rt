@@ -113,21 +113,18 @@ fn rows_sound(
     requires levels_value { cells_sound 1 1 counts.now levels.now ≡ true }
     ensures { result ≡ rows_sound points ids.now groups.now marks.now counts.now levels.now }
 {
-    let mut i = 0;
-    let mut at = 0;
-    while i < ids.len() {
-        let end = at + points;
+    for (row, x) in ids.iter().enumerate() {
+        let start = row * points;
+        let end = start + points;
         if !row_sound(
-            ids[i],
-            groups[i],
-            marks[i],
-            &counts[at..end],
-            &levels[at..end],
+            *x,
+            groups[row],
+            marks[row],
+            &counts[start..end],
+            &levels[start..end],
         ) {
             return false;
         }
-        at = end;
-        i += 1;
     }
     true
 }
