@@ -6,14 +6,8 @@ pub fn stepped(column: &mut [u32], from: usize, first: u32, step: u32, gap: usiz
         return;
     }
     let mut value = first;
-    let mut i = from;
-    while i < column.len() {
-        let left = column.len() - i;
-        column[i] = value;
+    for place in column.iter_mut().skip(from).step_by(gap) {
+        *place = value;
         value = value.wrapping_add(step);
-        if left <= gap {
-            return;
-        }
-        i += gap;
     }
 }

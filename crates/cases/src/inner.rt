@@ -6,12 +6,8 @@ pub fn line_past(script: &[u8], at: usize) -> usize
     requires { at < length script.now }
     ensures { (at < result) × (result ≤ length script.now) }
 {
-    let mut i = at;
-    while i < script.len() {
-        if script[i] == b'\n' {
-            return i + 1;
-        }
-        i += 1;
+    match script[at..].iter().position(|c| *c == b'\n') {
+        Some(n) => at + n + 1,
+        None => script.len(),
     }
-    i
 }

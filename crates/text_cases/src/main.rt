@@ -7,7 +7,6 @@ mod read;
 mod written;
 
 use cases::fields::{letter, text};
-use cases::inner::line_past;
 use movement::limits::MAX_POINTS;
 
 // The descriptor of standard input.
@@ -32,11 +31,8 @@ fn case(line: &[u8]) {
 }
 
 fn run(script: &[u8]) {
-    let mut at = 0;
-    while at < script.len() {
-        let next = line_past(script, at);
-        case(&script[at..next]);
-        at = next;
+    for line in script.split_inclusive(|c| *c == b'\n') {
+        case(line);
     }
 }
 

@@ -1,5 +1,5 @@
 // Texts that are read.
-use cases::fields::{number, wide};
+use cases::fields::number;
 use cases::show::told;
 use register::header::{limits_points, register_points};
 use register::limits_csv::read_limits;
@@ -29,9 +29,9 @@ pub(crate) fn layout(line: &[u8], text: &[u8]) {
         f.kind as u64,
         f.time as u64,
         f.computed as u64,
-        wide(l[0]),
-        wide(l[1]),
-        wide(l[2]),
+        l[0] as u64,
+        l[1] as u64,
+        l[2] as u64,
     ];
     told(line, 3, 2, &got);
 }
@@ -66,9 +66,9 @@ pub(crate) fn limits(line: &[u8], text: &[u8]) {
                 0,
                 read.points as u64,
                 read.days as u64,
-                wide(l[0]),
-                wide(l[1]),
-                wide(l[2]),
+                l[0] as u64,
+                l[1] as u64,
+                l[2] as u64,
             ];
             told(line, 3, 2, &got);
         }

@@ -1,10 +1,8 @@
 -- `cases::fields::numbers` is safe, ends, and counts the numbers that it put. Assumes nothing.
-use Rattle.std.proofs.Common.{◌≡◌, ◌-◌, ◌≤◌}
-use lib.{ListN.length}
+use Rattle.std.specs.Prelude.{◌≤◌, length}
 use Rattle.cases.proofs.fields.numbers.Given as goal
 
-abbrev pub invariant-loop-n : goal.invariant-loop-n
-invariant-loop-n l = (length l.out ≡ length l.initial.out) × (l.n ≤ length l.initial.out)
-
-abbrev pub decreases-loop-n : goal.decreases-loop-n
-decreases-loop-n l = length l.initial.out - l.n
+abbrev pub invariant-loop-digits : goal.invariant-loop-digits
+invariant-loop-digits l =
+    (goal.iterator-loop-digits).can_next l.digits-iterator × (goal.iterator-loop-digits).is_finite l.digits-iterator
+    × (l.n ≤ length l.out)

@@ -1,10 +1,6 @@
 -- `cases::fields::text` is safe, ends, and counts the bytes that it put. Assumes nothing.
-use Rattle.std.proofs.Common.{◌≡◌, ◌-◌, ◌≤◌}
-use lib.{ListN.length}
+use Rattle.std.specs.Prelude.{◌≤◌, length}
 use Rattle.cases.proofs.fields.text.Given as goal
 
-abbrev pub invariant-loop-i : goal.invariant-loop-i
-invariant-loop-i l = (l.n ≤ length l.out) × (length l.out ≡ length l.initial.out)
-
-abbrev pub decreases-loop-i : goal.decreases-loop-i
-decreases-loop-i l = length l.line - l.i
+abbrev pub invariant-loop-c : goal.invariant-loop-c
+invariant-loop-c l = l.n ≤ length l.out
