@@ -13,25 +13,23 @@ overflow_add-sum c =
       arith,
       sum_within c.args.numbers.now c.args.k c.loop-g.g few,
       c.number_at-sum.ensures,
-      c.loop-g.invariant.1,
+      c.loop-g.invariant,
       c.requires.1,
     )
 
 pub loop-g-preserved : goal.loop-g-preserved
-loop-g-preserved c = (
-  omega arith,
-  omega (
-    arith,
-    sum_next c.args.numbers.now c.args.k c.loop-g.g,
-    c.number_at-sum.ensures,
-    c.loop-g.invariant.1,
-  ),
-)
+loop-g-preserved c =
+    omega (
+      arith,
+      sum_next c.args.numbers.now c.args.k c.loop-g.g,
+      c.number_at-sum.ensures,
+      c.loop-g.invariant,
+    )
 
 pub returns : goal.returns
 returns c =
     let last : c.loop-g.g ≡ group_count = omega arith in
-    c.loop-g.invariant.1 ∙ ap (sum_at c.args.numbers.now c.args.k) last
+    c.loop-g.invariant ∙ ap (sum_at c.args.numbers.now c.args.k) last
 
 pub loop-g-init : goal.loop-g-init
-loop-g-init c = (omega arith, sym (sum_none _ _))
+loop-g-init c = sym (sum_none _ _)

@@ -12,7 +12,7 @@ use Rattle.explain_text.proofs.lines.put_groups.Goals as goal
 pub put_standing-next-requires : goal.put_standing-next-requires
 put_standing-next-requires c =
     let few : c.loop-g.g < group_count = omega arith in
-    (c.requires.0, few, omega (arith, c.loop-g.invariant.0.within, c.loop-g.invariant.2, c.requires.2))
+    (c.requires.0, few, omega (arith, c.loop-g.invariant.0.within, c.loop-g.invariant.1, c.requires.2))
 
 pub loop-g-preserved : goal.loop-g-preserved
 loop-g-preserved c =
@@ -25,8 +25,7 @@ loop-g-preserved c =
       within_more {m = longest_line * g + longest_line} (omega arith)
           (within_is (within_then (omega (arith, c.requires.2)) c.loop-g.invariant.0 one)
           (groups_more c.args.point a g)),
-      omega arith,
-      c.put_standing-next.auto.out ∙ c.loop-g.invariant.2,
+      c.put_standing-next.auto.out ∙ c.loop-g.invariant.1,
     )
 
 pub returns : goal.returns
@@ -35,4 +34,4 @@ returns c =
     rw last at c.loop-g.invariant.0
 
 pub loop-g-init : goal.loop-g-init
-loop-g-init c = (within_is within_none (groups_none _ _), omega arith, refl)
+loop-g-init c = (within_is within_none (groups_none _ _), refl)

@@ -1,7 +1,6 @@
 -- `explain_text::lines::put_groups` meets its contract: the lines of the groups passed stand one past the other.
 -- Assumes nothing.
-use Rattle.std.specs.Prelude.{◌≡◌, ◌-◌, ◌*◌, ◌≤◌, length}
-use Rattle.movement.specs.Limits.{group_count}
+use Rattle.std.specs.Prelude.{◌≡◌, ◌*◌, length}
 use Rattle.text.specs.Sheet.{ended}
 use Rattle.text.specs.InnerWithin.{WroteWithin}
 use Rattle.explain_text.specs.{Text.group_lines, InnerRoom.longest_line, InnerNumbers.group_in}
@@ -11,7 +10,4 @@ abbrev pub invariant-loop-g : goal.invariant-loop-g
 invariant-loop-g l =
     WroteWithin (longest_line * l.g) l.initial.out l.initial.next
     (ended (group_lines l.point (group_in l.numbers) l.g)) l.out l.next
-    × (l.g ≤ group_count) × (length l.out ≡ length l.initial.out)
-
-abbrev pub decreases-loop-g : goal.decreases-loop-g
-decreases-loop-g l = group_count - l.g
+    × (length l.out ≡ length l.initial.out)

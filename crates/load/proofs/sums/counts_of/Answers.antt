@@ -11,10 +11,10 @@ pub returns : goal.returns
 unfolding filled
 returns c =
     let e : c.loop-g.g ≡ 18 = omega arith in
-    c.loop-g.invariant.1 ∙ ap (filled none (λ i. counts_of (group_at c.args.groups i))) e
+    c.loop-g.invariant ∙ ap (filled none (λ i. counts_of (group_at c.args.groups i))) e
 
 pub loop-g-init : goal.loop-g-init
-loop-g-init c = unfold filled in (omega arith, refl)
+loop-g-init c = unfold filled in refl
 
 pub loop-g-preserved : goal.loop-g-preserved
-loop-g-preserved c = unfold filled in (omega arith, rw (add-one, ← c.group_at-c.ensures, c.loop-g.invariant.1))
+loop-g-preserved c = unfold filled in rw (add-one, ← c.group_at-c.ensures, c.loop-g.invariant)

@@ -1,5 +1,5 @@
 -- `load::sums::counts_of` meets its contract: the invariant is the list filled so far. Assumes nothing.
-use Rattle.std.specs.Prelude.{◌≡◌, ◌-◌, ◌≤◌}
+use Rattle.std.specs.Prelude.{◌≡◌}
 use Rattle.load_rules.specs.{declared.Counts.Counts, Load.counts_of}
 use Rattle.load.specs.InnerSteps.{group_at}
 use Rattle.load.proofs.CellLaws.{filled}
@@ -9,7 +9,4 @@ abbrev pub none : Counts
 none = record { computed = 0; missing = 0 }
 
 abbrev pub invariant-loop-g : goal.invariant-loop-g
-invariant-loop-g l = (l.g ≤ 18) × (l.flat ≡ filled none (λ i. counts_of (group_at l.groups i)) l.g)
-
-abbrev pub decreases-loop-g : goal.decreases-loop-g
-decreases-loop-g l = 18 - l.g
+invariant-loop-g l = l.flat ≡ filled none (λ i. counts_of (group_at l.groups i)) l.g

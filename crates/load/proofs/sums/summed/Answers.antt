@@ -8,22 +8,20 @@ use Rattle.load.proofs.sums.summed.Goals as goal
 
 pub added_to-s-requires : goal.added_to-s-requires
 added_to-s-requires c =
-    rw (c.group_at.ensures, c.loop-g.invariant.1)
+    rw (c.group_at.ensures, c.loop-g.invariant)
     (fits_next c.args.groups c.requires
     c.loop-g.g (omega arith))
 
 pub loop-g-preserved : goal.loop-g-preserved
 unfolding sums_of sum_to added_to
-loop-g-preserved c = (
-  omega arith,
-  rw (add-one, ← c.group_at.ensures) (c.added_to-s.ensures
-      ∙ ap (λ t. added_to t c.group_at.result) c.loop-g.invariant.1),
-)
+loop-g-preserved c =
+    rw (add-one, ← c.group_at.ensures)
+    (c.added_to-s.ensures ∙ ap (λ t. added_to t c.group_at.result) c.loop-g.invariant)
 
 pub returns : goal.returns
 returns c =
     let e : c.loop-g.g ≡ 18 = omega arith in
-    c.loop-g.invariant.1 ∙ ap (sums_of (group_at c.args.groups)) e
+    c.loop-g.invariant ∙ ap (sums_of (group_at c.args.groups)) e
 
 pub loop-g-init : goal.loop-g-init
-loop-g-init c = unfold sums_of sum_to in (omega arith, refl)
+loop-g-init c = unfold sums_of sum_to in refl

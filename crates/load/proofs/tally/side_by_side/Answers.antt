@@ -10,10 +10,10 @@ pub returns : goal.returns
 unfolding filled flat
 returns c =
     let e : c.loop-g.g ≡ 18 = omega arith in
-    c.loop-g.invariant.1 ∙ ap (filled (group_with 0 0 0) (group_at c.args.groups)) e
+    c.loop-g.invariant ∙ ap (filled (group_with 0 0 0) (group_at c.args.groups)) e
 
 pub loop-g-init : goal.loop-g-init
-loop-g-init c = unfold filled in (omega arith, refl)
+loop-g-init c = unfold filled in refl
 
 pub loop-g-preserved : goal.loop-g-preserved
-loop-g-preserved c = unfold filled in (omega arith, rw (add-one, ← c.group_at.ensures, c.loop-g.invariant.1))
+loop-g-preserved c = unfold filled in rw (add-one, ← c.group_at.ensures, c.loop-g.invariant)
