@@ -1,5 +1,6 @@
 -- Which text may be written once the two files are read: a refusal, or the sheet of the tables that hold them.
 -- Assumes nothing.
+use Rattle.refusal.specs.Refusal.{told}
 use Rattle.std.specs.Prelude.{ℕ}
 use mathlib.Core.{Path.◌≡◌, Path.sym, Path.ap, Path.◌∙◌, List.List, List.[]}
 use Rattle.channel.specs.System.Origin.{input}
@@ -16,20 +17,20 @@ use Rattle.couple_steps.proofs.Says.{text_coupled, text_tracks, text_movements}
 
 -- tracks.csv is refused
 pub may_tracks : {t : Turn} {rows : Rows} {text : List ℕ} → Done tracks_origin (table_step 8) longest_text [] t rows
-    → (t.refusal ≡ 0 → ⊥) → text ≡ refused_text t.refusal t.line → MayWrite text
+    → (told t.refusal ≡ 0 → ⊥) → text ≡ refused_text (told t.refusal) t.line → MayWrite text
 may_tracks {t} {rows} {text} d ne e =
     tracks d.came d.heard (of_as longest_text d.came (λ file is m.
     let not : (table_of 8 file).refusal ≡ 0 → ⊥ = λ z. ne (ap (λ (s : Reading Rows). s.refusal) is ∙ z) in
     e ∙ ap (λ (s : Reading Rows). refused_text s.refusal s.line) is ∙ sym (text_tracks file m not)) d.is)
 
 -- it is not, and was read to its end
-module _ {t : Turn} {rows : Rows} (w : ReadWhole tracks_origin (table_step 8) [] t rows) (z : t.refusal ≡ 0) where
+module _ {t : Turn} {rows : Rows} (w : ReadWhole tracks_origin (table_step 8) [] t rows) (z : told t.refusal ≡ 0) where
   fine : (table_of 8 w.all).refusal ≡ 0
   fine = ap (λ (s : Reading Rows). s.refusal) (sym w.is) ∙ z
 
   module _ {u : Turn} {moves : Rows} (text : List ℕ) (d : Done input (table_step 9) longest_text [] u moves) where
     -- the movements are refused
-    pub may_movements : (u.refusal ≡ 0 → ⊥) → text ≡ refused_text u.refusal u.line → MayWrite text
+    pub may_movements : (told u.refusal ≡ 0 → ⊥) → text ≡ refused_text (told u.refusal) u.line → MayWrite text
     may_movements ne e =
         both w.all w.whole fine d.came d.heard (of_as longest_text d.came (λ file is.
         let not : (table_of 9 file).refusal ≡ 0 → ⊥ = λ q. ne (ap (λ (s : Reading Rows). s.refusal) is ∙ q) in
@@ -37,7 +38,7 @@ module _ {t : Turn} {rows : Rows} (w : ReadWhole tracks_origin (table_step 8) []
         ∙ sym (text_movements w.all file fine not)) d.is)
 
     -- nothing is refused
-    pub may_sheet : u.refusal ≡ 0 → text ≡ coupled_sheet rows moves → MayWrite text
+    pub may_sheet : told u.refusal ≡ 0 → text ≡ coupled_sheet rows moves → MayWrite text
     may_sheet q e =
         both w.all w.whole fine d.came d.heard (of_as longest_text d.came (λ file is.
         let also : (table_of 9 file).refusal ≡ 0 = ap (λ (s : Reading Rows). s.refusal) (sym is) ∙ q in

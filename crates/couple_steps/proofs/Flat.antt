@@ -1,5 +1,6 @@
 -- Tables as the code keeps them, once both files are read: they may be coupled, and their sheet is that of their rows.
 -- Assumes nothing.
+use Rattle.refusal.specs.Refusal.{told}
 use Rattle.std.specs.Prelude.{ℕ, suc, ◌+◌, ◌-◌, ◌*◌, ◌<◌, ◌≤◌}
 use mathlib.Core.{Path.◌≡◌, Path.refl, Path.sym, Path.ap, Path.subst, Path.◌∙◌, Bool.true, List.List, List.[], List.◌∷◌}
 use native.Mathlib.Omega.{arith}
@@ -32,7 +33,7 @@ rows_long columns flat n = length_listing (row_in columns flat) n
 -- What was read and not refused may be coupled
 
 module _ {t : Turn} (flat : List ℕ) (w : ReadWhole tracks_origin (table_step 8) [] t (held_in 8 flat t.line))
-    (z : t.refusal ≡ 0) where
+    (z : told t.refusal ≡ 0) where
   tracks_held : (table_of 8 w.all).held ≡ rows_in 8 flat (t.line - 2)
   tracks_held = ap (λ (s : Reading Rows). s.held) (sym w.is)
 
@@ -55,7 +56,7 @@ module _ {t : Turn} (flat : List ℕ) (w : ReadWhole tracks_origin (table_step 8
       tracks_row_fit
 
 module _ {t : Turn} (flat : List ℕ) (w : ReadWhole input (table_step 9) [] t (held_in 9 flat t.line))
-    (z : t.refusal ≡ 0) where
+    (z : told t.refusal ≡ 0) where
   moves_held : (table_of 9 w.all).held ≡ rows_in 9 flat (t.line - 2)
   moves_held = ap (λ (s : Reading Rows). s.held) (sym w.is)
 

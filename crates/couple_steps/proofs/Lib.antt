@@ -1,6 +1,5 @@
 pub mod Tables
 pub mod Takes
-pub mod Longest
 pub mod Columns
 pub mod Rights
 pub mod Held

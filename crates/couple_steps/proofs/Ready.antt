@@ -1,4 +1,5 @@
 -- What the program knows once a table is read: it may be coupled, and what may then be written. Assumes nothing.
+use Rattle.refusal.specs.Refusal.{told}
 use Rattle.std.specs.Prelude.{ℕ, ◌-◌, ◌≤◌}
 use mathlib.Core.{Path.◌≡◌, Path.refl, Path.sym, Path.ap, Path.◌∙◌, Bool.true, List.List, List.[]}
 use native.Mathlib.Omega.{arith}
@@ -54,8 +55,8 @@ module _ {numbers : List ℕ} {t : Turn} (k : TableRead tracks_origin 8 numbers 
 
   -- the movements are refused
   pub refused_movements : {u : Turn} {moves : Rows} → Done input (table_step 9) longest_text [] u moves
-      → (u.refusal ≡ 0 → ⊥) → MayWrite (refused_text u.refusal u.line)
-  refused_movements {u} d ne = may_movements (read_whole k) k.fine (refused_text u.refusal u.line) d ne refl
+      → (told u.refusal ≡ 0 → ⊥) → MayWrite (refused_text (told u.refusal) u.line)
+  refused_movements {u} d ne = may_movements (read_whole k) k.fine (refused_text (told u.refusal) u.line) d ne refl
 
 module _ {ids : List ℕ} {u : Turn} (l : TableRead input 9 ids u) where
   pub moves_most : u.line - 2 ≤ max_flights

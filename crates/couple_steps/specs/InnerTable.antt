@@ -1,11 +1,11 @@
 -- Inner steps: no promise uses them. A table as the code keeps it, in one flat list, column after column.
 -- Assumes nothing.
-use Rattle.std.specs.Prelude.{◌≡◌, ℕ, ◌+◌, ◌-◌, ◌*◌, ◌≤◌, cond, List, [], length, ◌==◌, slice_index}
+use Rattle.refusal.specs.Refusal.{told}
+use Rattle.std.specs.Prelude.{◌≡◌, ℕ, ◌+◌, ◌-◌, ◌*◌, ◌≤◌, List, [], length, slice_index}
 use Rattle.text.specs.Index.{listing}
 use Rattle.coupling_rules.specs.Limits.{max_flights}
 use Rattle.channel.specs.System.{Origin}
 use Rattle.stream.specs.declared.Turn.{Turn}
-use Rattle.stream.specs.Reading.{Reading, reading_at}
 use Rattle.stream.specs.Feeding.{Done}
 use Rattle.couple_steps.specs.Table.{Rows, table_step, longest_text}
 
@@ -20,13 +20,6 @@ rows_in columns flat n = listing (row_in columns flat) n
 abbrev pub held_in : (columns : ℕ) (flat : List ℕ) (line : ℕ) → Rows
 held_in columns flat line = rows_in columns flat (line - 2)
 
-abbrev pub reading_in : (columns refusal line : ℕ) (flat : List ℕ) → Reading Rows
-reading_in columns refusal line flat = reading_at refusal line (held_in columns flat line)
-
--- the line to read next, past a line that was taken or refused
-abbrev pub next_line : (n refusal : ℕ) → ℕ
-next_line n refusal = cond (refusal == 0) (n + 1) n
-
 -- a flat list with room for every row
 pub record Roomy (columns : ℕ) (flat : List ℕ) : Type 0 where
   pub few : columns ≤ 9
@@ -36,4 +29,4 @@ pub record Roomy (columns : ℕ) (flat : List ℕ) : Type 0 where
 pub record TableRead (origin : Origin) (columns : ℕ) (flat : List ℕ) (t : Turn) : Type 0 where
   pub long : length flat ≡ columns * max_flights
   pub done : Done origin (table_step columns) longest_text [] t (held_in columns flat t.line)
-  pub fine : t.refusal ≡ 0
+  pub fine : told t.refusal ≡ 0

@@ -6,3 +6,4 @@ pub mod Written
 pub mod Told
 pub mod InnerTable
 pub mod InnerSheet
+pub mod InnerLongest

@@ -21,13 +21,13 @@ pub(crate) fn header(columns: usize) -> &'static [u8] {
 pub(crate) fn reason(
     note: &mut Note,
     number: u64,
-    refusal: u32,
+    why: Refusal,
     columns: usize,
     row: Row,
     whole: bool,
 ) {
     let is_tracks = columns == TRACK_COLUMNS;
-    if refusal == 18 {
+    if why == Refusal::WrongFlights {
         of_values(note, columns, row);
     } else if let Some(what) = odd::of_csv(row.line) {
         note.words(what);

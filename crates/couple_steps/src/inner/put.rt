@@ -22,10 +22,7 @@ pub struct Part {
 fn number_at(numbers: &[u32], i: usize) -> u32
     ensures { result ≡ slice_index numbers.now i }
 {
-    if i < numbers.len() {
-        return numbers[i];
-    }
-    0
+    numbers.get(i).copied().unwrap_or(0)
 }
 
 // A comma, and the number of the track at a place counted from 1, or nothing for place 0.
@@ -34,10 +31,10 @@ fn put_track(out: &mut [u8], at: usize, numbers: &[u32], answer: u32) -> usize
     ensures { WroteWithin longest_field out.old at
         (comma ∷ track_text numbers.now answer) out.new result }
 {
-    if answer == 0 {
-        return put_byte(out, at, b',');
+    match answer {
+        0 => put_byte(out, at, b','),
+        place => put_field(out, at, u64::from(number_at(numbers, place as usize - 1))),
     }
-    put_field(out, at, number_at(numbers, answer as usize - 1) as u64)
 }
 
 // The line of movement i.
@@ -53,7 +50,7 @@ fn put_line(
     ensures { WroteWithin longest_flight out.old at
         (flight_line ids.now numbers.now answers.now i ++ crlf) out.new result }
 {
-    let id = put_any_number(out, at, number_at(ids, i) as u64);
+    let id = put_any_number(out, at, u64::from(number_at(ids, i)));
     let track = put_track(out, id, numbers, number_at(answers, i));
     put_end(out, track)
 }
@@ -73,13 +70,14 @@ pub fn put_lines(
         out.old result out.new }
 {
     let mut at = 0;
-    let mut i = from;
-    while i < many {
+    for i in from..many {
         if out.len() - at < LONGEST_FLIGHT {
             return Part { size: at, next: i };
         }
         at = put_line(out, at, ids, numbers, answers, i);
-        i += 1;
     }
-    Part { size: at, next: i }
+    Part {
+        size: at,
+        next: many,
+    }
 }

@@ -18,8 +18,5 @@ returns c =
 pub loop-k-init : goal.loop-k-init
 loop-k-init c = storing_none _ _ _ _
 
-pub loop-k-smaller : goal.loop-k-smaller
-loop-k-smaller c = omega arith
-
 pub shape_of-table : goal.shape_of-table
 shape_of-table c = c.loop-k.invariant.long

@@ -1,10 +1,6 @@
 -- `couple_steps::inner::feeding::put_row` meets its contract: the columns before k have their number. Assumes nothing.
-use Rattle.std.specs.Prelude.{◌-◌}
 use Rattle.couple_steps.proofs.Tables.{Storing}
 use Rattle.couple_steps.proofs.inner.feeding.put_row.Given as goal
 
 abbrev pub invariant-loop-k : goal.invariant-loop-k
 invariant-loop-k l = Storing l.columns l.initial.table l.row l.values l.k l.table
-
-abbrev pub decreases-loop-k : goal.decreases-loop-k
-decreases-loop-k l = l.columns - l.k

@@ -1,4 +1,4 @@
-use Rattle.std.specs.Prelude.{◌<◌, ◌≤◌, length}
+use Rattle.std.specs.Prelude.{◌≡◌, ◌<◌, ◌≤◌, length}
 use native.Mathlib.Omega.{arith}
 use Rattle.couple_steps.proofs.Putting.{putting_none, at_within, putting_next, part_put}
 use Rattle.couple_steps.proofs.inner.put.put_lines.Goals as goal
@@ -29,16 +29,14 @@ loop-i-preserved c =
 
 pub returns : goal.returns
 returns c =
-    part_put _ _ _ _ c.loop-i.invariant (omega (arith, c.requires.from_lt_many))
+    let last : c.loop-i.i ≡ c.args.many = omega arith in
+    rw last at (part_put _ _ _ _ c.loop-i.invariant (omega (arith, c.requires.from_lt_many)))
 
 pub overflow_sub-out : goal.overflow_sub-out
 overflow_sub-out c = inside (goal.at.overflow_sub-out c).At-loop-i
 
 pub shape_of-out-then-out-at-lt-LONGEST_FLIGHT : goal.shape_of-out-then-out-at-lt-LONGEST_FLIGHT
 shape_of-out-then-out-at-lt-LONGEST_FLIGHT c = c.loop-i.invariant.long
-
-pub loop-i-smaller : goal.loop-i-smaller
-loop-i-smaller c = omega arith
 
 pub shape_of-out : goal.shape_of-out
 shape_of-out c = c.loop-i.invariant.long
