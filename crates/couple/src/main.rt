@@ -10,28 +10,25 @@ mod say;
 ghost use Rattle.std.specs.Prelude.{◌≡◌, ◌+◌, ◌<◌, length};
 ghost use Rattle.channel.specs.System.Origin.{input};
 ghost use Rattle.channel.specs.Run.{Run};
+ghost use Rattle.refusal.specs.Refusal.{number_of};
 ghost use Rattle.text.specs.Sheet.{refused_text};
 ghost use Rattle.couple_steps.specs.Table.{longest_text};
 ghost use Rattle.couple_steps.specs.Written.{tracks_origin, MayWrite};
 ghost use Rattle.couple_steps.specs.InnerTable.{TableRead};
 
+use couple_steps::inner::feeding::{MOVEMENT_CELLS, Movements, TRACK_CELLS, Tracks};
 use coupling::inner::couple_tables;
 use coupling::limits::MAX_FLIGHTS;
 use flights::{MOVEMENT_COLUMNS, TRACK_COLUMNS};
+use refusal::Refusal;
 use stream::Turn;
 
 // The descriptor of standard error.
 const STDERR_FILENO: i32 = 2;
 
-// Room for every row: one number for each column.
-const TRACK_CELLS: usize = MAX_FLIGHTS * TRACK_COLUMNS;
-
-const MOVEMENT_CELLS: usize = MAX_FLIGHTS * MOVEMENT_COLUMNS;
-
 fn main(rt: HostRuntime) {
     let mut sent = 0;
-    let went = run(&rt, &mut sent);
-    if !went {
+    if !run(&rt, &mut sent) {
         io::write_all(STDERR_FILENO, b"the output could not be written\n");
     }
 }
@@ -42,25 +39,33 @@ fn run(rt: &HostRuntime, sent: &mut usize) -> bool
     requires { sent.old ≡ 0 }
     ensures { Run MayWrite result sent.new }
 {
-    let mut tracks = [0u32; TRACK_CELLS];
+    let mut tracks = Tracks {
+        cells: [0u32; TRACK_CELLS],
+    };
     let mut bytes = io::large_buffer();
     let read = feed::read_tracks(rt, &mut tracks, &mut bytes);
-    let refusal = read.refusal;
-    if refusal != 0 {
-        return refuse(rt, TRACK_COLUMNS, &bytes, read, sent);
+    match read.refusal {
+        Ok(()) => with_movements(rt, &tracks.cells, read, &mut bytes, sent),
+        Err(why) => refuse(rt, TRACK_COLUMNS, &bytes, read, why, sent),
     }
-    with_movements(rt, &tracks, read, &mut bytes, sent)
 }
 
 // A file is refused: its one line, and the sentence that goes with it.
-fn refuse(rt: &HostRuntime, columns: usize, bytes: &[u8], read: Turn, sent: &mut usize) -> bool
-    requires may_write { MayWrite (refused_text read.refusal read.line) }
+fn refuse(
+    rt: &HostRuntime,
+    columns: usize,
+    bytes: &[u8],
+    read: Turn,
+    why: Refusal,
+    sent: &mut usize,
+) -> bool
+    requires may_write { MayWrite (refused_text (number_of why) read.line) }
     requires sent_value { sent.old ≡ 0 }
     ensures { Run MayWrite result sent.new }
 {
-    let went = print::refused(read.refusal, read.line, sent);
+    let went = print::refused(why.number(), read.line, sent);
     if went {
-        say::refused(rt, columns, bytes, read);
+        say::refused(rt, columns, bytes, read, why);
     }
     went
 }
@@ -78,13 +83,14 @@ fn with_movements(
     requires sent_value { sent.old ≡ 0 }
     ensures { Run MayWrite result sent.new }
 {
-    let mut movements = [0u32; MOVEMENT_CELLS];
+    let mut movements = Movements {
+        cells: [0u32; MOVEMENT_CELLS],
+    };
     let next = feed::read_movements(rt, &mut movements, bytes);
-    let refusal = next.refusal;
-    if refusal != 0 {
-        return refuse(rt, MOVEMENT_COLUMNS, bytes, next, sent);
+    match next.refusal {
+        Ok(()) => coupled(tracks, read, &movements.cells, next, bytes, sent),
+        Err(why) => refuse(rt, MOVEMENT_COLUMNS, bytes, next, why, sent),
     }
-    coupled(tracks, read, &movements, next, bytes, sent)
 }
 
 // Neither is refused: each movement takes its track, and the sheet is written.

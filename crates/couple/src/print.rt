@@ -43,16 +43,14 @@ pub(crate) fn sheet(
     ensures { Sends 0 (sheet_text ids.now numbers.now answers.now many) result
         sent.new }
 {
-    let begun = written(ids, numbers, answers, many, sent, b"id,track\r\n");
-    if !begun {
+    if !written(ids, numbers, answers, many, sent, b"id,track\r\n") {
         return false;
     }
     let mut i = 0;
+    // Kept: (d) a turn puts as many lines as there is room for, and tells which comes next.
     while i < many {
         let part = put_lines(out, ids, numbers, answers, many, i);
-        let size = part.size;
-        let went = written(ids, numbers, answers, many, sent, &out[..size]);
-        if !went {
+        if !written(ids, numbers, answers, many, sent, &out[..part.size]) {
             return false;
         }
         i = part.next;

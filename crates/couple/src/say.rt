@@ -8,7 +8,8 @@ use channel::words::argument;
 use coupling::limits::MAX_FLIGHTS;
 use flights::TRACK_COLUMNS;
 use flights::column::{CIRCUIT, CLASS};
-use stream::{ENDED, FAILED, Turn};
+use refusal::Refusal;
+use stream::{State, Turn};
 
 // The places of the two names among the arguments.
 const MOVEMENTS: usize = 1;
@@ -24,42 +25,28 @@ struct Counts {
 }
 
 // The file of so many columns is refused.
-pub(crate) fn refused(rt: &HostRuntime, columns: usize, bytes: &[u8], read: Turn) {
-    if columns == TRACK_COLUMNS {
-        named(rt, TRACKS, b"tracks.csv", columns, bytes, read);
-        return;
-    }
-    named(rt, MOVEMENTS, b"movements", columns, bytes, read);
-}
-
-// By the name that was typed.
-fn named(rt: &HostRuntime, place: usize, plain: &[u8], columns: usize, bytes: &[u8], read: Turn) {
+pub(crate) fn refused(rt: &HostRuntime, columns: usize, bytes: &[u8], read: Turn, why: Refusal) {
     let mut name = io::buffer();
+    let (place, plain): (usize, &[u8]) = if columns == TRACK_COLUMNS {
+        (TRACKS, b"tracks.csv")
+    } else {
+        (MOVEMENTS, b"movements")
+    };
     let n = argument(rt, place, &mut name);
-    if n == 0 {
-        told(plain, columns, bytes, read);
-        return;
-    }
-    told(&name[..n], columns, bytes, read);
+    let file = if n == 0 { plain } else { &name[..n] };
+    told(file, columns, bytes, read, why);
 }
 
 // The line stands in the buffer where the reading says.
-fn told(file: &[u8], columns: usize, bytes: &[u8], read: Turn) {
-    let state = read.state;
-    if state == FAILED {
+fn told(file: &[u8], columns: usize, bytes: &[u8], read: Turn, why: Refusal) {
+    if read.state == State::Failed {
         said_couple::unread(file, read.line, columns);
-        return;
+    } else {
+        let ended = read.state == State::Ended;
+        said_couple::refused_in(
+            file, bytes, read.at, read.left, ended, read.line, why, columns,
+        );
     }
-    said_couple::refused_in(
-        file,
-        bytes,
-        read.at,
-        read.left,
-        state == ENDED,
-        read.line,
-        read.refusal,
-        columns,
-    );
 }
 
 // How many of `m` movements have one of `n` tracks, and how many have none.
@@ -68,7 +55,7 @@ pub(crate) fn counted(movements: &[u32], answers: &[u32], m: usize, n: usize)
     requires m_le_max_flights { (m ≤ max_flights) × (m ≤ length answers.now) }
 {
     let counts = count(movements, answers, m);
-    let left = less(n as u64, counts.with_track);
+    let left = (n as u64).saturating_sub(counts.with_track);
     said_couple::counted(
         m as u64,
         counts.with_track,
@@ -85,8 +72,7 @@ fn count(movements: &[u32], answers: &[u32], m: usize) -> Counts
     let mut with_track = 0;
     let mut circuits = 0;
     let mut none = 0;
-    let mut i = 0;
-    while i < m {
+    for i in 0..m {
         if answers[i] != 0 {
             with_track += 1;
         } else if is_circuit(movements, i) {
@@ -94,7 +80,6 @@ fn count(movements: &[u32], answers: &[u32], m: usize) -> Counts
         } else {
             none += 1;
         }
-        i += 1;
     }
     Counts {
         with_track,
@@ -108,16 +93,5 @@ fn is_circuit(movements: &[u32], i: usize) -> bool
     requires roomy { Roomy 9 movements.now }
     requires i_lt_max_flights { i < max_flights }
 {
-    if movements[CLASS * MAX_FLIGHTS + i] != 0 {
-        return false;
-    }
-    movements[CIRCUIT * MAX_FLIGHTS + i] != 0
-}
-
-// What is left of n, 0 where all are gone.
-fn less(n: u64, gone: u64) -> u64 {
-    if n < gone {
-        return 0;
-    }
-    n - gone
+    movements[CLASS * MAX_FLIGHTS + i] == 0 && movements[CIRCUIT * MAX_FLIGHTS + i] != 0
 }

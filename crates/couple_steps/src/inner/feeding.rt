@@ -56,6 +56,7 @@ fn take_line(table: &mut [u32], columns: usize, line: &[u8], number: u64) -> Res
 }
 
 // The table of tracks.csv.
+#[derive(Drop)]
 pub struct Tracks {
     pub cells: [u32; TRACK_CELLS],
 }
@@ -83,6 +84,7 @@ impl Lines for Tracks {
 }
 
 // The table of the movements.
+#[derive(Drop)]
 pub struct Movements {
     pub cells: [u32; MOVEMENT_CELLS],
 }

@@ -1,13 +1,11 @@
--- `couple::feed::read_movements` meets its contract: the source is standard input's. Assumes nothing.
-use mathlib.Core.Path.{refl}
+-- `couple::feed::read_movements` meets its contract: the source is standard input's, and no row is held before the first
+-- line. Assumes nothing.
 use Rattle.channel.specs.System.{standard_input}
+use Rattle.text.specs.Index.{listing}
 use Rattle.couple.proofs.feed.read_movements.Goals as goal
 
-pub read_table-requires : goal.read_table-requires
-read_table-requires c =
-    record {
-      descriptor = standard_input;
-      taken_value = refl;
-      roomy = c.requires.roomy;
-      longest_text_in_bounds = c.requires.longest_text_in_bounds;
-    }
+pub read_whole-requires-clause-descriptor : goal.read_whole-requires-clause-descriptor
+read_whole-requires-clause-descriptor c = standard_input
+
+pub returns : goal.returns
+returns c = unfold listing in c.read_whole.ensures

@@ -7,23 +7,23 @@ use Rattle.couple_steps.specs.{InnerSheet.heading_text}
 use Rattle.couple_steps.proofs.Order.{heading_due, lines_due, lines_rest, lines_none}
 use Rattle.couple.proofs.print.sheet.Goals as goal
 
-pub written-begun-requires : goal.written-begun-requires
-written-begun-requires c =
+pub written-requires : goal.written-requires
+written-requires c =
     let a = c.args in
     record {
       many_le_max_flights = c.requires.many_le_max_flights.0;
       due = rw c.requires.sent_value (heading_due a.ids.now a.numbers.now a.answers.now a.many);
     }
 
-pub returns-then-not-begun : goal.returns-then-not-begun
-returns-then-not-begun c =
-    sends_lost _ (c.written-begun.ensures.lost (c.if-not-begun.true))
+pub returns-then-not-written : goal.returns-then-not-written
+returns-then-not-written c =
+    sends_lost _ (c.written.ensures.lost (c.if-not-written.true))
 
 pub loop-i-init : goal.loop-i-init
 loop-i-init c =
     let a = c.args in
-    let sent : Sends 0 heading_text _ _ = rw c.requires.sent_value at c.written-begun.ensures in
-    let all = c.if-not-begun.false in (
+    let sent : Sends 0 heading_text _ _ = rw c.requires.sent_value at c.written.ensures in
+    let all = c.if-not-written.false in (
       omega arith,
       refl,
       lines_due a.ids.now a.numbers.now a.answers.now a.many _ (sent.count all),
@@ -37,28 +37,28 @@ put_lines-part-requires c =
       from_lt_many = omega arith;
     }
 
-pub written-went-requires : goal.written-went-requires
-written-went-requires c =
+pub written-requires-in-loop-i : goal.written-requires-in-loop-i
+written-requires-in-loop-i c =
     let p = c.put_lines-part in
     record {
       many_le_max_flights = c.requires.many_le_max_flights.0;
       due = due_front (take p.result.size p.new.out) _ (rw p.ensures.joined at c.loop-i.invariant.2);
     }
 
-pub returns-then-not-went : goal.returns-then-not-went
-returns-then-not-went c =
-    sends_lost _ (c.written-went.ensures.lost (c.if-not-went.true))
+pub returns-then-not-written-2 : goal.returns-then-not-written-2
+returns-then-not-written-2 c =
+    sends_lost _ (c.written-in-loop-i.ensures.lost (c.if-not-written-2.true))
 
 pub loop-i-preserved : goal.loop-i-preserved
 loop-i-preserved c =
-    let all = c.if-not-went.false in
+    let all = c.if-not-written-2.false in
     let p = c.put_lines-part in
     let e = p.ensures in
     let bytes = take p.result.size p.new.out in (
       e.within,
       e.long ∙ c.loop-i.invariant.1,
-      rw (c.written-went.ensures.count all) (due_rest bytes _ (rw e.joined at c.loop-i.invariant.2)),
-      rest_next_lem bytes _ (rw e.joined at c.loop-i.invariant.3) all c.written-went.ensures,
+      rw (c.written-in-loop-i.ensures.count all) (due_rest bytes _ (rw e.joined at c.loop-i.invariant.2)),
+      rest_next_lem bytes _ (rw e.joined at c.loop-i.invariant.3) all c.written-in-loop-i.ensures,
     )
 
 pub returns : goal.returns
