@@ -8,7 +8,6 @@ mod asked;
 
 use cases::column::stepped;
 use cases::fields::{letter, number, numbers, place};
-use cases::inner::line_past;
 
 // The descriptor of standard input.
 const STDIN_FILENO: i32 = 0;
@@ -85,11 +84,8 @@ fn run(
     levels: &mut [u32],
     script: &[u8],
 ) {
-    let mut at = 0;
-    while at < script.len() {
-        let next = line_past(script, at);
-        case(ids, groups, marks, counts, levels, &script[at..next]);
-        at = next;
+    for line in script.split_inclusive(|b| *b == b'\n') {
+        case(ids, groups, marks, counts, levels, line);
     }
 }
 
