@@ -1,8 +1,9 @@
 -- Inner steps: no promise uses them. The buffers while contours are listed, and what they hold. Assumes nothing.
 use Rattle.std.specs.Prelude.{◌≡◌, ℕ, ◌+◌, ◌≤◌, Bool, List, length}
-use Rattle.std.specs.Borrow.{Bor, MutBor}
+use Rattle.std.specs.Borrow.{MutBor}
 use Rattle.room.specs.Lent.{Lent, LentRoom}
 use Rattle.room.specs.Room.{front}
+use Rattle.network.specs.declared.inner.Network.{Network}
 use Rattle.network.specs.Edges.{edges as edge_count}
 use Rattle.contour_rules.specs.Picture.{Picture, picture}
 use Rattle.contour_rules.specs.Crossings.{edges_in}
@@ -11,9 +12,9 @@ use Rattle.contour_rules.specs.Contours.{edges_of, counts_of, closed_of}
 use Rattle.contour.specs.declared.inner.Progress.{Progress}
 use Rattle.contour.specs.InnerWalk.{OnlyCrossed}
 
--- the picture of lent levels: now, and before the call
-abbrev pub picture_now : (levels : Bor (List ℕ)) (nx ny v : ℕ) → Picture
-picture_now levels nx ny v = picture levels.now nx ny v
+-- the picture of a network, and of lent levels before the call
+abbrev pub pictured : Network → ℕ → Picture
+pictured n v = picture n.levels.now n.nx n.ny v
 
 abbrev pub picture_before : (levels : Lent) (nx ny v : ℕ) → Picture
 picture_before levels nx ny v = picture levels.entry.now nx ny v

@@ -1,20 +1,19 @@
 // One contour more, at an edge where one starts.
 ghost use Rattle.std.specs.Prelude.{◌≡◌, ◌<◌, true};
-ghost use Rattle.network.specs.Edges.{Sized, edges as edge_count};
+ghost use Rattle.network.specs.Edges.{edges as edge_count};
 ghost use Rattle.contour_rules.specs.Crossings.{ahead_of, edge_of};
 ghost use Rattle.contour_rules.specs.Contours.{waits};
-ghost use Rattle.contour.specs.InnerDesk.{picture_now, picture_before, desk_now, desk_before, desk_after};
+ghost use Rattle.contour.specs.InnerDesk.{pictured, desk_now, desk_before, desk_after};
 ghost use Rattle.contour.specs.InnerDesk.{Room, Grows, added, tried};
 
 use crate::inner::Progress;
 use crate::walk::Stand;
 use crate::{start, walk};
+use network::inner::Network;
 
 // Lists the contour that starts at an edge.
 fn add_contour(
-    levels: &[u32],
-    nx: usize,
-    ny: usize,
+    network: Network,
     v: u32,
     closes: bool,
     start: Stand,
@@ -24,15 +23,15 @@ fn add_contour(
     closed: &mut [u32],
     so_far: Progress,
 ) -> Progress
-    requires { Sized levels.now nx ny × ((waits list.old start.edge ≡ true)
-        × ((start.ahead ≡ ahead_of (picture_now levels nx ny v) (edge_of (picture_now levels nx ny v) start.edge))
-        × Room (picture_now levels nx ny v) (desk_now list edges counts closed so_far))) }
-    ensures { Grows (picture_before levels nx ny v) (added (picture_before levels nx ny v) closes start.edge)
+    requires { ((waits list.old start.edge ≡ true)
+        × ((start.ahead ≡ ahead_of (pictured network v) (edge_of (pictured network v) start.edge))
+        × Room (pictured network v) (desk_now list edges counts closed so_far))) }
+    ensures { Grows (pictured network.entry v) (added (pictured network.entry v) closes start.edge)
         (desk_before list edges counts closed so_far) (desk_after list edges counts closed result) }
 {
     let at = so_far.edges;
     let made = so_far.contours;
-    let end = walk::trace(levels, nx, ny, v, start, list, edges, at);
+    let end = walk::trace(network, v, start, list, edges, at);
     counts[made] = (end - at) as u32;
     closed[made] = u32::from(closes);
     Progress {
@@ -43,9 +42,7 @@ fn add_contour(
 
 // Lists the contour that starts at edge n, if one does.
 pub(crate) fn try_edge(
-    levels: &[u32],
-    nx: usize,
-    ny: usize,
+    network: Network,
     v: u32,
     closes: bool,
     n: usize,
@@ -55,15 +52,15 @@ pub(crate) fn try_edge(
     closed: &mut [u32],
     so_far: Progress,
 ) -> Progress
-    requires { Sized levels.now nx ny × ((n < edge_count nx ny)
-        × Room (picture_now levels nx ny v) (desk_now list edges counts closed so_far)) }
-    ensures { Grows (picture_before levels nx ny v) (tried (picture_before levels nx ny v) closes n)
+    requires { ((n < edge_count network.nx network.ny)
+        × Room (pictured network v) (desk_now list edges counts closed so_far)) }
+    ensures { Grows (pictured network.entry v) (tried (pictured network.entry v) closes n)
         (desk_before list edges counts closed so_far) (desk_after list edges counts closed result) }
 {
-    if start::starts_here(levels, nx, ny, v, closes, list, n) {
-        let from = start::stand_at(levels, nx, ny, v, n);
+    if start::starts_here(network, v, closes, list, n) {
+        let from = start::stand_at(network, v, n);
         return add_contour(
-            levels, nx, ny, v, closes, from, list, edges, counts, closed, so_far,
+            network, v, closes, from, list, edges, counts, closed, so_far,
         );
     }
     so_far

@@ -5,13 +5,13 @@ ghost use Rattle.std.specs.Prelude.{◌≡◌, ◌≤◌, ◌&&◌, [], ◌∷�
 ghost use Rattle.refusal.specs.Refusal.{told};
 ghost use Rattle.room.specs.Room.{front};
 ghost use Rattle.network.specs.Limits.{max_edges};
-ghost use Rattle.network.specs.Edges.{Sized};
 ghost use Rattle.contour_rules.specs.Contours.{contours_of};
 ghost use Rattle.contour.specs.Answers.{answer_from, answer_of, handed_out, lists_before, outcome_left, outcome_due};
-ghost use Rattle.contour.specs.InnerDesk.{picture_before, RoomForAll};
+ghost use Rattle.contour.specs.InnerDesk.{pictured, RoomForAll};
 
 use crate::inner::Progress;
 use network::Frame;
+use network::inner::Network;
 use network::limits::{MAX_EDGES, MAX_NETWORK_LEVEL};
 use refusal::Refusal;
 
@@ -72,31 +72,20 @@ fn hand_out(
 
 // Lists the contours apart and hands them out: for buffers that may be too small.
 fn list_apart(
-    levels: &[u32],
-    nx: usize,
-    ny: usize,
+    network: Network,
     v: u32,
     edges: &mut [u32],
     counts: &mut [u32],
     closed: &mut [u32],
     sizes: &mut [u32],
 ) -> Result<(), Refusal>
-    requires { Sized levels.now nx ny }
     ensures { outcome_left (told result) edges counts closed sizes ≡ handed_out 0
-        (answer_of (contours_of (picture_before levels nx ny v))) (lists_before edges counts closed sizes) }
+        (answer_of (contours_of (pictured network.entry v))) (lists_before edges counts closed sizes) }
 {
     let mut all_edges = [0u32; MAX_EDGES];
     let mut all_counts = [0u32; MAX_EDGES];
     let mut all_closed = [0u32; MAX_EDGES];
-    let got = inner::list_contours(
-        levels,
-        nx,
-        ny,
-        v,
-        &mut all_edges,
-        &mut all_counts,
-        &mut all_closed,
-    );
+    let got = inner::list_network(network, v, &mut all_edges, &mut all_counts, &mut all_closed);
     hand_out(
         &all_edges,
         &all_counts,
@@ -111,41 +100,35 @@ fn list_apart(
 
 // Lists the contours straight into buffers that have room for every edge.
 fn list_straight(
-    levels: &[u32],
-    nx: usize,
-    ny: usize,
+    network: Network,
     v: u32,
     edges: &mut [u32],
     counts: &mut [u32],
     closed: &mut [u32],
     sizes: &mut [u32],
 )
-    requires { Sized levels.now nx ny
-        × (RoomForAll nx ny edges counts closed × (2 ≤ length sizes.old)) }
+    requires { (RoomForAll network.nx network.ny edges counts closed × (2 ≤ length sizes.old)) }
     ensures { outcome_left 0 edges counts closed sizes ≡ handed_out 0
-        (answer_of (contours_of (picture_before levels nx ny v))) (lists_before edges counts closed sizes) }
+        (answer_of (contours_of (pictured network.entry v))) (lists_before edges counts closed sizes) }
 {
-    let got = inner::list_contours(levels, nx, ny, v, edges, counts, closed);
+    let got = inner::list_network(network, v, edges, counts, closed);
     put_sizes(sizes, got);
 }
 
 // The contours of a checked network. Where each buffer has room for every edge they are listed straight into the
 // buffers.
 fn list_out(
-    levels: &[u32],
-    nx: usize,
-    ny: usize,
+    network: Network,
     v: u32,
     edges: &mut [u32],
     counts: &mut [u32],
     closed: &mut [u32],
     sizes: &mut [u32],
 ) -> Result<(), Refusal>
-    requires { Sized levels.now nx ny }
     ensures { outcome_left (told result) edges counts closed sizes ≡ handed_out 0
-        (answer_of (contours_of (picture_before levels nx ny v))) (lists_before edges counts closed sizes) }
+        (answer_of (contours_of (pictured network.entry v))) (lists_before edges counts closed sizes) }
 {
-    let total = network::inner::edge_count(nx, ny);
+    let total = network.edge_count();
     if room_for(
         total,
         total,
@@ -154,10 +137,10 @@ fn list_out(
         closed.len(),
         sizes.len(),
     ) {
-        list_straight(levels, nx, ny, v, edges, counts, closed, sizes);
+        list_straight(network, v, edges, counts, closed, sizes);
         return Ok(());
     }
-    list_apart(levels, nx, ny, v, edges, counts, closed, sizes)
+    list_apart(network, v, edges, counts, closed, sizes)
 }
 
 // The contours at level v of a network of levels, from the south row, west to east. Their edges, one contour after the
@@ -176,7 +159,5 @@ pub fn contours(
         ≡ outcome_due levels frame v edges counts closed sizes }
 {
     network::contour_refusal(levels, frame, v, MAX_NETWORK_LEVEL)?;
-    let nx = frame.columns as usize;
-    let ny = frame.rows as usize;
-    list_out(levels, nx, ny, v, edges, counts, closed, sizes)
+    list_out(Network::new(levels, frame), v, edges, counts, closed, sizes)
 }

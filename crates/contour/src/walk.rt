@@ -1,16 +1,17 @@
 // A line walked from square to square.
 ghost use Rattle.std.specs.Prelude.{◌≡◌, ◌<◌, ◌≤◌};
 ghost use Rattle.network.specs.Limits.{max_side};
-ghost use Rattle.network.specs.Edges.{Sides, Sized, WithinEdge};
+ghost use Rattle.network.specs.Edges.{WithinEdge};
 ghost use Rattle.contour_rules.specs.Picture.{cut_of};
 ghost use Rattle.contour_rules.specs.Squares.{WithinSquare, turn, corner, exit_of, side_edge};
 ghost use Rattle.contour_rules.specs.Crossings.{north_of, south_of, west_of, east_of, beyond, across_of};
 ghost use Rattle.contour_rules.specs.Contours.{waits};
 ghost use Rattle.contour.specs.InnerWalk.{WithinAhead, step_edge, step_ahead, Traceable, Traced};
-ghost use Rattle.contour.specs.InnerDesk.{picture_now, picture_before};
+ghost use Rattle.contour.specs.InnerDesk.{pictured};
 
 use contour_rules::{Ahead, Side};
 use network::Edge;
+use network::inner::Network;
 
 // The next side counterclockwise.
 fn turned(s: Side) -> Side
@@ -25,44 +26,42 @@ fn turned(s: Side) -> Side
 }
 
 // Whether the corner to the left of who enters by `s` is in.
-fn corner_in(levels: &[u32], nx: usize, ny: usize, v: u32, row: usize, col: usize, s: Side) -> bool
-    requires { Sized levels.now nx ny × WithinSquare nx ny row col }
-    ensures { result ≡ corner (picture_before levels nx ny v) row col s }
+fn corner_in(network: Network, v: u32, row: usize, col: usize, s: Side) -> bool
+    requires { WithinSquare network.nx network.ny row col }
+    ensures { result ≡ corner (pictured network.entry v) row col s }
 {
     match s {
-        Side::South => network::inner::inside(levels, nx, ny, v, row, col),
-        Side::East => network::inner::inside(levels, nx, ny, v, row, col + 1),
-        Side::North => network::inner::inside(levels, nx, ny, v, row + 1, col + 1),
-        Side::West => network::inner::inside(levels, nx, ny, v, row + 1, col),
+        Side::South => network.inside(v, row, col),
+        Side::East => network.inside(v, row, col + 1),
+        Side::North => network.inside(v, row + 1, col + 1),
+        Side::West => network.inside(v, row + 1, col),
     }
 }
 
 // Whether a saddle of the square cuts off its two out corners.
-fn cuts_out(levels: &[u32], nx: usize, ny: usize, v: u32, row: usize, col: usize) -> bool
-    requires { Sized levels.now nx ny × WithinSquare nx ny row col }
-    ensures { result ≡ cut_of levels.now nx v row col }
+fn cuts_out(network: Network, v: u32, row: usize, col: usize) -> bool
+    requires { WithinSquare network.nx network.ny row col }
+    ensures { result ≡ cut_of network.entry.levels.now network.entry.nx v row col }
 {
-    let south = u64::from(network::inner::level(levels, nx, ny, row, col))
-        + u64::from(network::inner::level(levels, nx, ny, row, col + 1));
-    let north = u64::from(network::inner::level(levels, nx, ny, row + 1, col + 1))
-        + u64::from(network::inner::level(levels, nx, ny, row + 1, col));
+    let south = u64::from(network.level(row, col)) + u64::from(network.level(row, col + 1));
+    let north = u64::from(network.level(row + 1, col + 1)) + u64::from(network.level(row + 1, col));
     4 * u64::from(v) <= south + north
 }
 
 // The side by which a line leaves the square that it entered by `s`. The corners are added up at a saddle only.
-fn exit_side(levels: &[u32], nx: usize, ny: usize, v: u32, row: usize, col: usize, s: Side) -> Side
-    requires { Sized levels.now nx ny × WithinSquare nx ny row col }
-    ensures { result ≡ exit_of (picture_before levels nx ny v) row col s }
+fn exit_side(network: Network, v: u32, row: usize, col: usize, s: Side) -> Side
+    requires { WithinSquare network.nx network.ny row col }
+    ensures { result ≡ exit_of (pictured network.entry v) row col s }
 {
     let on_right = turned(s);
     let across = turned(on_right);
     let on_left = turned(across);
-    let right = corner_in(levels, nx, ny, v, row, col, across);
-    let left = corner_in(levels, nx, ny, v, row, col, on_left);
+    let right = corner_in(network, v, row, col, across);
+    let left = corner_in(network, v, row, col, on_left);
     match (right, left) {
         (true, true) => on_right,
         (true, false) => {
-            if cuts_out(levels, nx, ny, v, row, col) {
+            if cuts_out(network, v, row, col) {
                 on_right
             } else {
                 on_left
@@ -126,27 +125,27 @@ fn east_of(nx: usize, row: usize, col: usize) -> Ahead
 }
 
 // What lies beyond a side of the square.
-fn beyond_side(nx: usize, ny: usize, row: usize, col: usize, s: Side) -> Ahead
+fn beyond_side(network: Network, row: usize, col: usize, s: Side) -> Ahead
     requires { (row < max_side) × (col < max_side) }
-    ensures { result ≡ beyond nx ny row col s }
+    ensures { result ≡ beyond network.entry.nx network.entry.ny row col s }
 {
     match s {
         Side::South => south_of(row, col),
-        Side::East => east_of(nx, row, col + 1),
-        Side::North => north_of(ny, row + 1, col),
+        Side::East => east_of(network.nx, row, col + 1),
+        Side::North => north_of(network.ny, row + 1, col),
         Side::West => west_of(row, col),
     }
 }
 
 // Across an edge with its west or south end on the left, or on the right.
-pub(crate) fn across(nx: usize, ny: usize, left: bool, e: Edge) -> Ahead
-    requires { Sides nx ny × WithinEdge nx ny e }
-    ensures { result ≡ across_of nx ny left e }
+pub(crate) fn across(network: Network, left: bool, e: Edge) -> Ahead
+    requires { WithinEdge network.nx network.ny e }
+    ensures { result ≡ across_of network.entry.nx network.entry.ny left e }
 {
     match e {
         Edge::Horizontal(row, col) => {
             if left {
-                return north_of(ny, row, col);
+                return north_of(network.ny, row, col);
             }
             south_of(row, col)
         }
@@ -154,7 +153,7 @@ pub(crate) fn across(nx: usize, ny: usize, left: bool, e: Edge) -> Ahead
             if left {
                 return west_of(row, col);
             }
-            east_of(nx, row, col)
+            east_of(network.nx, row, col)
         }
     }
 }
@@ -168,22 +167,22 @@ pub struct Stand {
 
 // Through the square ahead to the edge by which the line leaves it. Outside the network stands the number of edges,
 // which is no edge's.
-fn step(levels: &[u32], nx: usize, ny: usize, v: u32, ahead: Ahead) -> Stand
-    requires { Sized levels.now nx ny × WithinAhead nx ny ahead }
-    ensures { (result.edge ≡ step_edge (picture_before levels nx ny v) ahead)
-        × (result.ahead ≡ step_ahead (picture_before levels nx ny v) ahead) }
+fn step(network: Network, v: u32, ahead: Ahead) -> Stand
+    requires { WithinAhead network.nx network.ny ahead }
+    ensures { (result.edge ≡ step_edge (pictured network.entry v) ahead)
+        × (result.ahead ≡ step_ahead (pictured network.entry v) ahead) }
 {
     match ahead {
         Ahead::Square(row, col, s) => {
-            let exit = exit_side(levels, nx, ny, v, row, col, s);
-            let edge = network::inner::number_of(nx, ny, side_edge(row, col, exit));
+            let exit = exit_side(network, v, row, col, s);
+            let edge = network.number_of(side_edge(row, col, exit));
             Stand {
                 edge,
-                ahead: beyond_side(nx, ny, row, col, exit),
+                ahead: beyond_side(network, row, col, exit),
             }
         }
         Ahead::Outside => Stand {
-            edge: network::inner::edge_count(nx, ny),
+            edge: network.edge_count(),
             ahead: Ahead::Outside,
         },
     }
@@ -199,18 +198,15 @@ pub(crate) fn still_waits(list: &[u8], n: usize) -> bool
 // Writes the contour from an edge on into `edges` from the place `from` on, and takes its edges from the waiting list.
 // Returns the place after it.
 pub(crate) fn trace(
-    levels: &[u32],
-    nx: usize,
-    ny: usize,
+    network: Network,
     v: u32,
     start: Stand,
     list: &mut [u8],
     edges: &mut [u32],
     from: usize,
 ) -> usize
-    requires { Sized levels.now nx ny
-        × Traceable (picture_now levels nx ny v) list.old edges.old from start.edge start.ahead }
-    ensures { Traced (picture_before levels nx ny v) list.old edges.old from
+    requires { Traceable (pictured network v) list.old edges.old from start.edge start.ahead }
+    ensures { Traced (pictured network.entry v) list.old edges.old from
         start.edge result list.new edges.new }
 {
     let mut here = start;
@@ -221,7 +217,7 @@ pub(crate) fn trace(
         edges[at] = n as u32;
         at += 1;
         let ahead = here.ahead;
-        here = step(levels, nx, ny, v, ahead);
+        here = step(network, v, ahead);
     }
     at
 }

@@ -1,10 +1,11 @@
 // The crossing of an edge: one rounded division.
 ghost use Rattle.std.specs.Prelude.{◌≡◌, ◌<◌, ◌≤◌, true, ◌⊎◌};
-ghost use Rattle.network.specs.Edges.{Sized, Checked, WithinEdge};
+ghost use Rattle.network.specs.Edges.{Checked, WithinEdge};
 ghost use Rattle.network.specs.Crossed.{crossed_edge};
 ghost use Rattle.mapping.specs.Fractions.{Rounded, fraction_of, along_edge, crossing_of};
 
 use crate::Crossing;
+use network::inner::Network;
 use network::{Edge, Frame};
 
 // num / den, rounded once.
@@ -24,19 +25,19 @@ fn along(v: u32, a: u32, b: u32) -> f64
 }
 
 // The crossing of an edge that is crossed.
-fn along_edge(levels: &[u32], nx: usize, ny: usize, v: u32, e: Edge) -> Crossing
-    requires { Sized levels.now nx ny × (WithinEdge nx ny e × (crossed_edge levels.now nx v e ≡ true)) }
-    ensures { result ≡ along_edge levels.now nx v e }
+fn along_edge(network: Network, v: u32, e: Edge) -> Crossing
+    requires { WithinEdge network.nx network.ny e × (crossed_edge network.levels.now network.nx v e ≡ true) }
+    ensures { result ≡ along_edge network.entry.levels.now network.entry.nx v e }
 {
     match e {
         Edge::Horizontal(row, col) => {
-            let west = network::inner::level(levels, nx, ny, row, col);
-            let east = network::inner::level(levels, nx, ny, row, col + 1);
+            let west = network.level(row, col);
+            let east = network.level(row, col + 1);
             Crossing::AlongHorizontal(along(v, west, east))
         }
         Edge::Vertical(row, col) => {
-            let south = network::inner::level(levels, nx, ny, row, col);
-            let north = network::inner::level(levels, nx, ny, row + 1, col);
+            let south = network.level(row, col);
+            let north = network.level(row + 1, col);
             Crossing::AlongVertical(along(v, south, north))
         }
     }
@@ -47,13 +48,10 @@ pub(crate) fn crossing_of(levels: &[u32], frame: Frame, v: u32, n: u32) -> Optio
     requires { Checked levels.now frame }
     ensures { result ≡ crossing_of levels.now frame v n }
 {
-    let nx = frame.columns as usize;
-    let ny = frame.rows as usize;
+    let network = Network::new(levels, frame);
     let at = n as usize;
-    if at < network::inner::edge_count(nx, ny)
-        && network::inner::crossed_at(levels, nx, ny, v, at)
-    {
-        return Some(along_edge(levels, nx, ny, v, network::inner::edge_at(nx, ny, at)));
+    if at < network.edge_count() && network.crossed_at(v, at) {
+        return Some(along_edge(network, v, network.edge_at(at)));
     }
     None
 }

@@ -5,6 +5,7 @@ ghost use Rattle.network.specs.Edges.{Checked};
 ghost use Rattle.mapping.specs.Places.{moving, still, row_of, col_of, locate, located_of};
 
 use crate::{Crossing, Located, MapPoint, edge};
+use network::inner::Network;
 use network::{Edge, Frame};
 
 // The coordinate that moves along an edge.
@@ -66,6 +67,6 @@ pub(crate) fn locate_at(levels: &[u32], frame: Frame, v: u32, n: u32) -> Option<
     ensures { result ≡ located_of levels.now frame v n }
 {
     let c = edge::crossing_of(levels, frame, v, n)?;
-    let e = network::inner::edge_at(frame.columns as usize, frame.rows as usize, n as usize);
+    let e = Network::new(levels, frame).edge_at(n as usize);
     Some(locate_crossing(c, row_of(e) as u32, col_of(e) as u32, frame))
 }

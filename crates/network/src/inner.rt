@@ -1,9 +1,95 @@
 // The points and edges of a network that has passed its check.
 ghost use Rattle.std.specs.Prelude.{◌≡◌, ◌<◌};
-ghost use Rattle.network.specs.Edges.{Sides, Sized, level_at, edges, edge_at, number_of, WithinEdge};
+ghost use Rattle.network.specs.Edges.{Sides, Sized, Checked, level_at, edges, edge_at, number_of, WithinEdge};
 ghost use Rattle.network.specs.Crossed.{inside_of, crossed_edge, crossed_at, distance};
 
-use crate::Edge;
+use crate::{Edge, Frame};
+
+// A network with nx columns and ny rows of points, and a level for each of them.
+#[derive(Clone, Copy)]
+pub struct Network<'a> {
+    pub levels: &'a [u32],
+    pub nx: usize,
+    pub ny: usize,
+    pub ghost sized: { Sized levels.now nx ny },
+}
+
+impl<'a> Network<'a> {
+    // The network of these levels in this frame.
+    pub fn new(levels: &'a [u32], frame: Frame) -> Network<'a>
+        requires { Checked levels.now frame }
+        ensures levels_are { result.levels.now ≡ levels.now }
+        ensures nx_is { result.nx ≡ frame.columns }
+        ensures ny_is { result.ny ≡ frame.rows }
+    {
+        Network {
+            levels,
+            nx: frame.columns as usize,
+            ny: frame.rows as usize,
+        }
+    }
+
+    // The level of a point.
+    pub fn level(self, row: usize, col: usize) -> u32
+        requires { (row < self.ny) × (col < self.nx) }
+        ensures { result ≡ level_at self.entry.levels.now self.entry.nx row col }
+    {
+        level(self.levels, self.nx, self.ny, row, col)
+    }
+
+    // Whether the point is in: its level is at least v.
+    pub fn inside(self, v: u32, row: usize, col: usize) -> bool
+        requires { (row < self.ny) × (col < self.nx) }
+        ensures { result ≡ inside_of self.entry.levels.now self.entry.nx v row col }
+    {
+        v <= self.level(row, col)
+    }
+
+    // Whether one end of the edge is in and the other out.
+    pub fn crossed_edge(self, v: u32, e: Edge) -> bool
+        requires { WithinEdge self.nx self.ny e }
+        ensures { result ≡ crossed_edge self.entry.levels.now self.entry.nx v e }
+    {
+        match e {
+            Edge::Horizontal(row, col) => self.inside(v, row, col) != self.inside(v, row, col + 1),
+            Edge::Vertical(row, col) => self.inside(v, row, col) != self.inside(v, row + 1, col),
+        }
+    }
+
+    // How many edges there are.
+    pub fn edge_count(self) -> usize
+        ensures { result ≡ edges self.entry.nx self.entry.ny }
+    {
+        self.ny * (self.nx - 1) + (self.ny - 1) * self.nx
+    }
+
+    // The edge of a number.
+    pub fn edge_at(self, n: usize) -> Edge
+        ensures value { result ≡ edge_at self.entry.nx self.entry.ny n }
+        ensures within { n < edges self.entry.nx self.entry.ny → WithinEdge self.entry.nx self.entry.ny result }
+    {
+        edge_at(self.nx, self.ny, n)
+    }
+
+    // The number of an edge.
+    pub fn number_of(self, e: Edge) -> usize
+        requires { WithinEdge self.nx self.ny e }
+        ensures { result ≡ number_of self.entry.nx self.entry.ny e }
+    {
+        match e {
+            Edge::Horizontal(row, col) => row * (self.nx - 1) + col,
+            Edge::Vertical(row, col) => self.ny * (self.nx - 1) + row * self.nx + col,
+        }
+    }
+
+    // Whether the edge of that number is crossed.
+    pub fn crossed_at(self, v: u32, n: usize) -> bool
+        requires { n < edges self.nx self.ny }
+        ensures { result ≡ crossed_at self.entry.levels.now self.entry.nx self.entry.ny v n }
+    {
+        self.crossed_edge(v, self.edge_at(n))
+    }
+}
 
 // The level of a point.
 pub fn level(levels: &[u32], nx: usize, ny: usize, row: usize, col: usize) -> u32
@@ -12,41 +98,6 @@ pub fn level(levels: &[u32], nx: usize, ny: usize, row: usize, col: usize) -> u3
 {
     let at = row * nx + col;
     levels[at]
-}
-
-// Whether the point is in: its level is at least v.
-pub fn inside(levels: &[u32], nx: usize, ny: usize, v: u32, row: usize, col: usize) -> bool
-    requires { Sized levels.now nx ny × ((row < ny) × (col < nx)) }
-    ensures { result ≡ inside_of levels.now nx v row col }
-{
-    v <= level(levels, nx, ny, row, col)
-}
-
-// Whether one end of the edge is in and the other out.
-pub fn crossed_edge(levels: &[u32], nx: usize, ny: usize, v: u32, e: Edge) -> bool
-    requires { Sized levels.now nx ny × WithinEdge nx ny e }
-    ensures { result ≡ crossed_edge levels.now nx v e }
-{
-    match e {
-        Edge::Horizontal(row, col) => {
-            let west = inside(levels, nx, ny, v, row, col);
-            let east = inside(levels, nx, ny, v, row, col + 1);
-            west != east
-        }
-        Edge::Vertical(row, col) => {
-            let south = inside(levels, nx, ny, v, row, col);
-            let north = inside(levels, nx, ny, v, row + 1, col);
-            south != north
-        }
-    }
-}
-
-// How many edges there are.
-pub fn edge_count(nx: usize, ny: usize) -> usize
-    requires { Sides nx ny }
-    ensures { result ≡ edges nx ny }
-{
-    ny * (nx - 1) + (ny - 1) * nx
 }
 
 // The edge of a number.
@@ -60,25 +111,6 @@ pub fn edge_at(nx: usize, ny: usize, n: usize) -> Edge
     }
     let k = n - horizontals;
     Edge::Vertical(k / nx, k % nx)
-}
-
-// The number of an edge.
-pub fn number_of(nx: usize, ny: usize, e: Edge) -> usize
-    requires { Sides nx ny × WithinEdge nx ny e }
-    ensures { result ≡ number_of nx ny e }
-{
-    match e {
-        Edge::Horizontal(row, col) => row * (nx - 1) + col,
-        Edge::Vertical(row, col) => ny * (nx - 1) + row * nx + col,
-    }
-}
-
-// Whether the edge of that number is crossed.
-pub fn crossed_at(levels: &[u32], nx: usize, ny: usize, v: u32, n: usize) -> bool
-    requires { Sized levels.now nx ny × (n < edges nx ny) }
-    ensures { result ≡ crossed_at levels.now nx ny v n }
-{
-    crossed_edge(levels, nx, ny, v, edge_at(nx, ny, n))
 }
 
 // How far apart two levels are.

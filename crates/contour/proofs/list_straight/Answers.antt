@@ -1,24 +1,21 @@
 -- `contour::list_straight` meets its contract. Assumes nothing.
 use native.Mathlib.Omega.{arith}
 use Rattle.network.proofs.Numbers.{edges_le}
-use Rattle.contour_rules.specs.Picture.{Picture, picture}
 use Rattle.contour_rules.proofs.Every.{few}
+use Rattle.contour.specs.InnerDesk.{pictured}
 use Rattle.contour.proofs.Handing.{straight}
 use Rattle.contour.proofs.list_straight.Goals as goal
 use Rattle.contour.proofs.list_straight.Goals.{Start}
 
-abbrev pictured : Start → Picture
-pictured s = picture s.args.levels.now s.args.nx s.args.ny s.args.v
-
 pub put_sizes-requires : goal.put_sizes-requires
 put_sizes-requires c =
-    let l = c.list_contours-got.ensures in
-    let k = few (pictured (goal.at.put_sizes-requires c).Start) c.requires.0.sides.wide in
-    let m = edges_le c.args.nx c.args.ny c.requires.0.sides.narrow c.requires.0.sides.low in
-    (c.requires.1.1, (omega (arith, l.edge_places, k.0), omega (arith, l.contours, k.1)))
+    let l = c.list_network-got.ensures in
+    let k = few (pictured c.args.network c.args.v) c.args.network.sized.sides.wide in
+    let m = edges_le c.args.network.nx c.args.network.ny c.args.network.sized.sides.narrow c.args.network.sized.sides.low in
+    (c.requires.1, (omega (arith, l.edge_places, k.0), omega (arith, l.contours, k.1)))
 
 pub returns : goal.returns
 returns c =
     let a = c.args in
     straight _ a.edges.now a.counts.now a.closed.now a.sizes.now _ _ _ _ _ _
-    c.list_contours-got.ensures c.requires.1.1 c.put_sizes.ensures
+    c.list_network-got.ensures c.requires.1 c.put_sizes.ensures

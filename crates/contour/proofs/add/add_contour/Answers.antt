@@ -1,15 +1,11 @@
 -- `contour::add::add_contour` meets its contract. Assumes nothing.
 use native.Mathlib.Omega.{arith}
 use Rattle.network.proofs.Numbers.{edges_le}
-use Rattle.contour_rules.specs.Picture.{Picture, picture}
-use Rattle.contour.specs.InnerDesk.{Desk, desk}
+use Rattle.contour.specs.InnerDesk.{pictured, Desk, desk}
 use Rattle.contour.proofs.Buffers.{byte_bit}
 use Rattle.contour.proofs.Listings.{count_fits, end_fits, grown}
 use Rattle.contour.proofs.add.add_contour.Goals as goal
 use Rattle.contour.proofs.add.add_contour.Goals.{Start}
-
-abbrev pictured : Start → Picture
-pictured s = picture s.args.levels.now s.args.nx s.args.ny s.args.v
 
 -- the buffers as they were
 abbrev first : Start → Desk
@@ -18,25 +14,25 @@ first s = desk s.args.list.now s.args.edges.now s.args.counts.now s.args.closed.
 
 pub overflow_cast-counts : goal.overflow_cast-counts
 overflow_cast-counts c =
-    let e = end_fits (pictured (goal.at.overflow_cast-counts c).Start) c.args.closes
-    (first (goal.at.overflow_cast-counts c).Start) _ _ _ _ c.requires.1.1.1 c.requires.1.0
+    let e = end_fits (pictured c.args.network c.args.v) c.args.closes
+    (first (goal.at.overflow_cast-counts c).Start) _ _ _ _ c.requires.1.1 c.requires.0
     c.trace-end.ensures in
-    omega (arith, e.0, e.1, edges_le c.args.nx c.args.ny c.requires.0.sides.narrow c.requires.0.sides.low)
+    omega (arith, e.0, e.1, edges_le c.args.network.nx c.args.network.ny c.args.network.sized.sides.narrow c.args.network.sized.sides.low)
 
 pub bounds-counts-made : goal.bounds-counts-made
 bounds-counts-made c =
-    (count_fits (pictured (goal.at.bounds-counts-made c).Start) c.args.closes
-    (first (goal.at.bounds-counts-made c).Start) _ _ _ _ c.requires.1.1.1 c.requires.1.0
+    (count_fits (pictured c.args.network c.args.v) c.args.closes
+    (first (goal.at.bounds-counts-made c).Start) _ _ _ _ c.requires.1.1 c.requires.0
     c.trace-end.ensures).0
 
 pub bounds-closed-made : goal.bounds-closed-made
 bounds-closed-made c =
-    (count_fits (pictured (goal.at.bounds-closed-made c).Start) c.args.closes
-    (first (goal.at.bounds-closed-made c).Start) _ _ _ _ c.requires.1.1.1 c.requires.1.0
+    (count_fits (pictured c.args.network c.args.v) c.args.closes
+    (first (goal.at.bounds-closed-made c).Start) _ _ _ _ c.requires.1.1 c.requires.0
     c.trace-end.ensures).1
 
 pub returns : goal.returns
 returns c =
-    rw (c.from.ensures, byte_bit c.args.closes) (grown (pictured (goal.at.returns c).Start) c.args.closes
-    (first (goal.at.returns c).Start) _ _ _ _ c.requires.1.1.1
-    c.requires.1.0 c.trace-end.ensures)
+    rw (c.from.ensures, byte_bit c.args.closes) (grown (pictured c.args.network c.args.v) c.args.closes
+    (first (goal.at.returns c).Start) _ _ _ _ c.requires.1.1
+    c.requires.0 c.trace-end.ensures)

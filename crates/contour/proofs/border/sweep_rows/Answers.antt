@@ -4,4 +4,4 @@ use Rattle.contour.proofs.border.sweep_rows.Goals as goal
 
 pub returns : goal.returns
 returns c =
-    rows_swept _ c.requires.0.sides _ _ _ c.sweep_range-south.ensures c.sweep_range.ensures
+    rows_swept _ c.args.network.sized.sides _ _ _ c.sweep_range-south.ensures c.sweep_range.ensures
