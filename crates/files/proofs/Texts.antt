@@ -2,7 +2,6 @@
 use mathlib.Core.{Path.◌≡◌, Path.sym, Path.◌∙◌, List.List, List.[]}
 use Rattle.std.specs.Prelude.{ℕ}
 use lib.{ListN.take}
-use borrow.Author.Tests.{ne_eqb}
 use Rattle.room.specs.Room.{Wrote}
 use Rattle.room.proofs.Laws.{wrote_front, wrote_fits}
 use Rattle.book_rules.specs.{Columns.Book, History.empty_book}
@@ -21,7 +20,6 @@ use Rattle.channel.specs.System.Origin.{input}
 use Rattle.report_rules.specs.Report.{book_rows, Telling, Opened}
 use Rattle.report_rules.proofs.Answers.{reading_refused, reading_reported, register_text_lem, report_refused}
 use Rattle.report_rules.proofs.Answers.{answers_accepted}
-use Rattle.files.specs.Kinds.{explain, telling_of}
 use Rattle.files.specs.InnerSteps.{Sized, AnsweredIn, WrittenIn}
 
 pub sized_refused : (tell : Telling) (l : LimitsFile) (b : Book) {s e : List ℕ} {r n size : ℕ} → (r ≡ 0 → ⊥)
@@ -75,12 +73,3 @@ limits_accepted tell limits opened {l} {e} {size} q z a =
     let b : AnsweredIn tell (limits_of limits) e size = rw q at a in
     let is = answers_accepted tell limits b.came (take size e) (rw q at z) b.is in
     record { fits = b.fits; written = record { opened = opened; came = b.came; heard = b.heard; is = is } }
-
--- the text of each program
-pub told_explained : (l : LimitsFile) (b : Book) {kind size : ℕ} {s e : List ℕ} → kind ≡ explain
-    → Wrote s 0 (explain_text l b) e size → Wrote s 0 (telling_of kind l b) e size
-told_explained l b z w = rw z w
-
-pub told_reported : (l : LimitsFile) (b : Book) {kind size : ℕ} {s e : List ℕ} → (kind ≡ explain → ⊥)
-    → Wrote s 0 (book_text l b) e size → Wrote s 0 (telling_of kind l b) e size
-told_reported l b {kind} ne w = rw (ne_eqb kind explain ne) w

@@ -2,86 +2,15 @@
 ghost use Rattle.std.specs.Prelude.{◌≡◌, ◌+◌, ◌^◌, ◌<◌, ◌≤◌, true, length, take};
 ghost use Rattle.book_rules.specs.Columns.{book_lent, sound};
 ghost use Rattle.channel.specs.System.Origin.{input};
-ghost use Rattle.stream.specs.Reading.{reading_at, Unended};
+ghost use Rattle.stream.specs.Reading.{reading_at};
 ghost use Rattle.stream.specs.Feeding.{Waiting, Turned, Done};
-ghost use Rattle.stream.specs.InnerFeeding.{Pieced, Lasted};
 ghost use Rattle.report_steps.specs.Stream.{longest_row, longest_line};
 ghost use Rattle.report_steps.specs.Reading.{register_step};
 
 use channel::input::{Arrived, read_input};
 use report_steps::inner::feeding::{take_last, take_piece};
-use stream::inner::failed;
-use stream::{ENDED, READING, STOPPED, Turn};
-
-// The lines of a piece.
-fn piece(
-    ids: &mut [u32],
-    groups: &mut [u32],
-    marks: &mut [u32],
-    counts: &mut [u32],
-    levels: &mut [u32],
-    points: usize,
-    bytes: &mut [u8],
-    len: usize,
-    line: u64,
-) -> Turn
-    requires levels_value { sound points (book_lent ids.old groups.old marks.old counts.old levels.old) ≡ true }
-    requires len_in_bounds { len ≤ length bytes.old }
-    requires len_bound { line + len < 2 ^ 64 }
-    ensures { Pieced (register_step points) longest_row
-        (reading_at 0 line (book_lent ids.old groups.old marks.old counts.old levels.old)) (take len bytes.old) result
-        (book_lent ids.new groups.new marks.new counts.new levels.new) bytes.new
-        × (sound points (book_lent ids.new groups.new marks.new counts.new levels.new) ≡ true) }
-{
-    let p = take_piece(ids, groups, marks, counts, levels, points, bytes, len, line);
-    let refusal = p.refusal;
-    if refusal != 0 {
-        return Turn {
-            at: p.at,
-            left: p.left,
-            line: p.line,
-            refusal,
-            state: STOPPED,
-        };
-    }
-    Turn {
-        at: p.at,
-        left: p.left,
-        line: p.line,
-        refusal,
-        state: READING,
-    }
-}
-
-// The end of the input.
-fn last(
-    ids: &mut [u32],
-    groups: &mut [u32],
-    marks: &mut [u32],
-    counts: &mut [u32],
-    levels: &mut [u32],
-    points: usize,
-    bytes: &[u8],
-    line: u64,
-) -> Turn
-    requires levels_value { sound points (book_lent ids.old groups.old marks.old counts.old levels.old) ≡ true }
-    requires unended { Unended bytes.now }
-    requires le_line { 1 ≤ line }
-    requires bytes_bound { line + length bytes.now < 2 ^ 64 }
-    ensures { Lasted (register_step points)
-        (reading_at 0 line (book_lent ids.old groups.old marks.old counts.old levels.old))
-        bytes.now result (book_lent ids.new groups.new marks.new counts.new levels.new)
-        × (sound points (book_lent ids.new groups.new marks.new counts.new levels.new) ≡ true) }
-{
-    let f = take_last(ids, groups, marks, counts, levels, points, bytes, line);
-    Turn {
-        at: 0,
-        left: bytes.len(),
-        line: f.line,
-        refusal: f.refusal,
-        state: ENDED,
-    }
-}
+use stream::inner::{ended, failed, turned};
+use stream::{State, Turn};
 
 // One turn: bytes are read behind those that wait, and the lines that they end are taken.
 fn read_on(
@@ -105,7 +34,7 @@ fn read_on(
         × (sound points (book_lent ids.new groups.new marks.new counts.new levels.new) ≡ true) }
 {
     match read_input(rt, taken, &mut bytes[left..]) {
-        Arrived::Bytes(n) => piece(
+        Arrived::Bytes(n) => turned(take_piece(
             ids,
             groups,
             marks,
@@ -115,16 +44,19 @@ fn read_on(
             bytes,
             left + n,
             line,
-        ),
-        Arrived::End => last(
-            ids,
-            groups,
-            marks,
-            counts,
-            levels,
-            points,
-            &bytes[..left],
-            line,
+        )),
+        Arrived::End => ended(
+            take_last(
+                ids,
+                groups,
+                marks,
+                counts,
+                levels,
+                points,
+                &bytes[..left],
+                line,
+            ),
+            left,
         ),
         Arrived::Failed => failed(line),
     }
@@ -154,11 +86,14 @@ pub(crate) fn read_register(
         let turn = read_on(
             rt, ids, groups, marks, counts, levels, points, bytes, left, line, &mut taken,
         );
-        let state = turn.state;
-        if state != READING {
-            return turn;
+        match turn.state {
+            State::Going => {
+                left = turn.left;
+                line = turn.line;
+            }
+            _ => {
+                return turn;
+            }
         }
-        left = turn.left;
-        line = turn.line;
     }
 }

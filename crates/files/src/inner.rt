@@ -5,6 +5,8 @@ ghost use Rattle.io.specs.Counts.{IsPrefixLen};
 ghost use Rattle.movement.specs.Limits.{max_points};
 ghost use Rattle.book_rules.specs.Columns.{book_lent};
 ghost use Rattle.book_rules.specs.History.{empty_book};
+ghost use Rattle.refusal.specs.Refusal.{number_of};
+ghost use Rattle.register.specs.LimitsFile.{accepted_limits};
 ghost use Rattle.report_text.specs.InnerRoom.{LimitsFit};
 ghost use Rattle.text.specs.Sheet.{refused_text};
 ghost use Rattle.text.specs.InnerWithin.{longest_refused, WroteWithin};
@@ -19,15 +21,18 @@ use crate::{feed, sentences};
 use channel::whole::{Filled, read_file};
 use explain_text::inner::put_explained;
 use movement::limits::MAX_POINTS;
-use register::limits_csv::LimitsFile;
+use refusal::Refusal;
+use register::limits_csv::{Limits, read_limits};
 use report_text::inner::{Report, put_report};
 use stream::Turn;
 use text::inner::put_refused;
 
 // Which text a program makes of the book: the report, or how each load comes about.
-pub const REPORT: u32 = 0;
-
-pub const EXPLAIN: u32 = 1;
+#[derive(Clone, Copy, PartialEq, Eq)]
+pub enum Kind {
+    Report,
+    Explain,
+}
 
 // The rows of the report's own book, and the levels of that many rows at eight points.
 const BOOK_ROWS: usize = 2000;
@@ -47,17 +52,18 @@ fn limits_text(rt: &HostRuntime, text: &mut [u8]) -> usize
 }
 
 // The text that answers limits.csv and the register, at the front of the buffer.
-fn answer(rt: &HostRuntime, kind: u32, text: &[u8], out: &mut [u8]) -> usize
+fn answer(rt: &HostRuntime, kind: Kind, text: &[u8], out: &mut [u8]) -> usize
     requires opened { Opened text.now }
     requires longest_text_in_bounds { longest_text ≤ length out.old }
     ensures { WrittenIn (telling_of kind) text.now out.new result }
 {
-    let limits = register::limits_csv::read_limits(text);
-    let refusal = limits.refusal;
-    if refusal != 0 {
-        sentences::limits(rt, limits.line as u64, refusal, text);
-        return put_refused(out, refusal, limits.line as u64);
-    }
+    let limits = match read_limits(text) {
+        Ok(limits) => limits,
+        Err(refused) => {
+            sentences::limits(rt, refused, text);
+            return put_refused(out, refused.why.number(), refused.line as u64);
+        }
+    };
     let mut ids = [0u32; BOOK_ROWS];
     let mut groups = [0u32; BOOK_ROWS];
     let mut marks = [0u32; BOOK_ROWS];
@@ -79,19 +85,19 @@ fn answer(rt: &HostRuntime, kind: u32, text: &[u8], out: &mut [u8]) -> usize
 // The report of a register, into these columns; of the last two only as many numbers as the points need.
 fn report(
     rt: &HostRuntime,
-    kind: u32,
+    kind: Kind,
     ids: &mut [u32],
     groups: &mut [u32],
     marks: &mut [u32],
     counts: &mut [u32],
     levels: &mut [u32],
-    limits: LimitsFile,
+    limits: Limits,
     out: &mut [u8],
 ) -> usize
     requires levels_value { book_lent ids.old groups.old marks.old counts.old levels.old
         ≡ empty_book max_points book_rows }
-    requires limits_fit { LimitsFit limits × (longest_text ≤ length out.old) }
-    ensures { AnsweredIn (telling_of kind) limits out.new result }
+    requires limits_fit { LimitsFit (accepted_limits limits) × (longest_text ≤ length out.old) }
+    ensures { AnsweredIn (telling_of kind) (accepted_limits limits) out.new result }
 {
     let room = BOOK_ROWS * limits.points as usize;
     report_in(
@@ -110,19 +116,19 @@ fn report(
 // The register is read into the book; then its report is written, or its refusal.
 fn report_in(
     rt: &HostRuntime,
-    kind: u32,
+    kind: Kind,
     ids: &mut [u32],
     groups: &mut [u32],
     marks: &mut [u32],
     counts: &mut [u32],
     levels: &mut [u32],
-    limits: LimitsFile,
+    limits: Limits,
     out: &mut [u8],
 ) -> usize
     requires levels_value { book_lent ids.old groups.old marks.old counts.old levels.old
         ≡ empty_book limits.points book_rows }
-    requires limits_fit { LimitsFit limits × (longest_text ≤ length out.old) }
-    ensures { AnsweredIn (telling_of kind) limits out.new result }
+    requires limits_fit { LimitsFit (accepted_limits limits) × (longest_text ≤ length out.old) }
+    ensures { AnsweredIn (telling_of kind) (accepted_limits limits) out.new result }
 {
     let points = limits.points as usize;
     let mut bytes = io::large_buffer();
@@ -135,65 +141,73 @@ fn report_in(
 // The answer to a register that was read: its refusal, or the text of its book.
 fn answer_read(
     rt: &HostRuntime,
-    kind: u32,
+    kind: Kind,
     ids: &[u32],
     groups: &[u32],
     marks: &[u32],
     counts: &[u32],
     levels: &[u32],
-    limits: LimitsFile,
+    limits: Limits,
     bytes: &[u8],
     read: Turn,
     out: &mut [u8],
 ) -> usize
-    requires { LimitsFit limits × (longest_text ≤ length out.old) }
-    ensures { Sized (telling_of kind) limits
+    requires { LimitsFit (accepted_limits limits) × (longest_text ≤ length out.old) }
+    ensures { Sized (telling_of kind) (accepted_limits limits)
         (turned_to read (book_lent ids.now groups.now marks.now counts.now levels.now))
         out.new result }
 {
-    let refusal = read.refusal;
-    if refusal != 0 {
-        return refuse(rt, bytes, read, limits, out);
+    match read.refusal {
+        Err(why) => refuse(rt, bytes, read, why, limits, out),
+        Ok(()) => {
+            let report = put_told(kind, out, ids, groups, marks, counts, levels, limits);
+            sentences::answer(rt, report.outcome, read.line, ids);
+            report.size
+        }
     }
-    let report = put_told(kind, out, ids, groups, marks, counts, levels, limits);
-    sentences::answer(rt, report.refused, read.line, ids);
-    report.size
 }
 
 // The register is refused: its one line, and the sentence that goes with it.
-fn refuse(rt: &HostRuntime, bytes: &[u8], read: Turn, limits: LimitsFile, out: &mut [u8]) -> usize
+fn refuse(
+    rt: &HostRuntime,
+    bytes: &[u8],
+    read: Turn,
+    why: Refusal,
+    limits: Limits,
+    out: &mut [u8],
+) -> usize
     requires { longest_text ≤ length out.old }
-    ensures { WroteWithin longest_refused out.old 0 (refused_text read.refusal read.line)
+    ensures { WroteWithin longest_refused out.old 0 (refused_text (number_of why) read.line)
         out.new result }
 {
-    sentences::refusal(rt, bytes, read, limits.points);
-    put_refused(out, read.refusal, read.line)
+    sentences::refusal(rt, bytes, read, why, limits.points);
+    put_refused(out, why.number(), read.line)
 }
 
 // The text of the book.
 fn put_told(
-    kind: u32,
+    kind: Kind,
     out: &mut [u8],
     ids: &[u32],
     groups: &[u32],
     marks: &[u32],
     counts: &[u32],
     levels: &[u32],
-    limits: LimitsFile,
+    limits: Limits,
 ) -> Report
-    requires { LimitsFit limits × (longest_text ≤ length out.old) }
-    ensures { Told (telling_of kind) limits (book_lent ids.now groups.now marks.now counts.now levels.now) out.old
+    requires { LimitsFit (accepted_limits limits) × (longest_text ≤ length out.old) }
+    ensures { Told (telling_of kind) (accepted_limits limits) (book_lent ids.now groups.now marks.now counts.now levels.now) out.old
         result
         out.new }
 {
-    if kind == EXPLAIN {
-        return put_explained(out, ids, groups, marks, counts, levels, limits);
+    match kind {
+        Kind::Report => put_report(out, ids, groups, marks, counts, levels, limits),
+        Kind::Explain => put_explained(out, ids, groups, marks, counts, levels, limits),
     }
-    put_report(out, ids, groups, marks, counts, levels, limits)
 }
 
 // The one write on standard output: no other text than the program's may be handed to it.
-fn write(kind: u32, limits: &[u8], sent: &mut usize, text: &[u8]) -> bool
+fn write(kind: Kind, limits: &[u8], sent: &mut usize, text: &[u8]) -> bool
     requires written { Written (telling_of kind) limits.now text.now }
     requires sent_value { sent.old ≡ 0 }
     ensures { Run (MayWrite (telling_of kind)) result sent.new }
@@ -202,7 +216,7 @@ fn write(kind: u32, limits: &[u8], sent: &mut usize, text: &[u8]) -> bool
 }
 
 // All of a program: its files are read, its text is written, and it answers whether all of it was taken.
-pub fn run(rt: &HostRuntime, kind: u32, sent: &mut usize) -> bool
+pub fn run(rt: &HostRuntime, kind: Kind, sent: &mut usize) -> bool
     requires { sent.old ≡ 0 }
     ensures { Run (MayWrite (telling_of kind)) result sent.new }
 {

@@ -1,8 +1,10 @@
 // What a program says to a person on standard error. The launcher gives the names that were typed as arguments, the
 // register's and that of limits.csv; without them a file is called by what it is.
 use channel::words::argument;
+use refusal::Refusal;
+use register::limits_csv::LimitsRefused;
 use said_report::{of_limits, of_register};
-use stream::{ENDED, FAILED, Turn};
+use stream::{State, Turn};
 
 // The places of the two names among the arguments.
 const REGISTER: usize = 1;
@@ -10,31 +12,23 @@ const REGISTER: usize = 1;
 const LIMITS: usize = 2;
 
 // limits.csv is refused.
-pub fn limits(rt: &HostRuntime, line: u64, refusal: u32, text: &[u8]) {
+pub fn limits(rt: &HostRuntime, refused: LimitsRefused, text: &[u8]) {
     let mut name = io::buffer();
-    let n = argument(rt, LIMITS, &mut name);
-    if n == 0 {
-        of_limits::refused(b"limits.csv", line, refusal, text);
-        return;
-    }
-    of_limits::refused(&name[..n], line, refusal, text);
+    let file = match argument(rt, LIMITS, &mut name) {
+        0 => b"limits.csv",
+        n => &name[..n],
+    };
+    of_limits::refused(file, refused.line as u64, refused.why.number(), text);
 }
 
-// The register is refused.
-pub fn refusal(rt: &HostRuntime, bytes: &[u8], read: Turn, points: u32) {
+// The register is refused. The line stands in the buffer where the reading says.
+pub fn refusal(rt: &HostRuntime, bytes: &[u8], read: Turn, why: Refusal, points: u32) {
     let mut name = io::buffer();
-    let n = argument(rt, REGISTER, &mut name);
-    if n == 0 {
-        refused(b"register", bytes, read, points);
-        return;
-    }
-    refused(&name[..n], bytes, read, points);
-}
-
-// The line stands in the buffer where the reading says.
-fn refused(file: &[u8], bytes: &[u8], read: Turn, points: u32) {
-    let state = read.state;
-    if state == FAILED {
+    let file = match argument(rt, REGISTER, &mut name) {
+        0 => b"register",
+        n => &name[..n],
+    };
+    if read.state == State::Failed {
         of_register::unread(file, read.line);
         return;
     }
@@ -43,28 +37,22 @@ fn refused(file: &[u8], bytes: &[u8], read: Turn, points: u32) {
         bytes,
         read.at,
         read.left,
-        state == ENDED,
+        read.state == State::Ended,
         read.line,
-        read.refusal,
+        why.number(),
         points,
     );
 }
 
 // The book of a register that was read to its end is refused, or answered; `next` is the number of the line past it.
-pub fn answer(rt: &HostRuntime, refusal: u32, next: u64, ids: &[u32]) {
+pub fn answer(rt: &HostRuntime, outcome: Result<(), Refusal>, next: u64, ids: &[u32]) {
     let mut name = io::buffer();
-    let n = argument(rt, REGISTER, &mut name);
-    if n == 0 {
-        answered(b"register", refusal, next, ids);
-        return;
+    let file = match argument(rt, REGISTER, &mut name) {
+        0 => b"register",
+        n => &name[..n],
+    };
+    match outcome {
+        Ok(()) => of_register::passed_over(file, next, ids),
+        Err(why) => of_register::of_book(file, why.number()),
     }
-    answered(&name[..n], refusal, next, ids);
-}
-
-fn answered(file: &[u8], refusal: u32, next: u64, ids: &[u32]) {
-    if refusal != 0 {
-        of_register::of_book(file, refusal);
-        return;
-    }
-    of_register::passed_over(file, next, ids);
 }

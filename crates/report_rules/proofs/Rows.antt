@@ -15,7 +15,7 @@ use Rattle.book_rules.specs.History.Held.{none, holds}
 use Rattle.book_rules.proofs.History.{Told, refusal_told, told}
 use Rattle.register.specs.Row.{Layout}
 use Rattle.register.specs.Row.{layout_of}
-use Rattle.report_steps.specs.declared.Taken.TheVariants.{Entered, PassedOver, Refused}
+use Rattle.report_steps.specs.Intake.Taken.{Entered, PassedOver, Refused}
 use Rattle.report_steps.specs.Intake.{taken_number, entering, supplying, entered_taken}
 use Rattle.report_steps.specs.{Intake.layout_taken, Intake.row_taken, Booking.layout_calls, Booking.row_calls}
 use Rattle.report_rules.specs.Flights.{flight_of, flights_in, how_many, Light, PassedExactly}

@@ -19,7 +19,7 @@ use Rattle.register.specs.Row.{Layout}
 use Rattle.register.specs.LimitsFile.{LimitsFile}
 use Rattle.register.specs.LimitsFile.{limits_of}
 use Rattle.register.specs.Row.{layout_of}
-use Rattle.report_steps.specs.declared.Taken.TheVariants.{PassedOver}
+use Rattle.report_steps.specs.Intake.Taken.{PassedOver}
 use Rattle.report_steps.specs.Intake.{row_taken}
 use Rattle.report_steps.specs.Reading.{registered}
 use Rattle.report_steps.specs.Booking.{register_calls}

@@ -1,17 +1,23 @@
 -- A row that is taken, case by case: from what the layout reads and what the two calls promise to what the row's
 -- definition says. Assumes nothing.
-use mathlib.Core.{Path.◌≡◌, Path.refl, Path.ap, Path.◌∙◌, Bool.Bool, Bool.true, Bool.false, Bool.cond}
-use Rattle.std.specs.Prelude.{ℕ, zero, suc, ◌≤◌, List, ◌∷◌}
+use mathlib.Core.{Path.◌≡◌, Path.refl, Path.sym, Path.ap, Path.◌∙◌, Bool.Bool, Bool.true, Bool.false, Bool.cond}
+use Rattle.std.specs.Prelude.{ℕ, zero, suc, ◌≤◌, List, ◌∷◌, Result, Ok, Err}
 use native.Mathlib.Omega.{arith}
 use lib.{ListN.take, ListN.replicate, Dec.eqb}
 use borrow.Author.Tests.{eq-eqb, ne_eqb}
 use Rattle.book_rules.specs.{Columns.Book, Columns.sound, Calls.Call, Calls.Called, Calls.refusal, Calls.after}
 use Rattle.book_rules.proofs.{Accepted.after_refused, Kept.after-sound}
 use Rattle.register.specs.Row.{Layout}
-use Rattle.register.specs.Row.{layout_of}
-use Rattle.report_steps.specs.declared.Taken.{Taken}
-use Rattle.report_steps.specs.declared.Taken.TheVariants.{Entered, PassedOver, Refused}
-use Rattle.report_steps.specs.Intake.{entering, supplying, entered_taken, entered_after}
+use Rattle.register.specs.Row.{layout_of, layout_told}
+use Rattle.register.proofs.Rows.{layout_off}
+use Rattle.report_steps.specs.Intake.{Taken}
+use Rattle.report_steps.specs.Intake.Taken.{Entered, PassedOver, Refused}
+use Rattle.refusal.specs.declared.Refusal.{Refusal}
+use Rattle.refusal.specs.Refusal.{number_of, told}
+use Rattle.refusal.proofs.Laws.{numbered}
+use Rattle.report_steps.specs.declared.Entry.{Entry}
+use Rattle.report_steps.specs.declared.Entry.TheVariants.{Added, Skipped}
+use Rattle.report_steps.specs.Intake.{taken_number, taken_of, entering, supplying, entered_taken, entered_after}
 use Rattle.report_steps.specs.Intake.{layout_taken, layout_after, row_taken, row_after}
 use Rattle.report_steps.specs.InnerTaken.{RowTaken, LevelsTaken}
 
@@ -28,27 +34,33 @@ pub everywhere : {p x t k s m r : ℕ} {b b' : Book} → p ≤ 8
 everywhere {p} h k = rw (take_same 1 p 8 h) at k
 
 -- *supply* of a row's levels, refused or accepted
-pub levels_refused : {p x r : ℕ} {b b' : Book} {given : List ℕ}
-    → Called p b (Call.supply x (take p given)) r b'
-    → (r ≡ 0 → ⊥)
-    → LevelsTaken p b x given (Refused r) b'
-levels_refused {p} {x} {r} {b} {b'} {given} k ne =
-    record { answer = rw (← k.answer, ne_eqb r 0 ne) refl; book = k.book }
+pub levels_refused : {p x : ℕ} {b b' : Book} {given : List ℕ} (why : Refusal)
+    → Called p b (Call.supply x (take p given)) (number_of why) b' → LevelsTaken p b x given (Refused (number_of why)) b'
+levels_refused why k =
+    let low = numbered why in
+    record { answer = rw (← k.answer, ne_eqb (number_of why) 0 (λ e. absurd (omega arith))) refl; book = k.book }
 
-pub levels_entered : {p x r : ℕ} {b b' : Book} {given : List ℕ}
-    → Called p b (Call.supply x (take p given)) r b' → r ≡ 0
-    → LevelsTaken p b x given Entered b'
-levels_entered {p} {x} {r} {b} {b'} {given} k z =
-    record { answer = rw (← k.answer, eq-eqb r 0 z) refl; book = k.book }
+pub levels_entered : {p x : ℕ} {b b' : Book} {given : List ℕ}
+    → Called p b (Call.supply x (take p given)) 0 b' → LevelsTaken p b x given Entered b'
+levels_entered k = record { answer = rw (← k.answer) refl; book = k.book }
+
+-- what a row's answer tells is what it did
+pub told_taken : (r : Result Entry Refusal) → told r ≡ taken_number (taken_of r)
+told_taken (Ok Added) = refl
+told_taken (Ok Skipped) = refl
+told_taken (Err why) = refl
 
 -- a row off its layout
-pub row_off : (line : List ℕ) {p : ℕ} {b : Book} {l : Layout} → l ≡ layout_of p line
-    → (l.refusal ≡ 0 → ⊥)
-    → RowTaken p b line (Refused 16) b
+pub row_off : (line : List ℕ) {p : ℕ} {b : Book} (why : Refusal) → layout_told (Err why) ≡ layout_of p line
+    → RowTaken p b line (Refused (number_of why)) b
 unfolding row_taken row_after
-row_off line {p} {b} {l} e ne =
-    let off = ne_eqb l.refusal 0 ne in
-    record { answer = rw (← e, off) refl; book = rw (← e, off) refl }
+row_off line {p} {b} why e =
+    let number : (layout_of p line).refusal ≡ number_of why = sym (ap (λ (l : Layout). l.refusal) e) in
+    let low = numbered why in
+    let ne : (layout_of p line).refusal ≡ 0 → ⊥ = λ z. absurd (omega arith) in
+    let off = ne_eqb (layout_of p line).refusal 0 ne in
+    let sixteen : number_of why ≡ 16 = sym number ∙ layout_off p line ne in
+    record { answer = rw (off, sixteen) refl; book = rw off refl }
 
 module _ (line : List ℕ) {p r : ℕ} {b b₁ : Book} {l : Layout} (e : l ≡ layout_of p line) (z : l.refusal ≡ 0)
     (k : Called p b (entering p l) r b₁) where

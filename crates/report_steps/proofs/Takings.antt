@@ -3,11 +3,11 @@
 use mathlib.Core.{Path.◌≡◌, Path.refl, Path.ap, Path.◌∙◌, Bool.true, List.List}
 use Rattle.std.specs.Prelude.{ℕ, eqb}
 use borrow.Author.Tests.{eq-eqb, ne_eqb}
-use Rattle.std.specs.Prelude.{Option, Some, None}
+use Rattle.std.specs.Prelude.{Option, Some}
 use Rattle.text.proofs.Digits.{either}
 use Rattle.book_rules.specs.Columns.{Book, sound}
 use Rattle.stream.specs.InnerTaken.{LineTaken}
-use Rattle.report_steps.specs.declared.Taken.{Taken}
+use Rattle.report_steps.specs.Intake.{Taken}
 use Rattle.report_steps.specs.Intake.{taken_number}
 use Rattle.report_steps.specs.Reading.{points_refusal, header_points, line_refusal, line_after, register_step}
 use Rattle.report_steps.specs.InnerTaken.{RowTaken}
@@ -28,12 +28,8 @@ taken_sound p {n} {r} {b} {b'} {line} s k = ap (sound p) k.held ∙ line-sound p
 pub header_fits : {p n : ℕ} {x y : Option ℕ} → x ≡ y → x ≡ Some n → n ≡ p → 0 ≡ points_refusal p y
 header_fits {p} {n} {x} {y} e g q = rw (← e, g, eq-eqb n p q) refl
 
-pub header_other : {p n : ℕ} {x y : Option ℕ} → x ≡ y → x ≡ Some n → (n ≡ p → ⊥)
-    → 16 ≡ points_refusal p y
+pub header_other : {p n : ℕ} {x y : Option ℕ} → x ≡ y → x ≡ Some n → (n ≡ p → ⊥) → 16 ≡ points_refusal p y
 header_other {p} {n} {x} {y} e g q = rw (← e, g, ne_eqb n p q) refl
-
-pub header_off_lem : (p : ℕ) {x y : Option ℕ} → x ≡ y → x ≡ None → 16 ≡ points_refusal p y
-header_off_lem p {x} {y} e g = rw (← e, g) refl
 
 -- a line is the header or a row
 pub header_taken : (p n r : ℕ) (b : Book) (line : List ℕ) → n ≡ 1 → r ≡ points_refusal p (header_points line)

@@ -2,8 +2,7 @@
 use Rattle.std.specs.Prelude.{◌≡◌, ℕ, List, take}
 use Rattle.book_rules.specs.Columns.{Book}
 use Rattle.book_rules.specs.Calls.{Call, refusal, after}
-use Rattle.report_steps.specs.declared.Taken.{Taken}
-use Rattle.report_steps.specs.Intake.{supplied_taken, row_taken, row_after}
+use Rattle.report_steps.specs.Intake.{Taken, supplied_taken, row_taken, row_after}
 
 -- a row: what is answered, and the book at the end
 pub record RowTaken (p : ℕ) (b : Book) (line : List ℕ) (r : Taken) (b' : Book) : Type 0 where

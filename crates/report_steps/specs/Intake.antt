@@ -1,18 +1,32 @@
 -- A register's row into a book: RULES, "Files and the report program".
 -- Assumes nothing.
-use Rattle.std.specs.Prelude.{ℕ, cond, List, take, replicate, ◌==◌}
+use Rattle.std.specs.Prelude.{ℕ, cond, List, take, replicate, ◌==◌, Result, Ok, Err}
 use Rattle.book_rules.specs.Columns.{Book}
 use Rattle.book_rules.specs.Calls.{Call, refusal, after}
 use Rattle.register.specs.Row.{Layout}
 use Rattle.register.specs.Row.{layout_of}
-use Rattle.report_steps.specs.declared.Taken.{Taken}
-use Rattle.report_steps.specs.declared.Taken.TheVariants.{Entered, PassedOver, Refused}
+use Rattle.refusal.specs.declared.Refusal.{Refusal}
+use Rattle.refusal.specs.Refusal.{number_of}
+use Rattle.report_steps.specs.declared.Entry.{Entry}
+use Rattle.report_steps.specs.declared.Entry.TheVariants.{Added, Skipped}
+
+-- what a register's row did to the book: it was entered, passed over, or refused by a number
+pub data Taken : Type 0 where
+  Entered : Taken
+  PassedOver : Taken
+  Refused : (number : ℕ) → Taken
 
 -- the rules' number of what was done: a refusal's, 0 for none
 abbrev pub taken_number : Taken → ℕ
 taken_number Entered = 0
 taken_number PassedOver = 0
 taken_number (Refused n) = n
+
+-- what a row did, by its answer
+abbrev pub taken_of : Result Entry Refusal → Taken
+taken_of (Ok Added) = Entered
+taken_of (Ok Skipped) = PassedOver
+taken_of (Err why) = Refused (number_of why)
 
 -- the two calls that a row asks for; it counts at every one of p points
 abbrev pub entering : ℕ → Layout → Call

@@ -5,10 +5,13 @@ ghost use Rattle.std.specs.Prelude.{◌≡◌, ◌≤◌, true, replicate};
 ghost use Rattle.book_rules.specs.Columns.{book_lent, sound};
 ghost use Rattle.book_rules.specs.Calls.{Call, Called};
 ghost use Rattle.movement.specs.Limits.{max_points};
+ghost use Rattle.refusal.specs.Refusal.{told};
+ghost use Rattle.report_steps.specs.Intake.{taken_of};
 ghost use Rattle.report_steps.specs.InnerTaken.{RowTaken, LevelsTaken};
 
-use crate::Taken;
+use crate::Entry;
 use movement::limits::MAX_POINTS;
+use refusal::Refusal;
 use register::row::{Fields, read_layout};
 
 // A row of a register into the book: 16, then *enter*, then *supply* where its levels are not blank.
@@ -20,29 +23,27 @@ pub fn take_row(
     levels: &mut [u32],
     points: usize,
     line: &[u8],
-) -> Taken
+) -> Result<Entry, Refusal>
     requires { sound points (book_lent ids.old groups.old marks.old counts.old levels.old) ≡ true }
-    ensures { RowTaken points (book_lent ids.old groups.old marks.old counts.old levels.old) line.now result
+    ensures { RowTaken points (book_lent ids.old groups.old marks.old counts.old levels.old) line.now (taken_of result)
         (book_lent ids.new groups.new marks.new counts.new levels.new) }
 {
-    let layout = read_layout(line, points as u32);
-    if layout.refusal != 0 {
-        return Taken::Refused(16);
-    }
-    let f = layout.fields;
-    let given = layout.levels;
-    let entered = enter_row(ids, groups, marks, counts, levels, points, f);
-    if entered == 2 {
-        return Taken::PassedOver;
-    }
-    if entered != 0 {
-        return Taken::Refused(entered);
+    let row = read_layout(line, points as u32)?;
+    let f = row.fields;
+    match enter_row(ids, groups, marks, counts, levels, points, f) {
+        Ok(()) => {}
+        Err(why) => {
+            return match why {
+                Refusal::TooLight => Ok(Entry::Skipped),
+                _ => Err(why),
+            };
+        }
     }
     if f.computed == 0 {
-        return Taken::Entered;
+        return Ok(Entry::Added);
     }
     take_levels(
-        ids, groups, marks, counts, levels, points, f.identity, given,
+        ids, groups, marks, counts, levels, points, f.identity, row.levels,
     )
 }
 
@@ -55,11 +56,11 @@ fn enter_row(
     levels: &mut [u32],
     points: usize,
     f: Fields,
-) -> u32
+) -> Result<(), Refusal>
     requires levels_value { sound points (book_lent ids.old groups.old marks.old counts.old levels.old) ≡ true }
     requires points_le_max_points { points ≤ max_points }
     ensures { Called points (book_lent ids.old groups.old marks.old counts.old levels.old)
-        (Call.enter f.identity f.ty f.kind f.time f.mass (replicate points 1)) result
+        (Call.enter f.identity f.ty f.kind f.time f.mass (replicate points 1)) (told result)
         (book_lent ids.new groups.new marks.new counts.new levels.new) }
 {
     let everywhere = [1u32; MAX_POINTS];
@@ -89,13 +90,14 @@ fn take_levels(
     points: usize,
     identity: u32,
     given: [u32; MAX_POINTS],
-) -> Taken
+) -> Result<Entry, Refusal>
     requires levels_value { sound points (book_lent ids.now groups.now marks.old counts.now levels.old) ≡ true }
     requires points_le_max_points { points ≤ max_points }
-    ensures { LevelsTaken points (book_lent ids.now groups.now marks.old counts.now levels.old) identity given result
+    ensures { LevelsTaken points (book_lent ids.now groups.now marks.old counts.now levels.old) identity given
+        (taken_of result)
         (book_lent ids.now groups.now marks.new counts.now levels.new) }
 {
-    let refused = book::inner::supply(
+    book::inner::supply(
         ids,
         groups,
         marks,
@@ -104,9 +106,6 @@ fn take_levels(
         points,
         identity,
         &given[..points],
-    );
-    if refused != 0 {
-        return Taken::Refused(refused);
-    }
-    Taken::Entered
+    )?;
+    Ok(Entry::Added)
 }

@@ -2,28 +2,11 @@
 // lines as they come, and a row into the book.
 #![tactic(auto)]
 
-ghost use Rattle.std.specs.Prelude.{◌≡◌};
-ghost use Rattle.report_steps.specs.Intake.{taken_number};
-
 pub mod inner;
 
-// What a register's row did to the book.
-#[derive(Clone, Copy)]
-pub enum Taken {
-    Entered,
-    PassedOver,
-    Refused(u32),
-}
-
-impl Taken {
-    // The refusal of the row, 0 where there is none.
-    pub fn number(self) -> u32
-        ensures { result ≡ taken_number self }
-    {
-        match self {
-            Taken::Entered => 0,
-            Taken::PassedOver => 0,
-            Taken::Refused(n) => n,
-        }
-    }
+// What a row of a register that is not refused did to the book: it was entered, or is too light and was passed over.
+#[derive(Clone, Copy, PartialEq, Eq)]
+pub enum Entry {
+    Added,
+    Skipped,
 }

@@ -4,10 +4,12 @@ ghost use Rattle.std.specs.Prelude.{◌≡◌, ◌+◌, ◌^◌, ◌<◌, ◌≤
 ghost use Rattle.book_rules.specs.Columns.{book_lent, sound};
 ghost use Rattle.stream.specs.Reading.{reading_at, Unended};
 ghost use Rattle.stream.specs.InnerTaken.{LineTaken, LinesTaken, LastTaken, PieceTaken};
+ghost use Rattle.refusal.specs.Refusal.{told};
 ghost use Rattle.report_steps.specs.Stream.{longest_row};
 ghost use Rattle.report_steps.specs.Reading.{points_refusal, header_points, register_step};
 
 use crate::inner::take_row;
+use refusal::Refusal;
 use register::header::register_points;
 use stream::inner::to_front;
 use stream::{Feed, Piece};
@@ -19,21 +21,16 @@ pub const LONGEST_ROW: usize = 84;
 const LONGEST_LINE: usize = LONGEST_ROW + 2;
 
 // The refusal of a first line: it is the header of a register with as many levels as there are points.
-fn header_refusal(line: &[u8], points: usize) -> u32
-    ensures { result ≡ points_refusal points (header_points line.now) }
+fn header_refusal(line: &[u8], points: usize) -> Result<(), Refusal>
+    ensures { told result ≡ points_refusal points (header_points line.now) }
 {
     match register_points(line) {
-        Some(n) => {
-            if n as usize == points {
-                return 0;
-            }
-            16
-        }
-        None => 16,
+        Some(n) if n as usize == points => Ok(()),
+        _ => Err(Refusal::OffLayout),
     }
 }
 
-// Takes line `number`, the header first and then rows, and answers its refusal.
+// Takes line `number`, the header first and then rows, or refuses it.
 pub fn take_line(
     ids: &mut [u32],
     groups: &mut [u32],
@@ -43,15 +40,16 @@ pub fn take_line(
     points: usize,
     line: &[u8],
     number: u64,
-) -> u32
+) -> Result<(), Refusal>
     requires { sound points (book_lent ids.old groups.old marks.old counts.old levels.old) ≡ true }
     ensures { LineTaken (register_step points) number (book_lent ids.old groups.old marks.old counts.old levels.old)
-        line.now result (book_lent ids.new groups.new marks.new counts.new levels.new) }
+        line.now (told result) (book_lent ids.new groups.new marks.new counts.new levels.new) }
 {
     if number == 1 {
         return header_refusal(line, points);
     }
-    take_row(ids, groups, marks, counts, levels, points, line).number()
+    take_row(ids, groups, marks, counts, levels, points, line)?;
+    Ok(())
 }
 
 // Takes every line that the bytes end, up to the first that is refused.
@@ -70,14 +68,14 @@ pub fn take_lines(
     ensures { LinesTaken (register_step points)
         (reading_at 0 line (book_lent ids.old groups.old marks.old counts.old levels.old))
         bytes.now result.at
-        (reading_at result.refusal result.line (book_lent ids.new groups.new marks.new counts.new levels.new))
+        (reading_at (told result.refusal) result.line (book_lent ids.new groups.new marks.new counts.new levels.new))
         × (sound points (book_lent ids.new groups.new marks.new counts.new levels.new) ≡ true) }
 {
     let mut at = 0;
     let mut number = line;
     let mut end = line_end(bytes, 0);
     while 2 <= bytes.len() - end {
-        let refusal = take_line(
+        let outcome = take_line(
             ids,
             groups,
             marks,
@@ -87,11 +85,11 @@ pub fn take_lines(
             &bytes[at..end],
             number,
         );
-        if refusal != 0 {
+        if outcome.is_err() {
             return Feed {
                 at,
                 line: number,
-                refusal,
+                refusal: outcome,
             };
         }
         at = end + 2;
@@ -101,7 +99,7 @@ pub fn take_lines(
     Feed {
         at,
         line: number,
-        refusal: 0,
+        refusal: Ok(()),
     }
 }
 
@@ -122,35 +120,34 @@ pub fn take_last(
     requires bytes_bound { line + length bytes.now < 2 ^ 64 }
     ensures { LastTaken (register_step points)
         (reading_at 0 line (book_lent ids.old groups.old marks.old counts.old levels.old))
-        bytes.now (reading_at result.refusal result.line (book_lent ids.new groups.new marks.new counts.new levels.new))
+        bytes.now (reading_at (told result.refusal) result.line (book_lent ids.new groups.new marks.new counts.new levels.new))
         × (sound points (book_lent ids.new groups.new marks.new counts.new levels.new) ≡ true) }
 {
-    if bytes.len() == 0 {
+    if bytes.is_empty() {
         if line == 1 {
             return Feed {
                 at: 0,
                 line,
-                refusal: 16,
+                refusal: Err(Refusal::OffLayout),
             };
         }
         return Feed {
             at: 0,
             line,
-            refusal: 0,
+            refusal: Ok(()),
         };
     }
-    let refusal = take_line(ids, groups, marks, counts, levels, points, bytes, line);
-    if refusal != 0 {
-        return Feed {
+    match take_line(ids, groups, marks, counts, levels, points, bytes, line) {
+        Ok(()) => Feed {
+            at: bytes.len(),
+            line: line + 1,
+            refusal: Ok(()),
+        },
+        Err(why) => Feed {
             at: 0,
             line,
-            refusal,
-        };
-    }
-    Feed {
-        at: bytes.len(),
-        line: line + 1,
-        refusal: 0,
+            refusal: Err(why),
+        },
     }
 }
 
@@ -171,7 +168,7 @@ pub fn take_piece(
     requires len_bound { line + len < 2 ^ 64 }
     ensures { PieceTaken (register_step points) longest_row
         (reading_at 0 line (book_lent ids.old groups.old marks.old counts.old levels.old)) (take len bytes.old)
-        (reading_at result.refusal result.line (book_lent ids.new groups.new marks.new counts.new levels.new))
+        (reading_at (told result.refusal) result.line (book_lent ids.new groups.new marks.new counts.new levels.new))
         (take result.left bytes.new)
         × (sound points (book_lent ids.new groups.new marks.new counts.new levels.new) ≡ true) }
 {
@@ -186,13 +183,14 @@ pub fn take_piece(
         line,
     );
     let at = feed.at;
-    let left = len - at;
+    let line = feed.line;
     let refusal = feed.refusal;
-    if refusal != 0 {
+    let left = len - at;
+    if refusal.is_err() {
         return Piece {
             at,
             left,
-            line: feed.line,
+            line,
             refusal,
         };
     }
@@ -200,15 +198,15 @@ pub fn take_piece(
         return Piece {
             at,
             left,
-            line: feed.line,
-            refusal: 16,
+            line,
+            refusal: Err(Refusal::OffLayout),
         };
     }
     to_front(bytes, at, left);
     Piece {
         at: 0,
         left,
-        line: feed.line,
+        line,
         refusal,
     }
 }

@@ -8,7 +8,7 @@ use borrow.Rule.Slice.PartMut.{put_mid, take_put}
 use Rattle.channel.specs.declared.input.Arrived.TheVariants.{Bytes, End, Failed}
 use Rattle.channel.proofs.Behind.{front_behind, behind_fits, gave_as}
 use Rattle.stream.specs.Feeding.{Waiting}
-use Rattle.stream.proofs.Turns.{turn_failed, turn_piece, turn_last}
+use Rattle.stream.proofs.Turns.{pieced, lasted, turn_failed, turn_piece, turn_last}
 use borrow.Author.Rules.{rules}
 use Rattle.files.proofs.feed.read_on.Goals as goal
 use Rattle.files.proofs.feed.read_on.Goals.{After-read_input}
@@ -50,28 +50,28 @@ overflow_add-left c =
     let gave = gave_as c.read_input.ensures (Bytes c.in-Bytes.n) c.in-Bytes.is in
     record { fits = omega (arith, counted (goal.at.overflow_add-left c).After-read_input c.in-Bytes.n c.in-Bytes.is, gave.3) }
 
-pub piece-requires : goal.piece-requires
-piece-requires c =
+pub take_piece-requires : goal.take_piece-requires
+take_piece-requires c =
     let n = c.in-Bytes.n in
     let e = c.in-Bytes.is in
     let gave = gave_as c.read_input.ensures (Bytes n) e in
     record {
       levels_value = c.requires.levels_value;
-      len_in_bounds = within (goal.at.piece-requires c).After-read_input n e;
-      len_bound = omega (arith, counted (goal.at.piece-requires c).After-read_input n e, gave.3);
+      len_in_bounds = within (goal.at.take_piece-requires c).After-read_input n e;
+      len_bound = omega (arith, counted (goal.at.take_piece-requires c).After-read_input n e, gave.3);
     }
 
-pub slice_bounds-last-end-in-End : goal.slice_bounds-last-end-in-End
-slice_bounds-last-end-in-End c =
+pub slice_bounds-take_last-end-in-End : goal.slice_bounds-take_last-end-in-End
+slice_bounds-take_last-end-in-End c =
     let fits = behind_fits c.args.left (length c.args.bytes.now - c.args.left) 0 c.args.bytes.now
     c.read_input.new.room (inside c.requires.waiting) (omega arith) in
     sym (length-take-le _ _ (omega (arith, fits)))
 
-pub last-requires : goal.last-requires
-last-requires c =
+pub take_last-requires : goal.take_last-requires
+take_last-requires c =
     let k = c.requires.waiting in
     let size = length-take-le c.args.left c.args.bytes.now (inside c.requires.waiting) in
-    let same = front (goal.at.last-requires c).After-read_input in
+    let same = front (goal.at.take_last-requires c).After-read_input in
     record {
       levels_value = c.requires.levels_value;
       unended = rw same k.unended;
@@ -85,9 +85,9 @@ returns-in-Bytes c =
     let n = c.in-Bytes.n in
     let e = c.in-Bytes.is in
     let gave = gave_as c.read_input.ensures (Bytes n) e in
-    let long : length c.piece.new.bytes ≡ length a.bytes.now = search rules in
-    let k = c.piece.ensures in (
-      turn_piece (take a.left a.bytes.now) (take n c.read_input.new.room) k.0
+    let long : length c.take_piece.new.bytes ≡ length a.bytes.now = search rules in
+    let k = c.take_piece.ensures in (
+      turn_piece (take a.left a.bytes.now) (take n c.read_input.new.room) (pieced c.take_piece.result c.turned.ensures k.0)
           (front_behind a.left (length a.bytes.now - a.left) n a.bytes.now c.read_input.new.room
           (inside c.requires.waiting) gave.1)
           c.requires.waiting.first (omega (arith, c.requires.waiting.room, long))
@@ -98,8 +98,8 @@ returns-in-Bytes c =
 
 pub returns-in-End : goal.returns-in-End
 returns-in-End c =
-    let k = c.last.ensures in
-    (turn_last k.0 (front (goal.at.returns-in-End c).After-read_input) (gave_as c.read_input.ensures End c.in-End.is).1, k.1)
+    let k = c.take_last.ensures in
+    (turn_last (lasted c.take_last.result c.ended.ensures k.0) (front (goal.at.returns-in-End c).After-read_input) (gave_as c.read_input.ensures End c.in-End.is).1, k.1)
 
 pub returns-in-Failed : goal.returns-in-Failed
 returns-in-Failed c =

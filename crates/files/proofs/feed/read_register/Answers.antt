@@ -12,19 +12,19 @@ loop-turn-init c =
     let b = book_of a.ids.now a.groups.now a.marks.now a.counts.now a.levels.now in
     (come_none b a.bytes.now c.requires.longest_line_in_bounds, c.requires.levels_value, refl, refl, refl, refl, refl, refl)
 
-pub returns-then-state-ne-READING : goal.returns-then-state-ne-READING
-returns-then-state-ne-READING c =
-    come_done c.loop-turn.invariant.0 c.read_on-turn.ensures.0 (longest_register c.args.points) c.if-state-ne-READING.true
+pub returns-in_default : goal.returns-in_default
+returns-in_default c =
+    come_done c.loop-turn.invariant.0 c.read_on-turn.ensures.0 (longest_register c.args.points) c.in_default.not-Going
 
 pub loop-turn-smaller : goal.loop-turn-smaller
 loop-turn-smaller c =
     let d = c.read_on-turn.ensures.0 in
-    omega (arith, d.grows c.if-state-ne-READING.false, (d.waits c.if-state-ne-READING.false).counts)
+    omega (arith, d.grows c.in-Going.is, (d.waits c.in-Going.is).counts)
 
 pub loop-turn-preserved : goal.loop-turn-preserved
 loop-turn-preserved c =
     let d = c.read_on-turn.ensures in
-    let next = come_next c.loop-turn.invariant.0 d.0 c.if-state-ne-READING.false in
+    let next = come_next c.loop-turn.invariant.0 d.0 c.in-Going.is in
     (next, d.1, search rules, search rules, search rules, search rules, search rules, search rules)
 
 pub read_on-turn-requires : goal.read_on-turn-requires

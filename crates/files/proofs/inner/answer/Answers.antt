@@ -1,29 +1,33 @@
 -- `files::inner::answer` meets its contract: limits.csv is refused, or the register is answered. Assumes nothing.
-use mathlib.Core.Path.{refl}
+use Rattle.std.proofs.Common.{◌≡◌, refl, sym, ap, subst, arith}
+use Rattle.refusal.proofs.Laws.{numbered}
 use Rattle.book_rules.specs.History.{empty_book}
+use Rattle.register.specs.LimitsFile.{LimitsFile}
+use Rattle.report_text.specs.InnerRoom.{LimitsFit}
 use Rattle.report_rules.proofs.LimitsFits.{limits_fit_lem}
 use Rattle.files.proofs.Texts.{limits_refused, limits_accepted}
 use Rattle.files.specs.Kinds.{telling_of}
 use Rattle.files.proofs.inner.answer.Goals as goal
 
-pub returns-then-refusal-ne0 : goal.returns-then-refusal-ne0
-returns-then-refusal-ne0 c =
-    limits_refused (telling_of c.args.kind) c.args.text.now c.requires.opened c.read_limits-limits.ensures
-    c.if-refusal-ne0.true c.put_refused.ensures
+pub returns-in-Err : goal.returns-in-Err
+returns-in-Err c =
+    let low = numbered c.in-Err.refused.why in
+    limits_refused (telling_of c.args.kind) c.args.text.now c.requires.opened (rw c.in-Err.is at c.read_limits.ensures)
+    (λ e. absurd (omega arith)) c.put_refused.ensures
 
 pub report-requires : goal.report-requires
 unfolding empty_book
 report-requires c =
-    let q = c.read_limits-limits.ensures in
+    let q = rw c.in-Ok.is at c.read_limits.ensures in
     record {
       levels_value = refl;
       limits_fit = (
-        rw q (limits_fit_lem c.args.text.now (rw q at c.if-refusal-ne0.false)),
+        subst LimitsFit (sym q) (limits_fit_lem c.args.text.now (sym (ap (λ (l : LimitsFile). l.refusal) q))),
         c.requires.longest_text_in_bounds,
       );
     }
 
 pub returns : goal.returns
 returns c =
-    limits_accepted (telling_of c.args.kind) c.args.text.now c.requires.opened c.read_limits-limits.ensures
-    c.if-refusal-ne0.false c.report.ensures
+    limits_accepted (telling_of c.args.kind) c.args.text.now c.requires.opened (rw c.in-Ok.is at c.read_limits.ensures)
+    refl c.report.ensures

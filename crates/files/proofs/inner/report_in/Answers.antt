@@ -2,6 +2,7 @@
 -- reading. Assumes nothing.
 use native.Mathlib.Omega.{arith}
 use Rattle.report_rules.proofs.Answers.{empty_sound}
+use Rattle.register.specs.LimitsFile.{accepted_limits}
 use Rattle.files.proofs.Texts.{answered}
 use Rattle.files.specs.Kinds.{telling_of}
 use Rattle.files.proofs.inner.report_in.Goals as goal
@@ -19,5 +20,5 @@ answer_read-requires c = c.requires.limits_fit
 
 pub returns : goal.returns
 returns c =
-    answered (telling_of c.args.kind) c.args.limits c.read_register-read.ensures c.requires.levels_value
+    answered (telling_of c.args.kind) (accepted_limits c.args.limits) c.read_register-read.ensures c.requires.levels_value
     c.answer_read.ensures

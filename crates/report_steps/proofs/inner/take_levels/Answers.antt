@@ -1,17 +1,16 @@
 -- `report_steps::inner::take_levels` meets its contract: *supply* with the row's levels. Assumes nothing.
-use mathlib.Core.Path.{sym}
-use native.Mathlib.Omega.{arith}
-use lib.Seq.{length-take-le}
+use Rattle.std.proofs.Common.{arith}
+use Rattle.std.proofs.lemmas.Result.{err_from_is_err_and}
 use Rattle.report_steps.proofs.Intakes.{levels_refused, levels_entered}
 use Rattle.report_steps.proofs.inner.take_levels.Goals as goal
 
-pub returns-then-refused-ne0 : goal.returns-then-refused-ne0
-returns-then-refused-ne0 c =
-    levels_refused c.supply-refused.ensures c.if-refused-ne0.true
+pub returns-in_err-supply : goal.returns-in_err-supply
+returns-in_err-supply c =
+    let p = err_from_is_err_and c.from_residual.result c.from_residual.ensures.1 in
+    rw (p.1, p.2) (levels_refused _ (rw c.in_err-supply.was at c.supply.ensures))
 
 pub returns : goal.returns
-returns c =
-    levels_entered c.supply-refused.ensures c.if-refused-ne0.false
+returns c = levels_entered (rw c.in_ok-supply.was at c.supply.ensures)
 
-pub slice_bounds-supply-end : goal.slice_bounds-supply-end
-slice_bounds-supply-end c = sym (length-take-le _ _ (omega arith))
+pub slice_bounds-given-end : goal.slice_bounds-given-end
+slice_bounds-given-end c = omega arith

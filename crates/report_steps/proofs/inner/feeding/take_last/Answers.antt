@@ -1,4 +1,7 @@
 -- `report_steps::inner::feeding::take_last` meets its contract: the last line, or none. Assumes nothing.
+use borrow.Author.Tests.{eqb-true, eqb-false}
+use Rattle.refusal.proofs.Laws.{settled, numbered}
+use Rattle.std.proofs.Common.{refl, arith}
 use Rattle.book_rules.specs.Columns.{Book, book_of}
 use Rattle.stream.proofs.Takings.{last_headless, last_empty, last_refused, last_taken}
 use Rattle.report_steps.proofs.Takings.{taken_sound}
@@ -11,28 +14,31 @@ book s =
 
 pub returns-then-line-eq1 : goal.returns-then-line-eq1
 returns-then-line-eq1 c = (
-  last_headless c.args.line (book (goal.at.returns-then-line-eq1 c).Start) c.args.bytes.now c.if-bytes-eq0.true
-      c.if-line-eq1.true,
+  last_headless c.args.line (book (goal.at.returns-then-line-eq1 c).Start) c.args.bytes.now
+      (eqb-true _ _ (settled c.is_empty.ensures c.if-is_empty.true)) c.if-line-eq1.true,
   c.requires.levels_value,
 )
 
-pub returns-then-bytes-eq0 : goal.returns-then-bytes-eq0
-returns-then-bytes-eq0 c = (
-  last_empty c.args.line (book (goal.at.returns-then-bytes-eq0 c).Start) c.args.bytes.now c.if-bytes-eq0.true
-      c.if-line-eq1.false,
+pub returns-then-is_empty : goal.returns-then-is_empty
+returns-then-is_empty c = (
+  last_empty c.args.line (book (goal.at.returns-then-is_empty c).Start) c.args.bytes.now
+      (eqb-true _ _ (settled c.is_empty.ensures c.if-is_empty.true)) c.if-line-eq1.false,
   c.requires.levels_value,
 )
 
-pub returns-then-refusal-ne0 : goal.returns-then-refusal-ne0
-returns-then-refusal-ne0 c =
-    let k = c.take_line-refusal.ensures in (
-      last_refused k c.requires.unended c.if-bytes-eq0.false c.if-refusal-ne0.true,
+pub returns-in-Err : goal.returns-in-Err
+returns-in-Err c =
+    let k = rw c.in-Err.is at c.take_line.ensures in
+    let low = numbered c.in-Err.why in (
+      last_refused k c.requires.unended (eqb-false _ _ (settled c.is_empty.ensures c.if-is_empty.false))
+          (λ e. absurd (omega arith)),
       taken_sound _ c.requires.levels_value k,
     )
 
-pub returns : goal.returns
-returns c =
-    let k = c.take_line-refusal.ensures in (
-      last_taken k c.requires.unended c.if-bytes-eq0.false c.requires.le_line c.if-refusal-ne0.false,
+pub returns-in-Ok : goal.returns-in-Ok
+returns-in-Ok c =
+    let k = rw c.in-Ok.is at c.take_line.ensures in (
+      last_taken k c.requires.unended (eqb-false _ _ (settled c.is_empty.ensures c.if-is_empty.false)) c.requires.le_line
+          refl,
       taken_sound _ c.requires.levels_value k,
     )

@@ -4,6 +4,8 @@ use native.Mathlib.Omega.{arith}
 use borrow.Author.Rules.{rules}
 use Rattle.book_rules.specs.Columns.{book_of}
 use Rattle.stream.proofs.Takings.{taking_inside, taking_none, taking_next, taking_refused, taking_done}
+use Rattle.refusal.proofs.Laws.{settled}
+use Rattle.stream.proofs.Told.{err_some, fine_none}
 use Rattle.report_steps.proofs.Takings.{taken_sound}
 use Rattle.report_steps.proofs.inner.feeding.take_lines.Goals as goal
 use Rattle.report_steps.proofs.inner.feeding.take_lines.Goals.{At-loop-end}
@@ -23,11 +25,12 @@ loop-end-init c =
 pub slice_bounds-take_line-start : goal.slice_bounds-take_line-start
 slice_bounds-take_line-start c = (inside (goal.at.slice_bounds-take_line-start c).At-loop-end).0
 
-pub returns-then-refusal-ne0 : goal.returns-then-refusal-ne0
-returns-then-refusal-ne0 c =
-    let l = c.loop-end.invariant in (
-      taking_refused l.0 (omega arith) c.take_line-refusal.ensures c.if-refusal-ne0.true,
-      taken_sound _ l.1 c.take_line-refusal.ensures,
+pub returns-then-is_err : goal.returns-then-is_err
+returns-then-is_err c =
+    let l = c.loop-end.invariant in
+    let off = err_some c.take_line-outcome.result (settled c.is_err.ensures.value c.if-is_err.true) in (
+      taking_refused l.0 (omega arith) c.take_line-outcome.ensures off,
+      taken_sound _ l.1 c.take_line-outcome.ensures,
     )
 
 pub overflow_add-number : goal.overflow_add-number
@@ -53,10 +56,11 @@ pub loop-end-preserved : goal.loop-end-preserved
 loop-end-preserved c =
     let l = c.loop-end.invariant in
     let one =
-    taking_next l.0 (omega arith) c.take_line-refusal.ensures c.line_end-end-in-loop-end.result c.if-refusal-ne0.false
+    taking_next l.0 (omega arith) c.take_line-outcome.ensures c.line_end-end-in-loop-end.result
+    (fine_none c.take_line-outcome.result (settled c.is_err.ensures.value c.if-is_err.false))
     c.line_end-end-in-loop-end.ensures in (
       one,
-      taken_sound _ l.1 c.take_line-refusal.ensures,
+      taken_sound _ l.1 c.take_line-outcome.ensures,
       search rules,
       search rules,
       search rules,
@@ -73,8 +77,8 @@ overflow_sub-bytes c = (inside c).1
 pub slice_bounds-take_line-end : goal.slice_bounds-take_line-end
 slice_bounds-take_line-end c = (inside (goal.at.slice_bounds-take_line-end c).At-loop-end).1
 
-pub take_line-refusal-requires : goal.take_line-refusal-requires
-take_line-refusal-requires c = c.loop-end.invariant.1
+pub take_line-outcome-requires : goal.take_line-outcome-requires
+take_line-outcome-requires c = c.loop-end.invariant.1
 
 pub overflow_add-at : goal.overflow_add-at
 overflow_add-at c = omega (arith, (inside (goal.at.overflow_add-at c).At-loop-end).1)

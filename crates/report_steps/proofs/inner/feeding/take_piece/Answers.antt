@@ -5,6 +5,8 @@ use mathlib.Core.Path.{refl, sym, ◌∙◌}
 use native.Mathlib.Omega.{arith}
 use lib.{ListN.length, ListN.take, ListN.drop, ListN.length-drop, Seq.length-take-le}
 use Rattle.stream.proofs.Pieces.{piece_refused, piece_long, piece_left, waiting}
+use Rattle.refusal.proofs.Laws.{settled}
+use Rattle.stream.proofs.Told.{err_some, fine_none}
 use Rattle.report_steps.specs.Stream.{longest_row}
 use Rattle.report_steps.proofs.LongLines.{longest_register}
 use Rattle.report_steps.proofs.inner.feeding.take_piece.Goals as goal
@@ -32,16 +34,16 @@ take_lines-feed-requires c = record {
   bytes_bound = rw (whole c.args.len c.args.bytes.now c.requires.len_in_bounds) c.requires.len_bound;
 }
 
-pub returns-then-refusal-ne0 : goal.returns-then-refusal-ne0
-returns-then-refusal-ne0 c =
+pub returns-then-is_err : goal.returns-then-is_err
+returns-then-is_err c =
     let k = c.take_lines-feed.ensures in
-    (piece_refused longest_row _ k.0 c.if-refusal-ne0.true, k.1)
+    (piece_refused longest_row _ k.0 (err_some c.take_lines-feed.result.refusal (settled c.is_err.ensures.value c.if-is_err.true)), k.1)
 
 pub returns-then-left-gt-LONGEST_LINE : goal.returns-then-left-gt-LONGEST_LINE
 returns-then-left-gt-LONGEST_LINE c =
     let k = c.take_lines-feed.ensures in
     let longest = longest_register c.args.points in (
-      piece_long longest_row _ k.0 longest c.if-refusal-ne0.false
+      piece_long longest_row _ k.0 longest (fine_none c.take_lines-feed.result.refusal (settled c.is_err.ensures.value c.if-is_err.false))
           (rw (left-of (goal.at.returns-then-left-gt-LONGEST_LINE c).After-take_lines-feed)
           c.if-left-gt-LONGEST_LINE.true),
       k.1,
@@ -55,7 +57,7 @@ pub returns : goal.returns
 returns c =
     let at = c.take_lines-feed.result.at in
     let k = c.take_lines-feed.ensures in (
-      piece_left longest_row _ k.0 c.if-refusal-ne0.false
+      piece_left longest_row _ k.0 (fine_none c.take_lines-feed.result.refusal (settled c.is_err.ensures.value c.if-is_err.false))
           (rw (left-of (goal.at.returns c).After-take_lines-feed) c.if-left-gt-LONGEST_LINE.false)
           (c.to_front.ensures
           ∙ sym (waiting c.args.bytes.now at c.args.len (begins (goal.at.returns c).After-take_lines-feed)
