@@ -1,12 +1,12 @@
 -- What is moved and put within a column, said of the whole column. Assumes nothing.
 use Rattle.std.specs.Prelude.{◌≡◌, ℕ, zero, suc, ◌+◌, ◌-◌, ◌≤◌, List, ◌∷◌, ◌++◌, length, take, drop, replicate}
 use mathlib.Core.Path.{refl, sym, ap, ◌∙◌}
-use mathlib.Core.List.{append_assoc}
-use native.Mathlib.{Nat.add_assoc, Omega.arith}
+use mathlib.Core.List.{append-nil, append_assoc}
+use native.Mathlib.{Nat.add_assoc, Nat.le_of_eq, Omega.arith}
 use lib.ListN.{length-drop, length-append, take-append-drop, length-replicate}
 use lib.ListN.{replicate-append-replicate}
-use lib.Seq.{take_at, drop_at, take-append-add, drop-drop, length-take-le, paste, take-add}
-use borrow.Rule.Slice.PartMut.{put_mid, Post-is}
+use lib.Seq.{take_all, drop-length, take_at, drop_at, take-append-add, drop-drop, length-take-le, paste}
+use borrow.Rule.Slice.PartMut.{mid_of, put_mid, Post-is}
 use Rattle.room.specs.Room.{put}
 use Rattle.book_rules.specs.{Columns.opened, Columns.closed, InnerRows.ZeroFrom}
 
@@ -67,25 +67,31 @@ put_past front rest vs n l =
     (sym (drop-drop (length vs) n (front ++ rest)) ∙ ap (drop (length vs)) (drop_at front rest n l))
     ∙ append_assoc front vs (drop (length vs) rest)
 
--- what stands from a on has moved up by w
-moved_up : (a count w : ℕ) (xs : List ℕ) → paste xs (a + w) (drop a xs) (a + count - a)
-    ≡ take a xs ++ (take w (drop a xs) ++ (take count (drop a xs) ++ drop (count + w) (drop a xs)))
-moved_up a count w xs =
-    let c : a + count - a ≡ count = omega arith in
-    let d : a + w + count ≡ a + (count + w) = omega arith in
-    ap (paste xs (a + w) (drop a xs)) c
-    ∙ append_assoc (take (a + w) xs) (take count (drop a xs)) (drop (a + w + count) xs)
-    ∙ ap (λ (s : List ℕ). s ++ (take count (drop a xs) ++ drop (a + w + count) xs)) (take-add a w xs)
-    ∙ append_assoc (take a xs) (take w (drop a xs)) (take count (drop a xs) ++ drop (a + w + count) xs)
-    ∙ ap (λ (s : List ℕ). take a xs ++ (take w (drop a xs) ++ (take count (drop a xs) ++ s)))
-    (ap (λ i. drop i xs) d ∙ sym (drop-drop (count + w) a xs))
+-- the front of a tail, copied up by w within it
+pub raised : (count w : ℕ) (t : List ℕ) {k : ℕ} → k ≡ count → paste t w (drop 0 t) k
+    ≡ take w t ++ (take count t ++ drop (count + w) t)
+raised count w t {k} c =
+    let d : w + count ≡ count + w = omega arith in
+    ap (paste t w t) c
+    ∙ append_assoc (take w t) (take count t) (drop (w + count) t)
+    ∙ ap (λ i. take w t ++ (take count t ++ drop i t)) d
+
+-- the part from a on
+tail_mid : (a : ℕ) (xs : List ℕ) → mid_of a (length xs - a) xs ≡ drop a xs
+tail_mid a xs = take_all (length xs - a) (drop a xs) (le_of_eq (length-drop a xs))
+
+put_tail : (a : ℕ) (xs ys : List ℕ) → a ≤ length xs → put_mid a (length xs - a) xs ys ≡ take a xs ++ ys
+put_tail a xs ys h =
+    ap (λ (t : List ℕ). take a xs ++ (ys ++ t)) (Post-is a (length xs) xs h ∙ drop-length xs)
+    ∙ ap (λ (t : List ℕ). take a xs ++ t) (append-nil ys)
 
 -- Where only `count` values moved, the others being zeros, all did
 
 -- the room that was made holds whatever is put there
 pub room_made : (a count w : ℕ) (xs : List ℕ) {ys : List ℕ} → ZeroFrom (a + count) xs → a + count + w ≤ length xs
-    → ys ≡ paste xs (a + w) (drop a xs) (a + count - a)
-    → (vs : List ℕ) → length vs ≡ w → put ys a vs ≡ opened a vs xs
+    → ys ≡ take w (mid_of a (length xs - a) xs) ++ (take count (mid_of a (length xs - a) xs)
+    ++ drop (count + w) (mid_of a (length xs - a) xs))
+    → (vs : List ℕ) → length vs ≡ w → put (put_mid a (length xs - a) xs ys) a vs ≡ opened a vs xs
 unfolding opened
 room_made a count w xs {ys} z h e vs r =
     let t = drop a xs in
@@ -95,7 +101,9 @@ room_made a count w xs {ys} z h e vs r =
     let o : length (take w t) ≡ w = length-take-le w t (omega arith) in
     let n : length xs - length (take a xs) - length vs ≡ length t - w = omega arith in
     let k : length xs - (a + count) ≡ length t - count = omega arith in
-    ap (λ (s : List ℕ). put s a vs) (e ∙ moved_up a count w xs)
+    ap (λ (s : List ℕ). put s a vs) (put_tail a xs ys (omega arith)
+    ∙ ap (λ (s : List ℕ). take a xs ++ s)
+    (e ∙ ap (λ (s : List ℕ). take w s ++ (take count s ++ drop (count + w) s)) (tail_mid a xs)))
     ∙ put_past (take a xs) (take w t ++ rest) vs a l
     ∙ ap (λ (s : List ℕ). take a xs ++ (vs ++ s))
     (drop_at (take w t) rest (length vs) (o ∙ sym r)
