@@ -32,7 +32,7 @@ fn trace(
         west: 0,
         south: 0,
     };
-    let _answer = contour::contours(levels, frame, 60000, edges, counts, closed, sizes);
+    let _ = contour::contours(levels, frame, 60000, edges, counts, closed, sizes);
 }
 
 fn checker(levels: &mut [u32]) {

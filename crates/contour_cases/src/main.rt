@@ -71,7 +71,7 @@ fn show_front(text: &[u8], size: u32) {
 fn printed(line: &[u8], levels: &[u32]) {
     let mut text = [0u8; 256];
     let mut size = [0u32; 1];
-    wkt::print_contours(levels, frame(line), number(line, 6), &mut text, &mut size);
+    let _ = wkt::print_contours(levels, frame(line), number(line, 6), &mut text, &mut size);
     show_front(&text, size[0]);
     say(b"\n");
     told(line, 8, 0, &[0]);
