@@ -11,9 +11,12 @@ use Rattle.room.specs.Room.{front, fits_in, then_room, WritesTwo}
 use Rattle.register.specs.Cell.{Cells}
 use Rattle.register.specs.declared.cell.Table.TheVariants.{Register}
 use Rattle.register.specs.Cell.{cells_of}
-use Rattle.register.specs.declared.row.{Fields.Fields, Layout.Layout, Answer.Answer}
-use Rattle.register.specs.declared.row.Answer.TheVariants.{Row, Refused}
-use Rattle.register.specs.Row.{points_fit, layout_of, cells_layout, row_layout, eight_from, off_layout, field_list}
+use Rattle.std.specs.Prelude.{Result, Ok, Err}
+use Rattle.refusal.specs.Refusal.{number_of}
+use Rattle.refusal.specs.declared.Refusal.{Refusal}
+use Rattle.refusal.proofs.Laws.{numbered}
+use Rattle.register.specs.declared.row.{Fields.Fields}
+use Rattle.register.specs.Row.{Layout, points_fit, layout_of, cells_layout, row_layout, eight_from, off_layout, field_list}
 use Rattle.register.specs.Row.{row_refusal, RowRead}
 use Rattle.register.proofs.Rows.{layout_points}
 use Rattle.okubinrafo.specs.Rows.{row_fault}
@@ -66,49 +69,44 @@ row_room points line fields levels h =
     rw (le-leb 6 (length fields) h, length-take-le points l.levels few) refl)
     (λ e. rw e refl)
 
-module _ (points : ℕ) (line levels : List ℕ) {answer : Answer} {levels' : List ℕ}
+module _ (points : ℕ) (line levels : List ℕ) {answer : Result Fields Refusal} {levels' : List ℕ}
     (read : RowRead points line levels answer levels') where
   abbrev layout : Layout
   layout = layout_of points line
 
   -- what was answered
-  refusal_of_rule : {k : ℕ} → answer ≡ Refused k
-      → (k ≡ row_refusal points layout (length levels)) × (k ≡ 0 → ⊥)
-  refusal_of_rule {k} e = (
-    rw e at read.number,
-    λ z.
-        let none : row_refusal points layout (length levels) ≡ 0 = sym (rw e at read.number) ∙ z in
-        let some : [] ≡ field_list layout.fields = rw (e, none) at read.values in
-        let never : ◌≡◌ {A = ℕ} 0 1 = cc in
-        omega arith,
-  )
+  refusal_of_rule : {why : Refusal} → answer ≡ Err why
+      → (number_of why ≡ row_refusal points layout (length levels)) × (number_of why ≡ 0 → ⊥)
+  refusal_of_rule {why} e = (rw e at read.number, λ z. let low = numbered why in omega (arith, low, z))
 
-  fine_of : {f : Fields} → answer ≡ Row f → 0 ≡ row_refusal points layout (length levels)
+  fine_of : {f : Fields} → answer ≡ Ok f → 0 ≡ row_refusal points layout (length levels)
   fine_of e = rw e at read.number
 
   -- where there is no room for the fields
-  pub row_faulty : {k : ℕ} → answer ≡ Refused k → k ≡ then_room (row_fault layout) false
-  row_faulty {k} e =
+  pub row_faulty : {why : Refusal} → answer ≡ Err why → number_of why ≡ then_room (row_fault layout) false
+  row_faulty {why} e =
       let w = refusal_of_rule e in
-      short_of_lem (row_fault layout) k (leb points (length levels)) (w.0 ∙ row_then points layout (length levels)) w.1
+      short_of_lem (row_fault layout) (number_of why) (leb points (length levels))
+      (w.0 ∙ row_then points layout (length levels)) w.1
 
-  pub row_fine : {f : Fields} → answer ≡ Row f → 14 ≡ then_room (row_fault layout) false
+  pub row_fine : {f : Fields} → answer ≡ Ok f → 14 ≡ then_room (row_fault layout) false
   row_fine e =
       fine_but_short (row_fault layout) (leb points (length levels))
       (fine_of e ∙ row_then points layout (length levels))
 
   -- where there is
-  pub row_refused : {k : ℕ} (fields : List ℕ) → 6 ≤ length fields → answer ≡ Refused k
+  pub row_refused : {why : Refusal} {k : ℕ} (fields : List ℕ) → 6 ≤ length fields → answer ≡ Err why
+      → k ≡ number_of why
       → WritesTwo (row_fault layout) (field_list layout.fields) (take points layout.levels)
       fields levels k fields levels'
-  row_refused {k} fields h e =
+  row_refused {why} fields h e is =
       let w = refusal_of_rule e in
-      let same : levels' ≡ levels = rw (sym w.0, ne_eqb k 0 w.1) at read.levels in
+      let same : levels' ≡ levels = rw (sym w.0, ne_eqb (number_of why) 0 w.1) at read.levels in
       let refused =
       row_room points line fields levels h ∙ sym (row_then points layout (length levels)) ∙ sym w.0 in
-      rw same (refuse_two refused w.1)
+      rw (same, is) (refuse_two refused w.1)
 
-  pub row_read : {f : Fields} {fields' : List ℕ} (fields : List ℕ) → 6 ≤ length fields → answer ≡ Row f
+  pub row_read : {f : Fields} {fields' : List ℕ} (fields : List ℕ) → 6 ≤ length fields → answer ≡ Ok f
       → fields' ≡ front (field_list f) fields
       → WritesTwo (row_fault layout) (field_list layout.fields) (take points layout.levels)
       fields levels 0 fields' levels'

@@ -9,8 +9,9 @@ use Rattle.level.specs.declared.{Level.Level, Verdict.Verdict}
 use Rattle.level.specs.Level.{verdict_number}
 use Rattle.text.proofs.Digits.{either}
 use Rattle.book_rules.specs.Columns.{Book, sound}
-use Rattle.load_rules.specs.declared.{Counts.Counts, Judged.Judged}
-use Rattle.load_rules.specs.declared.Judged.TheVariants.{Refused, Given}
+use Rattle.std.specs.Prelude.{Ok, Err}
+use Rattle.load_rules.specs.declared.{Counts.Counts}
+use Rattle.load_rules.specs.Told.{Judged}
 use Rattle.load_rules.specs.Shares.{book_shares}
 use Rattle.load_rules.specs.Load.{load_refusal, answer, refused_load, load_of, book_load}
 use Rattle.load_rules.specs.Verdict.{refusal_number}
@@ -71,11 +72,11 @@ length_load p pt b days =
 
 -- a verdict: refused, or given and written
 module _ (judged : Judged) (room : List ℕ) where
-  pub judged_refused : {n : ℕ} → judged ≡ Refused n
+  pub judged_refused : {n : ℕ} → judged ≡ Err n
       → Writes (refusal_number judged) (verdict_numbers judged) room n room
   judged_refused {n} e = rw e (nothing n room)
 
-  pub judged_given : {v : Verdict} {n r : ℕ} {room' : List ℕ} → judged ≡ Given v → n ≡ verdict_number v
+  pub judged_given : {v : Verdict} {n r : ℕ} {room' : List ℕ} → judged ≡ Ok v → n ≡ verdict_number v
       → Writes 0 (n ∷ []) room r room'
       → Writes (refusal_number judged) (verdict_numbers judged) room r room'
   judged_given e p w = rw e (rw p at w)

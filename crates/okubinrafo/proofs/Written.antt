@@ -7,8 +7,10 @@ use borrow.Author.Tests.{le-leb, ne_eqb, eq-eqb}
 use lib.{Dec.leb, ListN.length, ListN.set}
 use Rattle.room.specs.Room.{front, fits_in, then_room, WritesTwo}
 use Rattle.register.specs.declared.row.Fields.{Fields}
-use Rattle.register.specs.declared.write.Written.{Written}
-use Rattle.register.specs.declared.write.Written.TheVariants.{Size, Refused}
+use Rattle.std.specs.Prelude.{Result, Ok, Err}
+use Rattle.refusal.specs.Refusal.{number_of}
+use Rattle.refusal.specs.declared.Refusal.{Refusal}
+use Rattle.refusal.proofs.Laws.{numbered}
 use Rattle.register.specs.Write.{show_row, write_fault, write_refusal, RowWritten}
 use Rattle.okubinrafo.specs.Rows.{field_count, fields_from, numbers_fault}
 use Rattle.room.proofs.Answers.{front-sets, short_of_lem, fine_but_short, refuse_two, write_two}
@@ -44,31 +46,25 @@ write_then : (points : ℕ) (f : Fields) (levels : List ℕ) (room : ℕ)
 unfolding write_refusal
 write_then points f levels room = refl
 
-module _ (points : ℕ) (f : Fields) (levels text : List ℕ) {answer : Written} {text' : List ℕ}
+module _ (points : ℕ) (f : Fields) (levels text : List ℕ) {answer : Result ℕ Refusal} {text' : List ℕ}
     (written : RowWritten points f levels text answer text') where
   -- what was answered
-  refusal_of_rule : {k : ℕ} → answer ≡ Refused k
-      → (k ≡ write_refusal points f levels (length text)) × (k ≡ 0 → ⊥)
-  refusal_of_rule {k} e = (
-    rw e at written.number,
-    λ z.
-        let none : write_refusal points f levels (length text) ≡ 0 = sym (rw e at written.number) ∙ z in
-        let some : [] ≡ length (show_row f levels) ∷ [] = rw (e, none) at written.values in
-        let never : ◌≡◌ {A = ℕ} 0 1 = cc in
-        omega arith,
-  )
+  refusal_of_rule : {why : Refusal} → answer ≡ Err why
+      → (number_of why ≡ write_refusal points f levels (length text)) × (number_of why ≡ 0 → ⊥)
+  refusal_of_rule {why} e = (rw e at written.number, λ z. let low = numbered why in omega (arith, low, z))
 
-  fine_of : {k : ℕ} → answer ≡ Size k → 0 ≡ write_refusal points f levels (length text)
+  fine_of : {k : ℕ} → answer ≡ Ok k → 0 ≡ write_refusal points f levels (length text)
   fine_of e = rw e at written.number
 
   -- where there is no room for the size
-  pub write_faulty : {k : ℕ} → answer ≡ Refused k → k ≡ then_room (write_fault points f levels) false
-  write_faulty {k} e =
+  pub write_faulty : {why : Refusal} → answer ≡ Err why
+      → number_of why ≡ then_room (write_fault points f levels) false
+  write_faulty {why} e =
       let w = refusal_of_rule e in
       let enough = leb (length (show_row f levels)) (length text) in
-      short_of_lem (write_fault points f levels) k enough (w.0 ∙ write_then points f levels (length text)) w.1
+      short_of_lem (write_fault points f levels) (number_of why) enough (w.0 ∙ write_then points f levels (length text)) w.1
 
-  pub write_fine : {k : ℕ} → answer ≡ Size k → 14 ≡ then_room (write_fault points f levels) false
+  pub write_fine : {k : ℕ} → answer ≡ Ok k → 14 ≡ then_room (write_fault points f levels) false
   write_fine e =
       let enough = leb (length (show_row f levels)) (length text) in
       fine_but_short (write_fault points f levels) enough (fine_of e ∙ write_then points f levels (length text))
@@ -84,14 +80,14 @@ module _ (points : ℕ) (f : Fields) (levels text : List ℕ) {answer : Written}
         (ap (then_room (write_fault points f levels)) (and-true enough)
         ∙ sym (write_then points f levels (length text)))
 
-    pub write_refused : {k : ℕ} → answer ≡ Refused k
+    pub write_refused : {why : Refusal} {k : ℕ} → answer ≡ Err why → k ≡ number_of why
         → WritesRow (write_fault points f levels) f levels text size k text' size
-    write_refused {k} e =
+    write_refused {why} e is =
         let w = refusal_of_rule e in
-        let same : text' ≡ text = rw (sym w.0, ne_eqb k 0 w.1) at written.bytes in
-        rw same (refuse_two (both ∙ sym w.0) w.1)
+        let same : text' ≡ text = rw (sym w.0, ne_eqb (number_of why) 0 w.1) at written.bytes in
+        rw (same, is) (refuse_two (both ∙ sym w.0) w.1)
 
-    pub write_done : {k : ℕ} → answer ≡ Size k
+    pub write_done : {k : ℕ} → answer ≡ Ok k
         → WritesRow (write_fault points f levels) f levels text size 0 text' (set size 0 k)
     write_done {k} e =
         let none = sym (fine_of e) in

@@ -3,6 +3,8 @@ ghost use Rattle.book_rules.specs.Columns.{book_lent};
 ghost use Rattle.book_rules.specs.Calls.{Call, Called};
 ghost use Rattle.journal.specs.Journal.{Replayed};
 
+use refusal::told;
+
 // A movement goes into the book at its place, not computed; `given` says for each point whether it counts there.
 #[unsafe(no_mangle)]
 pub extern "C" fn okubinrafo_enter(
@@ -23,7 +25,7 @@ pub extern "C" fn okubinrafo_enter(
         (Call.enter identity ty kind time mass given.now) result
         (book_lent identities.new groups.new marks.new counts.new levels.new) }
 {
-    book::enter(
+    told(book::enter(
         identities,
         groups,
         marks,
@@ -36,7 +38,7 @@ pub extern "C" fn okubinrafo_enter(
         time,
         mass,
         given,
-    )
+    ))
 }
 
 // All levels of a standing movement, replacing earlier ones.
@@ -54,7 +56,7 @@ pub extern "C" fn okubinrafo_supply(
     ensures { Called points (book_lent identities.now groups.now marks.old counts.now levels.old)
         (Call.supply identity given.now) result (book_lent identities.now groups.now marks.new counts.now levels.new) }
 {
-    book::supply(
+    told(book::supply(
         identities,
         groups,
         marks,
@@ -63,7 +65,7 @@ pub extern "C" fn okubinrafo_supply(
         points as usize,
         identity,
         given,
-    )
+    ))
 }
 
 // A movement is no longer computed.
@@ -81,7 +83,7 @@ pub extern "C" fn okubinrafo_take_back(
         (Call.take_back identity) result
         (book_lent identities.now groups.now marks.new counts.now levels.new) }
 {
-    book::take_back(
+    told(book::take_back(
         identities,
         groups,
         marks,
@@ -89,7 +91,7 @@ pub extern "C" fn okubinrafo_take_back(
         levels,
         points as usize,
         identity,
-    )
+    ))
 }
 
 // A movement goes out of the book.
@@ -107,7 +109,7 @@ pub extern "C" fn okubinrafo_withdraw(
         (Call.withdraw identity) result
         (book_lent identities.new groups.new marks.new counts.new levels.new) }
 {
-    book::withdraw(
+    told(book::withdraw(
         identities,
         groups,
         marks,
@@ -115,7 +117,7 @@ pub extern "C" fn okubinrafo_withdraw(
         levels,
         points as usize,
         identity,
-    )
+    ))
 }
 
 // A journal: calls one after the other as numbers, with an answer for each.
@@ -133,7 +135,7 @@ pub extern "C" fn okubinrafo_replay(
     ensures { Replayed points (book_lent identities.old groups.old marks.old counts.old levels.old) journal.now
         answers.old result (book_lent identities.new groups.new marks.new counts.new levels.new) answers.new }
 {
-    journal::replay(
+    told(journal::replay(
         identities,
         groups,
         marks,
@@ -142,5 +144,5 @@ pub extern "C" fn okubinrafo_replay(
         points as usize,
         journal,
         answers,
-    )
+    ))
 }

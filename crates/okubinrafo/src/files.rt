@@ -5,6 +5,7 @@ ghost use Rattle.grid.specs.Write.{write_refusal, text_after, size_after};
 ghost use Rattle.okubinrafo.specs.Networks.{frame_of};
 
 use network::Frame;
+use refusal::told;
 
 // A network file, read: its five header numbers, and its levels in thousandths.
 #[unsafe(no_mangle)]
@@ -18,7 +19,7 @@ pub extern "C" fn okubinrafo_read_network(
         × (header.new ≡ header_after text.now header.old levels.old)
         × (levels.new ≡ levels_after text.now header.old levels.old) }
 {
-    grid::read::read_network(text, header, levels)
+    told(grid::read::read_network(text, header, levels))
 }
 
 // A network file, written, and its size.
@@ -41,11 +42,11 @@ pub extern "C" fn okubinrafo_write_network(
         text.old size.old) }
 {
     let frame = Frame {
-        columns: columns,
-        rows: rows,
-        spacing: spacing,
-        west: west,
-        south: south,
+        columns,
+        rows,
+        spacing,
+        west,
+        south,
     };
-    grid::write::write_network(levels, frame, text, size)
+    told(grid::write::write_network(levels, frame, text, size))
 }

@@ -1,15 +1,16 @@
 // The load, its account and the verdict at a point of a book.
-ghost use Rattle.std.specs.Prelude.{◌≡◌, ◌∷◌, [], ◌≤◌, ◌<◌, length, get_or};
+ghost use Rattle.std.specs.Prelude.{◌≡◌, ◌∷◌, [], ◌≤◌, ◌<◌, Ok, length, get_or};
 ghost use Rattle.book_rules.specs.Columns.{book_lent};
-ghost use Rattle.load_rules.specs.Load.{book_load};
+ghost use Rattle.refusal.specs.Refusal.{told};
+ghost use Rattle.load_rules.specs.Load.{book_load, load_told};
 ghost use Rattle.load_rules.specs.Verdict.{refusal_number, book_verdict};
 ghost use Rattle.load_rules.specs.Account.{account_of};
 ghost use Rattle.room.specs.Room.{front, Writes};
 ghost use Rattle.okubinrafo.specs.Loads.{load_size, numbers_from, load_numbers, verdict_numbers};
 
-use level::Level;
-use load_rules::{Counts, Judged};
+use load_rules::Load;
 use movement::limits::GROUPS;
+use refusal::{Refusal, told};
 
 // Where V and U of the groups begin among the numbers of a load, and how many numbers there are.
 const COMPUTED_FROM: usize = 3;
@@ -19,37 +20,38 @@ const MISSING_FROM: usize = COMPUTED_FROM + GROUPS as usize;
 const LOAD_NUMBERS: usize = MISSING_FROM + GROUPS as usize;
 
 // Number `k` of a load: total, whether a level is given, the level, V of the groups, U of the groups.
-fn number_at(total: u64, level: Level, counts: [Counts; 18], k: usize) -> u64
+fn number_at(load: Load, k: usize) -> u64
     requires { k < load_size }
-    ensures { result ≡ get_or (numbers_from total level counts) k 0 }
+    ensures { result ≡ get_or (numbers_from load.total load.level load.counts) k 0 }
 {
-    if k == 0 {
-        return total;
+    match k {
+        0 => load.total,
+        1 => load.level.given() as u64,
+        2 => load.level.value() as u64,
+        COMPUTED_FROM..MISSING_FROM => load.counts[k - COMPUTED_FROM].computed as u64,
+        _ => load.counts[k - MISSING_FROM].missing as u64,
     }
-    if k == 1 {
-        return level.given() as u64;
-    }
-    if k == 2 {
-        return level.value() as u64;
-    }
-    if k < MISSING_FROM {
-        let c = counts[k - COMPUTED_FROM];
-        return c.computed as u64;
-    }
-    let c = counts[k - MISSING_FROM];
-    c.missing as u64
 }
 
 // Writes the numbers of a load to the front of a buffer.
-fn put_numbers(total: u64, level: Level, counts: [Counts; 18], answer: &mut [u64])
+fn put_numbers(load: Load, answer: &mut [u64])
     requires { load_size ≤ length answer.old }
-    ensures { answer.new ≡ front (numbers_from total level counts) answer.old }
+    ensures { answer.new ≡ front (numbers_from load.total load.level load.counts) answer.old }
 {
-    let mut k = 0;
-    while k < LOAD_NUMBERS {
-        answer[k] = number_at(total, level, counts, k);
-        k += 1;
+    for k in 0..LOAD_NUMBERS {
+        answer[k] = number_at(load, k);
     }
+}
+
+// Writes a load in lent room, if it suffices.
+fn put_load(load: Load, answer: &mut [u64]) -> Result<(), Refusal>
+    ensures { Writes 0 (load_numbers (load_told (Ok load))) answer.old (told result) answer.new }
+{
+    if answer.len() < LOAD_NUMBERS {
+        return Err(Refusal::TooLittleRoom);
+    }
+    put_numbers(load, answer);
+    Ok(())
 }
 
 // The load at a point, as its numbers.
@@ -71,7 +73,7 @@ pub extern "C" fn okubinrafo_load(
         (book_load points point (book_lent identities.now groups.now marks.now counts.now levels.now) days))
         answer.old result answer.new }
 {
-    let load = load::load_at(
+    let answered = load::load_at(
         identities,
         groups,
         marks,
@@ -81,17 +83,10 @@ pub extern "C" fn okubinrafo_load(
         point as usize,
         days,
     );
-    let refused = load.refused;
-    if refused != 0 {
-        return refused;
+    match answered {
+        Err(why) => why.number(),
+        Ok(load) => told(put_load(load, answer)),
     }
-    if answer.len() < LOAD_NUMBERS {
-        return 14;
-    }
-    let level = load.level;
-    let of_groups = load.counts;
-    put_numbers(load.total, level, of_groups, answer);
-    0
 }
 
 // How the load at a point comes about, as its numbers.
@@ -112,7 +107,7 @@ pub extern "C" fn okubinrafo_account(
         (account_of points point (book_lent identities.now groups.now marks.now counts.now levels.now) days)
         answer.old result answer.new }
 {
-    load::account::account_at(
+    told(load::account::account_at(
         identities,
         groups,
         marks,
@@ -122,18 +117,18 @@ pub extern "C" fn okubinrafo_account(
         point as usize,
         days,
         answer,
-    )
+    ))
 }
 
-// Writes one number, or refuses.
-fn put_number(n: u32, room: &mut [u32]) -> u32
-    ensures { Writes 0 (n ∷ []) room.old result room.new }
+// Writes one number in lent room, if there is any.
+fn put_number(n: u32, room: &mut [u32]) -> Result<(), Refusal>
+    ensures { Writes 0 (n ∷ []) room.old (told result) room.new }
 {
-    if room.len() < 1 {
-        return 14;
+    if room.is_empty() {
+        return Err(Refusal::TooLittleRoom);
     }
     room[0] = n;
-    0
+    Ok(())
 }
 
 // The verdict at a point, as one number: 1 over, 0 within.
@@ -171,7 +166,7 @@ pub extern "C" fn okubinrafo_verdict(
         limit,
     );
     match judged {
-        Judged::Refused(n) => n,
-        Judged::Given(v) => put_number(v.number(), answer),
+        Err(why) => why.number(),
+        Ok(verdict) => told(put_number(verdict.number(), answer)),
     }
 }

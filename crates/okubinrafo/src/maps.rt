@@ -5,6 +5,7 @@ ghost use Rattle.mapping.specs.Many.{Many};
 ghost use Rattle.okubinrafo.specs.Networks.{frame_of};
 
 use network::Frame;
+use refusal::told;
 
 // Where a contour crosses an edge: the number of the case, and the fraction.
 #[unsafe(no_mangle)]
@@ -24,13 +25,13 @@ pub extern "C" fn okubinrafo_crossing(
         which.old fraction.old result which.new fraction.new }
 {
     let frame = Frame {
-        columns: columns,
-        rows: rows,
-        spacing: spacing,
-        west: west,
-        south: south,
+        columns,
+        rows,
+        spacing,
+        west,
+        south,
     };
-    mapping::put_crossing(levels, frame, level, edge, which, fraction)
+    told(mapping::put_crossing(levels, frame, level, edge, which, fraction))
 }
 
 // The map point of the crossing on an edge.
@@ -51,13 +52,13 @@ pub extern "C" fn okubinrafo_map_point(
         which.old place.old result which.new place.new }
 {
     let frame = Frame {
-        columns: columns,
-        rows: rows,
-        spacing: spacing,
-        west: west,
-        south: south,
+        columns,
+        rows,
+        spacing,
+        west,
+        south,
     };
-    mapping::put_map_point(levels, frame, level, edge, which, place)
+    told(mapping::put_map_point(levels, frame, level, edge, which, place))
 }
 
 // The map points of many edges, the network checked once.
@@ -78,11 +79,11 @@ pub extern "C" fn okubinrafo_map_points(
         which.old places.old result which.new places.new }
 {
     let frame = Frame {
-        columns: columns,
-        rows: rows,
-        spacing: spacing,
-        west: west,
-        south: south,
+        columns,
+        rows,
+        spacing,
+        west,
+        south,
     };
-    mapping::map_points(levels, frame, level, edges, which, places)
+    told(mapping::map_points(levels, frame, level, edges, which, places))
 }

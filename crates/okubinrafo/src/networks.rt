@@ -6,6 +6,7 @@ ghost use Rattle.wkt.specs.Calls.{network_text, Prints};
 ghost use Rattle.okubinrafo.specs.Networks.{frame_of};
 
 use network::Frame;
+use refusal::told;
 
 // The contours at a level in thousandths, as lists of edges.
 #[unsafe(no_mangle)]
@@ -26,13 +27,13 @@ pub extern "C" fn okubinrafo_contours(
         ≡ outcome_due levels (frame_of columns rows spacing west south) level edges counts closed sizes }
 {
     let frame = Frame {
-        columns: columns,
-        rows: rows,
-        spacing: spacing,
-        west: west,
-        south: south,
+        columns,
+        rows,
+        spacing,
+        west,
+        south,
     };
-    contour::contours(levels, frame, level, edges, counts, closed, sizes)
+    told(contour::contours(levels, frame, level, edges, counts, closed, sizes))
 }
 
 // The contours at a level in thousandths as well-known text, and its size.
@@ -52,11 +53,11 @@ pub extern "C" fn okubinrafo_print_contours(
         (network_text levels.now (frame_of columns rows spacing west south) level) text size result }
 {
     let frame = Frame {
-        columns: columns,
-        rows: rows,
-        spacing: spacing,
-        west: west,
-        south: south,
+        columns,
+        rows,
+        spacing,
+        west,
+        south,
     };
-    wkt::print_contours(levels, frame, level, text, size)
+    told(wkt::print_contours(levels, frame, level, text, size))
 }

@@ -1,26 +1,27 @@
 // Register rows, read and written.
 ghost use Rattle.std.specs.Prelude.{◌≡◌, false, ◌∷◌, [], ◌≤◌, length, take};
+ghost use Rattle.refusal.specs.Refusal.{number_of};
 ghost use Rattle.room.specs.Room.{front, then_room, WritesTwo};
 ghost use Rattle.register.specs.Row.{layout_of, field_list};
 ghost use Rattle.register.specs.Write.{write_fault, show_row};
 ghost use Rattle.okubinrafo.specs.Rows.{field_count, fields_from, row_fault, numbers_fault};
 
 use movement::limits::MAX_POINTS;
-use register::row::{Answer, Fields, read_row};
-use register::write::{Written, write_row};
+use refusal::Refusal;
+use register::row::{Fields, read_row};
+use register::write::write_row;
 
 // A row as numbers: identity, type, mass, kind, time, 1 if computed.
 const FIELDS: usize = 6;
 
 // Why a row can't be read where there is no room for its fields: 16, 1, 3, 7 or 14.
-fn row_fault(line: &[u8], points: u32) -> u32
-    ensures { result ≡ then_room (row_fault (layout_of points line.now)) false }
+fn row_fault(line: &[u8], points: u32) -> Refusal
+    ensures { number_of result ≡ then_room (row_fault (layout_of points line.now)) false }
 {
     let mut levels = [0u32; MAX_POINTS];
-    let read = read_row(line, points, &mut levels);
-    match read {
-        Answer::Refused(n) => n,
-        Answer::Row(_) => 14,
+    match read_row(line, points, &mut levels) {
+        Err(why) => why,
+        Ok(_) => Refusal::TooLittleRoom,
     }
 }
 
@@ -51,12 +52,11 @@ pub extern "C" fn okubinrafo_read_row(
         fields.old levels.old result fields.new levels.new }
 {
     if fields.len() < FIELDS {
-        return row_fault(line, points);
+        return row_fault(line, points).number();
     }
-    let read = read_row(line, points, levels);
-    match read {
-        Answer::Refused(n) => n,
-        Answer::Row(f) => {
+    match read_row(line, points, levels) {
+        Err(why) => why.number(),
+        Ok(f) => {
             put_fields(f, fields);
             0
         }
@@ -79,14 +79,13 @@ fn fields_from(fields: &[u32]) -> Fields
 }
 
 // Why a row can't be written where there is no room for its size: 9, 1, 3, 7 or 14.
-fn unwritten(f: Fields, levels: &[u32], points: u32) -> u32
-    ensures { result ≡ then_room (write_fault points f levels.now) false }
+fn unwritten(f: Fields, levels: &[u32], points: u32) -> Refusal
+    ensures { number_of result ≡ then_room (write_fault points f levels.now) false }
 {
     let mut text = [0u8; 120];
-    let written = write_row(f, levels, points, &mut text);
-    match written {
-        Written::Refused(n) => n,
-        Written::Size(_) => 14,
+    match write_row(f, levels, points, &mut text) {
+        Err(why) => why,
+        Ok(_) => Refusal::TooLittleRoom,
     }
 }
 
@@ -105,16 +104,15 @@ pub extern "C" fn okubinrafo_write_row(
         text.old size.old result text.new size.new }
 {
     if fields.len() != FIELDS {
-        return 9;
+        return Refusal::NotSound.number();
     }
     let f = fields_from(fields);
-    if size.len() < 1 {
-        return unwritten(f, levels, points);
+    if size.is_empty() {
+        return unwritten(f, levels, points).number();
     }
-    let written = write_row(f, levels, points, text);
-    match written {
-        Written::Refused(n) => n,
-        Written::Size(k) => {
+    match write_row(f, levels, points, text) {
+        Err(why) => why.number(),
+        Ok(k) => {
             size[0] = k;
             0
         }

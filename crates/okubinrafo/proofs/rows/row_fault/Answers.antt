@@ -2,9 +2,8 @@
 use Rattle.okubinrafo.proofs.Lines.{row_faulty, row_fine}
 use Rattle.okubinrafo.proofs.rows.row_fault.Goals as goal
 
-pub returns-in-Refused : goal.returns-in-Refused
-returns-in-Refused c =
-    row_faulty _ _ _ c.read_row-read.ensures c.in-Refused.is
+pub returns-in-Err : goal.returns-in-Err
+returns-in-Err c = row_faulty _ _ _ c.read_row.ensures c.in-Err.is
 
-pub returns-in-Row : goal.returns-in-Row
-returns-in-Row c = row_fine _ _ _ c.read_row-read.ensures c.in-Row.is
+pub returns-in-Ok : goal.returns-in-Ok
+returns-in-Ok c = row_fine _ _ _ c.read_row.ensures c.in-Ok.is

@@ -2,10 +2,8 @@
 use Rattle.okubinrafo.proofs.Written.{write_faulty, write_fine}
 use Rattle.okubinrafo.proofs.rows.unwritten.Goals as goal
 
-pub returns-in-Refused : goal.returns-in-Refused
-returns-in-Refused c =
-    write_faulty _ _ _ _ c.write_row-written.ensures c.in-Refused.is
+pub returns-in-Err : goal.returns-in-Err
+returns-in-Err c = write_faulty _ _ _ _ c.write_row.ensures c.in-Err.is
 
-pub returns-in-Size : goal.returns-in-Size
-returns-in-Size c =
-    write_fine _ _ _ _ c.write_row-written.ensures c.in-Size.is
+pub returns-in-Ok : goal.returns-in-Ok
+returns-in-Ok c = write_fine _ _ _ _ c.write_row.ensures c.in-Ok.is
