@@ -1,4 +1,4 @@
--- Inner step: no promise uses it. The kind of a call, by the number that a journal gives it. Assumes nothing.
+-- Inner steps: no promise uses them. The kind of a call, by the number that a journal gives it. Assumes nothing.
 use Rattle.std.specs.Prelude.{ℕ, cond, ◌==◌, Option, Some, None}
 use Rattle.journal.specs.declared.numbers.Kind.{Kind}
 use Rattle.journal.specs.declared.numbers.Kind.TheVariants.{Enter, Supply, TakeBack, Withdraw}
