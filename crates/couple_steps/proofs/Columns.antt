@@ -1,6 +1,6 @@
 -- The columns of a table's rows, and of the flat list that holds them. Assumes nothing.
-use Rattle.std.specs.Prelude.{ℕ, suc, ◌+◌, ◌*◌, ◌<◌, ◌≤◌, length, get_or, drop}
-use mathlib.Core.{Path.◌≡◌, Path.refl, Path.sym, Path.ap, Path.◌∙◌, Bool.true, List.List, List.[], List.◌∷◌}
+use Rattle.std.specs.Prelude.{ℕ, ◌+◌, ◌*◌, ◌<◌, ◌≤◌, length, get_or, drop}
+use mathlib.Core.{Path.◌≡◌, Path.refl, Path.sym, Path.ap, Path.◌∙◌, Bool.true, List.List, List.[]}
 use native.Mathlib.Omega.{arith}
 use lib.ListN.{length-map, length-drop, get_or-map}
 use lib.Seq.{length-take-le, get_or-take, get_or-drop, ext_get_or}
@@ -9,9 +9,10 @@ use Rattle.refusal.proofs.Ranges.{within_each}
 use Rattle.text.proofs.Indices.{length_listing, listing_at}
 use Rattle.date.specs.Calendar.{date_exists}
 use Rattle.coupling_rules.specs.Limits.{max_flights}
-use Rattle.coupling_rules.specs.Flights.{Flights, Movements}
-use Rattle.coupling_rules.specs.Refusals.{all_exist, shape_fits, values_fit, flights_fit, movements_fit}
+use Rattle.coupling_rules.specs.Refusals.{shape_fits, values_fit, flights_fit, movements_fit}
 use Rattle.coupling_rules.specs.Tables.{column_in, flights_in, movements_in}
+use Rattle.coupling_rules.proofs.Refusing.{exist_each}
+use Rattle.coupling.proofs.Answering.{same_flights, same_movements}
 use Rattle.couple_steps.specs.Table.{Rows, column_of, flights_of, movements_of}
 use Rattle.couple_steps.specs.InnerTable.{row_in, rows_in, Roomy}
 
@@ -20,18 +21,6 @@ column_long k rows = length-map rows (λ row. get_or row k 0)
 
 pub column_at_lem : (k : ℕ) (rows : Rows) (i : ℕ) → get_or (column_of k rows) i 0 ≡ get_or (get_or rows i []) k 0
 column_at_lem k rows i = get_or-map (λ row. get_or row k 0) rows i []
-
--- flights whose columns are the same
-flights_same : {d d' t t' c c' k k' r r' a a' y y' : List ℕ} → d ≡ d' → t ≡ t' → c ≡ c' → k ≡ k' → r ≡ r'
-    → a ≡ a' → y ≡ y'
-    → ◌≡◌ {A = Flights}
-    (record { dates = d; times = t; classes = c; kinds = k; runways = r; airports = a; types = y })
-    (record { dates = d'; times = t'; classes = c'; kinds = k'; runways = r'; airports = a'; types = y' })
-flights_same p q u v w x z = rw (p, q, u, v, w, x, z) refl
-
-movements_same : {f f' : Flights} {o o' : List ℕ} → f ≡ f' → o ≡ o'
-    → ◌≡◌ {A = Movements} (record { flights = f; circuits = o }) (record { flights = f'; circuits = o' })
-movements_same p q = rw (p, q) refl
 
 -- Of a flat list
 
@@ -58,12 +47,12 @@ module _ {columns : ℕ} {flat : List ℕ} (room : Roomy columns flat) (n : ℕ)
 
   pub flights_in_rule : 8 ≤ columns → flights_in flat n ≡ flights_of (rows_in columns flat n)
   flights_in_rule h =
-      flights_same (column_in_rule 1 (omega arith)) (column_in_rule 2 (omega arith)) (column_in_rule 3 (omega arith))
+      same_flights (column_in_rule 1 (omega arith)) (column_in_rule 2 (omega arith)) (column_in_rule 3 (omega arith))
       (column_in_rule 4 (omega arith)) (column_in_rule 5 (omega arith)) (column_in_rule 6 (omega arith))
       (column_in_rule 7 (omega arith))
 
   pub movements_in_rule : 9 ≤ columns → movements_in flat n ≡ movements_of (rows_in columns flat n)
-  movements_in_rule h = movements_same (flights_in_rule (omega arith)) (column_in_rule 8 (omega arith))
+  movements_in_rule h = same_movements (flights_in_rule (omega arith)) (column_in_rule 8 (omega arith))
 
 -- Rows that are in their range
 
@@ -72,11 +61,6 @@ pub record RowFits (row : List ℕ) : Type 0 where
   pub time : get_or row 2 0 ≤ 86399
   pub class : get_or row 3 0 ≤ 1
   pub kind : get_or row 4 0 ≤ 1
-
-exist_each : (ds : List ℕ) → ((i : ℕ) → i < length ds → date_exists (get_or ds i 0) ≡ true) → all_exist ds ≡ true
-unfolding all_exist
-exist_each [] h = refl
-exist_each (d ∷ ds) h = rw (h 0 (omega arith)) (exist_each ds (λ i l. h (suc i) (omega arith)))
 
 module _ (rows : Rows) (few : length rows ≤ max_flights)
     (each : (i : ℕ) → i < length rows → RowFits (get_or rows i [])) where

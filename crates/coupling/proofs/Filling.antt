@@ -3,7 +3,7 @@ use mathlib.Core.{Path.◌≡◌, Path.refl, Path.sym, Path.ap, Path.◌∙◌, 
 use mathlib.Core.{List.List, List.[], List.◌∷◌, Logic.⊎_elim}
 use Rattle.std.specs.Prelude.{ℕ, suc, ◌+◌, ◌<◌, IsTrue, ◌↔◌, EachIndex, slice_index}
 use Rattle.std.proofs.lemmas.Bool.{cases_Bool}
-use Rattle.coupling_rules.proofs.Refusing.{exist_at}
+use Rattle.coupling_rules.proofs.Refusing.{exist_at, exist_each}
 use native.Mathlib.Omega.{arith}
 use lib.{ListN.length, ListN.get_or, ListN.set, Seq.get_or-set_same}
 use lib.{Seq.get_or-set_other}
@@ -28,11 +28,6 @@ filled_more f out i v h l e k q =
     (is_or_not k i)
 
 -- all dates exist exactly where each does
-exist_each : (ds : List ℕ) → ((i : ℕ) → i < length ds → date_exists (get_or ds i 0) ≡ true) → all_exist ds ≡ true
-unfolding all_exist
-exist_each [] h = refl
-exist_each (d ∷ ds) h = rw (h 0 (omega arith)) (exist_each ds (λ i b. h (suc i) (omega arith)))
-
 pub exist_exactly : (ds : List ℕ) (b : Bool) → IsTrue b ↔ EachIndex ds (λ i. date_exists (slice_index ds i) ≡ true)
     → b ≡ all_exist ds
 exist_exactly ds true e = sym (exist_each ds (e.0 refl))

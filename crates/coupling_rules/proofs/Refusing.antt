@@ -1,5 +1,5 @@
 -- What flights that are not refused have. Assumes nothing.
-use mathlib.Core.{Path.◌≡◌, Bool.true, Bool.◌&&◌, List.List, List.[], List.◌∷◌}
+use mathlib.Core.{Path.◌≡◌, Path.refl, Bool.true, Bool.◌&&◌, List.List, List.[], List.◌∷◌}
 use Prim.Native.Nat.{ℕ, zero, suc, ◌≤◌, ◌<◌}
 use native.Mathlib.Omega.{arith}
 use lib.{Dec.eqb, Dec.leb, ListN.length, ListN.get_or}
@@ -88,3 +88,9 @@ unfolding all_exist
 exist_at [] i e h = absurd (omega arith)
 exist_at (d ∷ ds) zero e h = and_left (date_exists d) (all_exist ds) e
 exist_at (d ∷ ds) (suc i) e h = exist_at ds i (and_right (date_exists d) (all_exist ds) e) (omega arith)
+
+-- and all exist where each does
+pub exist_each : (ds : List ℕ) → ((i : ℕ) → i < length ds → date_exists (get_or ds i 0) ≡ true) → all_exist ds ≡ true
+unfolding all_exist
+exist_each [] h = refl
+exist_each (d ∷ ds) h = rw (h 0 (omega arith)) (exist_each ds (λ i l. h (suc i) (omega arith)))
