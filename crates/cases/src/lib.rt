@@ -4,5 +4,4 @@
 
 pub mod column;
 pub mod fields;
-pub mod inner;
 pub mod show;
