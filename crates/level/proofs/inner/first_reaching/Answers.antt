@@ -3,7 +3,6 @@ use mathlib.Core.Path.{ap, sym, ◌∙◌}
 use native.Mathlib.Nat.{lt_of_not-le, lt_of_le_of_lt, suc-mul, mul-le-mul_right, pow-le-pow_right}
 use native.Mathlib.Omega.{arith}
 use lib.{Dec.lit<, Pow.pow-add}
-use borrow.Author.Count.{below_more}
 use Rattle.level.specs.declared.Level.TheVariants.{At}
 use Rattle.level.specs.{Limits.max_mean, Tables.table_b, Level.bound, Level.level_of}
 use Rattle.level.proofs.LevelLaws.{b_first, b_below, bound_at, bound_mono, bound_top, level_is}
@@ -57,20 +56,11 @@ returns c =
     let e : c.loop-n.n ≡ 1000 * d.result + 1000 = omega arith in
     found _ _ (omega arith) (omega arith) (rw e at c.loop-n.invariant) (next-reaches d.result _ d.ensures.1)
 
-pub decade_of-first-requires : goal.decade_of-first-requires
-decade_of-first-requires c = c.requires.0
-
 pub overflow_mul-first : goal.overflow_mul-first
 overflow_mul-first c = omega (arith, fits c)
 
 pub overflow_add-n-end : goal.overflow_add-n-end
 overflow_add-n-end c = omega (arith, fits c)
 
-pub overflow_add-result : goal.overflow_add-result
-overflow_add-result c = omega (arith, fits (goal.at.overflow_add-result c).After-decade_of-first)
-
 pub loop-n-init : goal.loop-n-init
 loop-n-init c = before c
-
-pub loop-n-preserved : goal.loop-n-preserved
-loop-n-preserved c = below_more _ _ c.loop-n.invariant (omega arith)

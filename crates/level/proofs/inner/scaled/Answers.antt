@@ -3,15 +3,9 @@
 use Rattle.std.specs.Prelude.{◌≡◌, ◌+◌, ◌*◌, ◌/◌, ◌%◌}
 use mathlib.Core.Path.{sym}
 use native.Mathlib.Omega.{arith}
-use Rattle.level.proofs.ScaleLaws.{by_parts, rest_fits_lem}
+use Rattle.level.proofs.ScaleLaws.{by_parts}
 use Rattle.level.proofs.inner.scaled.Goals as goal
 use Rattle.level.proofs.inner.scaled.Goals.{Start}
-
-pub overflow_mul-rest : goal.overflow_mul-rest
-overflow_mul-rest c = record {
-  fits = rest_fits_lem c.args.s c.args.n c.args.d c.requires.0 (omega arith)
-      (omega arith);
-}
 
 -- the sum of both parts
 sum : (c : Start)

@@ -1,8 +1,5 @@
-use Rattle.std.specs.Prelude.{◌≡◌}
-use mathlib.Core.Path.{refl, ap, ◌∙◌}
+use mathlib.Core.Path.{refl, ◌∙◌}
 use native.Mathlib.Omega.{arith}
-use Rattle.movement.specs.Limits.{group_count}
-use Rattle.room.specs.Room.{front}
 use Rattle.load_rules.specs.Account.{groups_to}
 use Rattle.load.specs.InnerSteps.{group_at}
 use Rattle.load.proofs.AccountLaws.{group_scalable, groups_more}
@@ -20,11 +17,6 @@ loop-g-preserved c =
     c.put_group.ensures
     ∙ rw (c.loop-g.invariant, c.group_at.ensures)
     (groups_more (group_at c.args.groups) c.loop-g.g c.args.answer.now)
-
-pub returns : goal.returns
-returns c =
-    let last : c.loop-g.g ≡ group_count = omega arith in
-    c.loop-g.invariant ∙ ap (λ n. front (groups_to (group_at c.args.groups) n) c.args.answer.now) last
 
 pub loop-g-init : goal.loop-g-init
 loop-g-init c = unfold groups_to in refl

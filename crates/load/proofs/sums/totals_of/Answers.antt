@@ -19,11 +19,5 @@ unfolding totals_of
 returns c =
     rw (c.level_of-level.ensures, c.mean.ensures, c.scaled_by-total.ensures) refl
 
-pub overflow_add-s : goal.overflow_add-s
-overflow_add-s c = omega (arith, c.requires.scalable.movements)
-
-pub scaled_by-total-requires : goal.scaled_by-total-requires
-scaled_by-total-requires c = c.requires.scalable
-
 pub mean-requires : goal.mean-requires
 mean-requires c = omega (arith, some_days c.args.days c.requires.days_value)

@@ -44,9 +44,3 @@ returns c =
     let a = c.args in
     row_computed a.seen a.group a.mark a.level c.energy-e.result c.if-mark-eq0.false
     (known-energy (goal.at.returns c).After-energy-e)
-
-pub overflow_add-level : goal.overflow_add-level
-overflow_add-level c = omega (arith, weighted c)
-
-pub energy-e-requires : goal.energy-e-requires
-energy-e-requires c = let t = c.requires.tables in (weighted c, t.table_a_rule, t.powers_of_ten)
