@@ -12,9 +12,7 @@ use Rattle.stream.specs.{Reading.reading_at, Feeding.turned_to, Feeding.Done}
 use Rattle.stream.specs.Coming.Coming.{stopped}
 use Rattle.stream.proofs.Turns.{of_as}
 use Rattle.report_steps.specs.{Stream.longest_row, Reading.register_step}
-use Rattle.report_text.specs.Text.{book_text}
 use Rattle.text.specs.{Sheet.refused_text, InnerWithin.longest_refused, InnerWithin.WroteWithin}
-use Rattle.explain_text.specs.Text.{explain_text}
 use Rattle.channel.specs.{System.none_came}
 use Rattle.channel.specs.System.Origin.{input}
 use Rattle.report_rules.specs.Report.{book_rows, Telling, Opened}

@@ -7,5 +7,5 @@ use Rattle.files.specs.declared.inner.Kind.TheVariants.{Report, Explain}
 
 -- the report, or how each load comes about
 abbrev pub telling_of : Kind → Telling
-telling_of Report = λ l b. book_text l b
-telling_of Explain = λ l b. explain_text l b
+telling_of Report = book_text
+telling_of Explain = explain_text

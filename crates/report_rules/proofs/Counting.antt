@@ -10,7 +10,7 @@ use borrow.Author.Tests.{lt-ltb}
 use Rattle.movement.specs.Limits.{group_count}
 use Rattle.book_rules.specs.History.{Movement, has_levels, Made, movements}
 use Rattle.book_rules.proofs.{Standing.AllGood, History.told_all}
-use Rattle.load_rules.specs.declared.Load.{Load}
+use Rattle.load_rules.specs.Told.{LoadTold}
 use Rattle.load_rules.specs.{Factors.sum_to, Afresh.counts_at, Afresh.CountsEach}
 use Rattle.load_rules.specs.Afresh as afresh
 use Rattle.load_rules.proofs.SumLaws.{sum_add, sum_zero, sum_ext, sum_one}
@@ -44,7 +44,7 @@ sum_missing p (m ∷ ms) good =
     ∙ omega (arith, one_group m.group (not (has_levels m.held)) good.0.group<, sum_missing p ms good.1)
 
 -- of the load at a point that counts each movement
-module _ (p n pt days : ℕ) (cs : List Made) (a : Load) (each : CountsEach a pt (movements p n cs) days) where
+module _ (p n pt days : ℕ) (cs : List Made) (a : LoadTold) (each : CountsEach a pt (movements p n cs) days) where
   pub computed_printed : totals.all_computed a.counts ≡ how_many computed (movements p n cs)
   unfolding totals.all_computed
   computed_printed =

@@ -9,7 +9,7 @@ use Rattle.level.specs.declared.{Level.Level, Verdict.Verdict}
 use Rattle.level.specs.declared.Level.TheVariants.{BelowZero, At}
 use Rattle.level.specs.declared.Verdict.TheVariants.{Within, Over}
 use Rattle.level.specs.Level.{verdict_of}
-use Rattle.load_rules.specs.declared.Load.{Load}
+use Rattle.load_rules.specs.Told.{LoadTold}
 use Rattle.text.specs.{Field.count_of, Field.field_of, Index.listing, Spelled.bytes, Sheet.line}
 use Rattle.text.proofs.{Digits.either, Fields.Free, Fields.join_field, Free.shown_free, Free.level_free}
 use Rattle.text.proofs.{Indices.length_listing, Sheets.at_least, Sheets.least_free, Sheets.joined_free}
@@ -29,7 +29,7 @@ unfolding at_least
 verdict_text_free d low Within = least_free 46 d low (bytes "within") refl
 verdict_text_free d low Over = least_free 46 d low (bytes "over") refl
 
-pub fields_free : (d : ℕ) → d < 46 → (point limit : ℕ) (load : Load) → Free d (point_fields point limit load)
+pub fields_free : (d : ℕ) → d < 46 → (point limit : ℕ) (load : LoadTold) → Free d (point_fields point limit load)
 fields_free d low point limit load zero h = shown_free d low 20 (point + 1)
 fields_free d low point limit load (suc zero) h = level_text_free d low load.level
 fields_free d low point limit load (suc (suc zero)) h = level_free d low limit
@@ -39,12 +39,12 @@ fields_free d low point limit load (suc (suc (suc (suc (suc zero))))) h = shown_
 fields_free d low point limit load (suc (suc (suc (suc (suc (suc i)))))) h = absurd (omega arith)
 
 -- a field of the line of a point
-pub field_at : (point limit : ℕ) (load : Load) (k : ℕ) → k < 6
+pub field_at : (point limit : ℕ) (load : LoadTold) (k : ℕ) → k < 6
     → field_of 44 k (line (point_fields point limit load)) ≡ get_or (point_fields point limit load) k []
 field_at point limit load k h =
     join_field 44 (point_fields point limit load) (fields_free 44 (omega arith) point limit load) k h
 
-pub line_unbroken : (point limit : ℕ) (load : Load) → count_of 13 (line (point_fields point limit load)) ≡ 0
+pub line_unbroken : (point limit : ℕ) (load : LoadTold) → count_of 13 (line (point_fields point limit load)) ≡ 0
 line_unbroken point limit load =
     joined_free 13 (point_fields point limit load) (λ e. absurd (omega arith))
     (fields_free 13 (omega arith) point limit load)

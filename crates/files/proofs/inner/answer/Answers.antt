@@ -1,5 +1,5 @@
 -- `files::inner::answer` meets its contract: limits.csv is refused, or the register is answered. Assumes nothing.
-use Rattle.std.proofs.Common.{◌≡◌, refl, sym, ap, subst, arith}
+use Rattle.std.proofs.Common.{refl, sym, ap, subst, arith}
 use Rattle.refusal.proofs.Laws.{numbered}
 use Rattle.book_rules.specs.History.{empty_book}
 use Rattle.register.specs.LimitsFile.{LimitsFile}
@@ -13,7 +13,7 @@ pub returns-in-Err : goal.returns-in-Err
 returns-in-Err c =
     let low = numbered c.in-Err.refused.why in
     limits_refused (telling_of c.args.kind) c.args.text.now c.requires.opened (rw c.in-Err.is at c.read_limits.ensures)
-    (λ e. absurd (omega arith)) c.put_refused.ensures
+    (λ e. absurd (omega arith)) (rw c.number.ensures at c.put_refused.ensures)
 
 pub report-requires : goal.report-requires
 unfolding empty_book

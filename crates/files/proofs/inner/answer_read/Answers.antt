@@ -1,6 +1,5 @@
 -- `files::inner::answer_read` meets its contract: a refusal's one line, or the report of the book. Assumes nothing.
-use Rattle.std.proofs.Common.{refl, arith, ap}
-use Rattle.refusal.specs.Refusal.{told}
+use Rattle.std.proofs.Common.{refl, arith}
 use Rattle.refusal.proofs.Laws.{numbered}
 use Rattle.book_rules.specs.Columns.{Book, book_of}
 use Rattle.register.specs.LimitsFile.{accepted_limits}

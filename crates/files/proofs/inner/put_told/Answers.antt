@@ -1,5 +1,4 @@
 -- `files::inner::put_told` meets its contract: the text of the program that asks for it. Assumes nothing.
-use Rattle.std.proofs.Common.{rules}
 use Rattle.files.proofs.inner.put_told.Goals as goal
 
 pub returns-in-Report : goal.returns-in-Report
