@@ -132,7 +132,8 @@ room_closed a count w xs {ys} {zs} z e f =
     (e ∙ ap (λ j. take a xs ++ take j t ++ drop (a + j) xs) n)
     ∙ put_past front (drop (a + count) xs) (replicate w 0) (a + count) o
     ∙ ap (λ (s : List ℕ). front ++ (replicate w 0 ++ s))
-    (ap (λ j. drop j (drop (a + count) xs)) {x = length (replicate w 0)} (length-replicate w 0) ∙ drop-drop w (a + count) xs
+    (ap (λ j. drop j (drop (a + count) xs)) {x = length (replicate w 0)} (length-replicate w 0)
+    ∙ drop-drop w (a + count) xs
     ∙ ap (λ j. drop j xs) b ∙ sym (drop-drop count (a + w) xs))
     ∙ append_assoc (take a xs) (take count t) (replicate w 0 ++ drop count t)
     ∙ ap (λ (s : List ℕ). take a xs ++ s) (zeros_after_lem t count w (length xs - (a + (count + w)))

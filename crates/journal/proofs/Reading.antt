@@ -169,7 +169,8 @@ width_kind j {k} e =
   where
     by : (a b c d : Bool)
         → cond a (7 + get_or j 6 0) (cond b (3 + get_or j 2 0) (cond (c || d) 2 0))
-        ≡ width_for (cond a (Some Enter) (cond b (Some Supply) (cond c (Some TakeBack) (cond d (Some Withdraw) None)))) j
+        ≡ width_for (cond a (Some Enter) (cond b (Some Supply)
+        (cond c (Some TakeBack) (cond d (Some Withdraw) None)))) j
     by true b c d = refl
     by false true c d = refl
     by false false true d = refl

@@ -50,7 +50,8 @@ regroup_two true false false d = refl
 regroup_two true true false d = refl
 
 -- what a cell says, and what the later ones do
-cell : (s a b d A B D : Bool) → (((s && a) && (b && d)) && (A && (B && D))) ≡ (s && ((a && A) && ((b && B) && (d && D))))
+cell : (s a b d A B D : Bool) → (((s && a) && (b && d)) && (A && (B && D)))
+    ≡ (s && ((a && A) && ((b && B) && (d && D))))
 cell false a b d A B D = refl
 cell true false b d A B D = refl
 cell true true b d A B D = by b d A B
@@ -195,7 +196,8 @@ by_columns p ids gs ms cs ls =
   where
     by : (s : Bool) → shape_fits p (length ids) (length gs) (length ms) (length cs) (length ls) ≡ s
         → (c : Bool) → cells_sound 1 1 cs ls ≡ c
-        → (s && (rising ids && rows_sound p ids gs ms cs ls)) ≡ (((s && rising ids) && c) && rows_sound p ids gs ms cs ls)
+        → (s && (rising ids && rows_sound p ids gs ms cs ls))
+        ≡ (((s && rising ids) && c) && rows_sound p ids gs ms cs ls)
     by false e c f = refl
     by true e true f = ap (λ t. t && rows_sound p ids gs ms cs ls) (sym (and-true (rising ids)))
     by true e false f =
