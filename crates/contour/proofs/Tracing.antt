@@ -1,4 +1,5 @@
 -- What holds while a contour is traced: the list, the buffer, the edge and what lies ahead of it. Assumes nothing.
+use Rattle.std.specs.Prelude.{Some, None}
 use mathlib.Core.{Path.◌≡◌, Path.refl, Path.sym, Path.ap, Path.◌∙◌, Path.subst, Bool.true, Bool.false}
 use Rattle.std.specs.Prelude.{ℕ, ◌+◌, ◌<◌, ◌≤◌, List, [], ◌++◌, length, take, drop, set}
 use mathlib.Core.List.{append_assoc, append-nil}
@@ -8,8 +9,7 @@ use lib.Seq.{take-suc-set, drop-set-lt, drop-drop, length-take-le}
 use Rattle.room.specs.Room.{put}
 use Rattle.network.specs.Edges.{WithinEdge}
 use Rattle.network.proofs.Numbers.{edge_within, at_number}
-use Rattle.contour_rules.specs.declared.Ahead.{Ahead}
-use Rattle.contour_rules.specs.declared.Ahead.TheVariants.{Square, Outside}
+use Rattle.contour_rules.specs.Crossings.{Ahead}
 use Rattle.contour_rules.specs.{Picture.Picture, Squares.side_edge, Squares.exit_of}
 use Rattle.contour_rules.specs.Crossings.{ahead_of, through, edges_in}
 use Rattle.contour_rules.specs.Crossings.{edge_of, crossed_at, next_at}
@@ -25,8 +25,8 @@ ahead_within g k n a l h =
     go a (subst (Entered g (edge_of g n)) (sym h) (entered g (edge_of g n) (edge_within g.nx g.ny k n l)))
   where
     go : (a : Ahead) → Entered g (edge_of g n) a → WithinAhead g.nx g.ny a
-    go (Square row col s) i = i.within
-    go Outside i = tt
+    go (Some a) i = i.within
+    go None i = tt
 
 -- a step leads to the next edge, and ahead of it lies what the step says
 pub steps_on : (g : Picture) → 2 ≤ g.nx → (n : ℕ) (a : Ahead) → n < edges_in g → crossed_at g n ≡ true
@@ -40,12 +40,12 @@ steps_on g k n a l x h = (ap (step_edge g) h, go a h)
 
     go : (a : Ahead) → a ≡ ahead_of g (edge_of g n) → step_edge g a < edges_in g
         → step_ahead g a ≡ ahead_of g (edge_of g (step_edge g a))
-    go (Square row col s) h b =
-        let e' = side_edge row col (exit_of g row col s) in
-        let i : edge_of g (step_edge g (Square row col s)) ≡ e' =
+    go (Some a) h b =
+        let e' = side_edge a.row a.col (exit_of g a.row a.col a.side) in
+        let i : edge_of g (step_edge g (Some a)) ≡ e' =
         at_number g.nx g.ny k e' (next_within g (edge_of g n) e' w (ap (through g) (sym h))) in
-        sym (ap (ahead_of g) i ∙ goes_beyond g (edge_of g n) w x row col s (sym h))
-    go Outside h b = absurd (omega arith)
+        sym (ap (ahead_of g) i ∙ goes_beyond g (edge_of g n) w x a.row a.col a.side (sym h))
+    go None h b = absurd (omega arith)
 
 pub record Going (g : Picture) (list₀ edges₀ : List ℕ) (from start : ℕ) (list edges : List ℕ) (n : ℕ)
     (ahead : Ahead) (at : ℕ) : Type 0 where

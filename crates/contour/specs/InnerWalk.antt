@@ -1,8 +1,8 @@
 -- Inner steps: no promise uses them. A line walked square by square, and what tracing one leaves. Assumes nothing.
+use Rattle.std.specs.Prelude.{Some, None}
 use Rattle.std.specs.Prelude.{◌≡◌, ℕ, ◌+◌, ◌<◌, ◌≤◌, true, List, length}
 use Rattle.room.specs.Room.{put}
-use Rattle.contour_rules.specs.declared.Ahead.{Ahead}
-use Rattle.contour_rules.specs.declared.Ahead.TheVariants.{Square, Outside}
+use Rattle.contour_rules.specs.Crossings.{Ahead}
 use Rattle.contour_rules.specs.Picture.{Picture}
 use Rattle.contour_rules.specs.Squares.{WithinSquare, exit_of}
 use Rattle.contour_rules.specs.Crossings.{beyond, through, next_number, ahead_of, edges_in, edge_of, crossed_at}
@@ -10,16 +10,16 @@ use Rattle.contour_rules.specs.Contours.{waits, waiting, contour_from, without}
 
 -- what lies ahead is in the network, or outside
 abbrev pub WithinAhead : ℕ → ℕ → Ahead → Type 0
-WithinAhead nx ny (Square row col s) = WithinSquare nx ny row col
-WithinAhead nx ny Outside = Unit {0}
+WithinAhead nx ny (Some a) = WithinSquare nx ny a.row a.col
+WithinAhead nx ny None = Unit {0}
 
 -- through the square ahead: the number of the edge by which the line leaves it, and what lies ahead there
 abbrev pub step_edge : Picture → Ahead → ℕ
 step_edge g a = next_number g.nx g.ny (through g a)
 
 abbrev pub step_ahead : Picture → Ahead → Ahead
-step_ahead g (Square row col s) = beyond g.nx g.ny row col (exit_of g row col s)
-step_ahead g Outside = Outside
+step_ahead g (Some a) = beyond g.nx g.ny a.row a.col (exit_of g a.row a.col a.side)
+step_ahead g None = None
 
 -- only crossed edges wait
 abbrev pub OnlyCrossed : Picture → List ℕ → Type 0

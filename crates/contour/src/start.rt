@@ -1,13 +1,12 @@
 // Where contours start.
 ghost use Rattle.std.specs.Prelude.{◌≡◌, ◌<◌, ◌&&◌, ◌||◌};
 ghost use Rattle.network.specs.Edges.{WithinEdge, edges as edge_count};
-ghost use Rattle.contour_rules.specs.Crossings.{first_in, ahead_of, edge_of, is_outside, enters_at};
+ghost use Rattle.contour_rules.specs.Crossings.{first_in, ahead_of, edge_of, enters_at};
 ghost use Rattle.contour_rules.specs.Contours.{waits};
 ghost use Rattle.contour.specs.InnerDesk.{pictured};
 
 use crate::walk;
 use crate::walk::Stand;
-use contour_rules::Ahead;
 use network::Edge;
 use network::inner::Network;
 
@@ -35,22 +34,13 @@ pub(crate) fn stand_at(network: Network, v: u32, n: usize) -> Stand
     }
 }
 
-fn outside(a: Ahead) -> bool
-    ensures { result ≡ is_outside a }
-{
-    match a {
-        Ahead::Square(_, _, _) => false,
-        Ahead::Outside => true,
-    }
-}
-
 // Whether a contour enters the network at the edge of that number.
 fn enters_at(network: Network, v: u32, n: usize) -> bool
     requires { n < edge_count network.nx network.ny }
     ensures { result ≡ enters_at (pictured network.entry v) n }
 {
     let e = network.edge_at(n);
-    network.crossed_edge(v, e) && outside(walk::across(network, !first_in(network, v, e), e))
+    network.crossed_edge(v, e) && walk::across(network, !first_in(network, v, e), e).is_none()
 }
 
 // Whether a contour starts at the edge, which must wait: an open one where it enters, a closed one at any.

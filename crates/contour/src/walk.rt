@@ -9,7 +9,7 @@ ghost use Rattle.contour_rules.specs.Contours.{waits};
 ghost use Rattle.contour.specs.InnerWalk.{WithinAhead, step_edge, step_ahead, Traceable, Traced};
 ghost use Rattle.contour.specs.InnerDesk.{pictured};
 
-use contour_rules::{Ahead, Side};
+use contour_rules::{Side, Square};
 use network::Edge;
 use network::inner::Network;
 
@@ -86,46 +86,62 @@ fn side_edge(row: usize, col: usize, s: Side) -> Edge
 }
 
 // What lies north, south, west and east of an edge.
-fn north_of(ny: usize, row: usize, col: usize) -> Ahead
+fn north_of(ny: usize, row: usize, col: usize) -> Option<Square>
     requires { row ≤ max_side }
     ensures { result ≡ north_of ny row col }
 {
     if row + 1 < ny {
-        return Ahead::Square(row, col, Side::South);
+        return Some(Square {
+            row,
+            col,
+            side: Side::South,
+        });
     }
-    Ahead::Outside
+    None
 }
 
-fn south_of(row: usize, col: usize) -> Ahead
+fn south_of(row: usize, col: usize) -> Option<Square>
     ensures { result ≡ south_of row col }
 {
     if row == 0 {
-        return Ahead::Outside;
+        return None;
     }
-    Ahead::Square(row - 1, col, Side::North)
+    Some(Square {
+        row: row - 1,
+        col,
+        side: Side::North,
+    })
 }
 
-fn west_of(row: usize, col: usize) -> Ahead
+fn west_of(row: usize, col: usize) -> Option<Square>
     ensures { result ≡ west_of row col }
 {
     if col == 0 {
-        return Ahead::Outside;
+        return None;
     }
-    Ahead::Square(row, col - 1, Side::East)
+    Some(Square {
+        row,
+        col: col - 1,
+        side: Side::East,
+    })
 }
 
-fn east_of(nx: usize, row: usize, col: usize) -> Ahead
+fn east_of(nx: usize, row: usize, col: usize) -> Option<Square>
     requires { col ≤ max_side }
     ensures { result ≡ east_of nx row col }
 {
     if col + 1 < nx {
-        return Ahead::Square(row, col, Side::West);
+        return Some(Square {
+            row,
+            col,
+            side: Side::West,
+        });
     }
-    Ahead::Outside
+    None
 }
 
 // What lies beyond a side of the square.
-fn beyond_side(network: Network, row: usize, col: usize, s: Side) -> Ahead
+fn beyond_side(network: Network, row: usize, col: usize, s: Side) -> Option<Square>
     requires { (row < max_side) × (col < max_side) }
     ensures { result ≡ beyond network.entry.nx network.entry.ny row col s }
 {
@@ -138,7 +154,7 @@ fn beyond_side(network: Network, row: usize, col: usize, s: Side) -> Ahead
 }
 
 // Across an edge with its west or south end on the left, or on the right.
-pub(crate) fn across(network: Network, left: bool, e: Edge) -> Ahead
+pub(crate) fn across(network: Network, left: bool, e: Edge) -> Option<Square>
     requires { WithinEdge network.nx network.ny e }
     ensures { result ≡ across_of network.entry.nx network.entry.ny left e }
 {
@@ -162,28 +178,28 @@ pub(crate) fn across(network: Network, left: bool, e: Edge) -> Ahead
 #[derive(Clone, Copy)]
 pub struct Stand {
     pub edge: usize,
-    pub ahead: Ahead,
+    pub ahead: Option<Square>,
 }
 
 // Through the square ahead to the edge by which the line leaves it. Outside the network stands the number of edges,
 // which is no edge's.
-fn step(network: Network, v: u32, ahead: Ahead) -> Stand
+fn step(network: Network, v: u32, ahead: Option<Square>) -> Stand
     requires { WithinAhead network.nx network.ny ahead }
     ensures { (result.edge ≡ step_edge (pictured network.entry v) ahead)
         × (result.ahead ≡ step_ahead (pictured network.entry v) ahead) }
 {
     match ahead {
-        Ahead::Square(row, col, s) => {
-            let exit = exit_side(network, v, row, col, s);
+        Some(Square { row, col, side }) => {
+            let exit = exit_side(network, v, row, col, side);
             let edge = network.number_of(side_edge(row, col, exit));
             Stand {
                 edge,
                 ahead: beyond_side(network, row, col, exit),
             }
         }
-        Ahead::Outside => Stand {
+        None => Stand {
             edge: network.edge_count(),
-            ahead: Ahead::Outside,
+            ahead: None,
         },
     }
 }

@@ -1,14 +1,16 @@
 -- The edge that a crossed edge leads to is crossed, and leads back when the lines are walked backwards: so no two
 -- crossed edges lead to the same one. Assumes nothing.
+use Rattle.std.specs.Prelude.{Some, None}
 use mathlib.Core.Path.{◌≡◌, refl, sym, ap, ◌∙◌, subst}
 use mathlib.Core.Bool.{Bool, true, false, not}
 use Prim.Native.Nat.{ℕ}
 use native.Mathlib.Omega.{arith}
 use Rattle.network.specs.declared.Edge.{Edge}
 use Rattle.network.specs.declared.Edge.TheVariants.{Horizontal, Vertical}
-use Rattle.contour_rules.specs.declared.{Side.Side, Ahead.Ahead}
+use Rattle.contour_rules.specs.declared.Side.{Side}
+use Rattle.contour_rules.specs.Crossings.{Ahead}
 use Rattle.contour_rules.specs.declared.Side.TheVariants.{South, East, North, West}
-use Rattle.contour_rules.specs.declared.Ahead.TheVariants.{Square, Outside}
+use Rattle.contour_rules.specs.Crossings.{into}
 use Rattle.network.specs.Edges.{WithinEdge}
 use Rattle.contour_rules.specs.Picture.{Picture}
 use Rattle.contour_rules.specs.Squares.{turn, side_edge, corner, exit_side, exit_of}
@@ -93,7 +95,7 @@ module _ (g : Picture) (e : Edge) (w : WithinEdge g.nx g.ny e) (x : crossed g e 
       let t = exit_of g row col s in
       let k : corner g row col t ≡ false × corner g row col (turn t) ≡ true =
       leaves (corner g row col) s (i.left x) (i.right x) (g.cut row col) in
-      let ahead : ahead_of (reversed g) (side_edge row col t) ≡ Square row col t =
+      let ahead : ahead_of (reversed g) (side_edge row col t) ≡ into row col t =
       heads_in (reversed g) row col t i.within (reversed-corner g row col t ∙ ap not k.0)
       (reversed-corner g row col (turn t) ∙ ap not k.1) in
       let again : exit_of (reversed g) row col t ≡ s =
@@ -109,12 +111,12 @@ module _ (g : Picture) (e : Edge) (w : WithinEdge g.nx g.ny e) (x : crossed g e 
   leads e' h = go (ahead_of g e) (entered g e w) h
     where
       go : (a : Ahead) → Entered g e a → through g a ≡ To e' → Leads g e e'
-      go (Square row col s) i h = let q : side_edge row col (exit_of g row col s) ≡ e' = cc in
-          subst (Leads g e) q (through_square row col s i)
-      go Outside i h = absurd (never (cc))
+      go (Some a) i h = let q : side_edge a.row a.col (exit_of g a.row a.col a.side) ≡ e' = cc in
+          subst (Leads g e) q (through_square a.row a.col a.side i)
+      go None i h = absurd (never (cc))
 
   -- and the line goes on beyond the side by which it leaves
-  pub goes_beyond : (row col : ℕ) (s : Side) → ahead_of g e ≡ Square row col s
+  pub goes_beyond : (row col : ℕ) (s : Side) → ahead_of g e ≡ into row col s
       → ahead_of g (side_edge row col (exit_of g row col s)) ≡ beyond g.nx g.ny row col (exit_of g row col s)
   goes_beyond row col s h =
       let i : Entry g e row col s = subst (Entered g e) h (entered g e w) in

@@ -1,4 +1,5 @@
 -- A contour goes from edge to edge as the rules say of the levels. Assumes nothing.
+use Rattle.std.specs.Prelude.{None}
 use mathlib.Core.Path.{◌≡◌, refl, sym, ap, ◌∙◌, subst}
 use mathlib.Core.Bool.{Bool, true, false, not, ◌&&◌, cond, true≢false}
 use mathlib.Core.{Logic.◌⊎◌, Logic.inl, Logic.inr, Logic.⊎_elim, Logic.◌↔◌, List.List}
@@ -11,9 +12,10 @@ use Rattle.network.specs.declared.Edge.{Edge}
 use Rattle.network.specs.declared.Edge.TheVariants.{Horizontal, Vertical}
 use Rattle.network.specs.{Edges.number_of, Edges.WithinEdge, Crossed.unlike, Numbering.In, Numbering.Out}
 use Rattle.network.proofs.{Numbers.at_number, Numbering.crossed_exactly}
-use Rattle.contour_rules.specs.declared.{Side.Side, Ahead.Ahead}
+use Rattle.contour_rules.specs.declared.Side.{Side}
+use Rattle.contour_rules.specs.Crossings.{Ahead}
 use Rattle.contour_rules.specs.declared.Side.TheVariants.{South, East, North, West}
-use Rattle.contour_rules.specs.declared.Ahead.TheVariants.{Square, Outside}
+use Rattle.contour_rules.specs.Crossings.{into}
 use Rattle.contour_rules.specs.Picture.{Picture, picture, cut_of}
 use Rattle.contour_rules.specs.Squares.{turn, side_edge, corner, exit_of}
 use Rattle.contour_rules.specs.Crossings.{north_of, south_of, west_of, east_of, crossed, behind_of}
@@ -27,12 +29,12 @@ use Rattle.contour_rules.proofs.Back.{four_turns, leads}
 -- ---- what lies outside
 
 outside_if : {P : Type 0} (b : Bool) (row col : ℕ) (s : Side) → (b ≡ false) ↔ P
-    → (is_outside (cond b (Square row col s) Outside) ≡ true) ↔ P
+    → (is_outside (cond b (into row col s) None) ≡ true) ↔ P
 outside_if true row col s i = (λ h. absurd (true≢false (sym h)), λ p. absurd (true≢false (i.1 p)))
 outside_if false row col s i = (λ h. i.0 refl, λ p. refl)
 
 outside_unless : {P : Type 0} (b : Bool) (row col : ℕ) (s : Side) → (b ≡ true) ↔ P
-    → (is_outside (cond b Outside (Square row col s)) ≡ true) ↔ P
+    → (is_outside (cond b None (into row col s)) ≡ true) ↔ P
 outside_unless true row col s i = (λ h. i.0 refl, λ p. refl)
 outside_unless false row col s i = (λ h. absurd (true≢false (sym h)), λ p. absurd (true≢false (sym (i.1 p))))
 

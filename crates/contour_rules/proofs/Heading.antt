@@ -1,5 +1,6 @@
 -- What a crossing heads into: a square of the network that has the edge as the side by which it is entered, with
 -- the in corner on the left. Assumes nothing.
+use Rattle.std.specs.Prelude.{Some, None}
 use mathlib.Core.Path.{◌≡◌, refl, sym, ap, subst}
 use mathlib.Core.Bool.{Bool, true, false, ◌||◌, cond, true≢false}
 use Prim.Native.Nat.{ℕ, ◌+◌, ◌-◌, ◌<◌}
@@ -8,9 +9,10 @@ use borrow.Author.Tests.{ltb-true, ltb-false, eqb-false, lt-ltb, eq-eqb, ne_eqb}
 use lib.Dec.{ltb, eqb}
 use Rattle.network.specs.declared.Edge.{Edge}
 use Rattle.network.specs.declared.Edge.TheVariants.{Horizontal, Vertical}
-use Rattle.contour_rules.specs.declared.{Side.Side, Ahead.Ahead}
+use Rattle.contour_rules.specs.declared.Side.{Side}
+use Rattle.contour_rules.specs.Crossings.{Ahead}
 use Rattle.contour_rules.specs.declared.Side.TheVariants.{South, East, North, West}
-use Rattle.contour_rules.specs.declared.Ahead.TheVariants.{Square, Outside}
+use Rattle.contour_rules.specs.Crossings.{into}
 use Rattle.network.specs.{Edges.WithinEdge, Crossed.unlike}
 use Rattle.network.proofs.Numbers.{by_cond}
 use Rattle.contour_rules.specs.Picture.{Picture}
@@ -29,8 +31,8 @@ pub record Entry (g : Picture) (e : Edge) (row col : ℕ) (s : Side) : Type 0 wh
   pub right : crossed g e ≡ true → corner g row col (turn s) ≡ false
 
 abbrev pub Entered : Picture → Edge → Ahead → Type 0
-Entered g e (Square row col s) = Entry g e row col s
-Entered g e Outside = Unit {0}
+Entered g e (Some a) = Entry g e a.row a.col a.side
+Entered g e None = Unit {0}
 
 back_one : (n : ℕ) → (n ≡ 0 → ⊥) → n ≡ n - 1 + 1
 back_one n h = omega arith
@@ -84,7 +86,7 @@ side_within nx ny row col West w = (w.0, omega (arith, w.1))
 -- a side with the corner on the left in, and the one on the right out, heads into the square
 pub heads_in : (g : Picture) (row col : ℕ) (s : Side) → WithinSquare g.nx g.ny row col
     → corner g row col s ≡ true → corner g row col (turn s) ≡ false
-    → ahead_of g (side_edge row col s) ≡ Square row col s
+    → ahead_of g (side_edge row col s) ≡ into row col s
 heads_in g row col South w l r = simp (l, lt-ltb _ _ w.0)
 heads_in g row col East w l r = simp (l, ne_eqb (col + 1) 0 (λ h. omega arith), add-sub_cancel)
 heads_in g row col North w l r = simp (r, ne_eqb (row + 1) 0 (λ h. omega arith), add-sub_cancel)
@@ -116,10 +118,10 @@ pub next_within : (g : Picture) (e e' : Edge) → WithinEdge g.nx g.ny e → nex
 next_within g e e' w h = go (ahead_of g e) (entered g e w) h
   where
     go : (a : Ahead) → Entered g e a → through g a ≡ To e' → WithinEdge g.nx g.ny e'
-    go (Square row col s) i h =
-        let q : side_edge row col (exit_of g row col s) ≡ e' = cc in
-        subst (WithinEdge g.nx g.ny) q (side_within g.nx g.ny row col (exit_of g row col s) i.within)
-    go Outside i h = absurd (never (cc))
+    go (Some a) i h =
+        let q : side_edge a.row a.col (exit_of g a.row a.col a.side) ≡ e' = cc in
+        subst (WithinEdge g.nx g.ny) q (side_within g.nx g.ny a.row a.col (exit_of g a.row a.col a.side) i.within)
+    go None i h = absurd (never (cc))
 
 -- ---- the sides by which a line enters and leaves a square differ
 
@@ -155,12 +157,12 @@ or-true true b h = refl
 or-true false b h = h
 
 -- a step out of the network, by which way its test went
-out_else : (row col : ℕ) (s : Side) (b : Bool) → is_outside (cond b (Square row col s) Outside) ≡ true
+out_else : (row col : ℕ) (s : Side) (b : Bool) → is_outside (cond b (into row col s) None) ≡ true
     → b ≡ false
 out_else row col s true h = absurd (true≢false (sym h))
 out_else row col s false h = refl
 
-out_then : (row col : ℕ) (s : Side) (b : Bool) → is_outside (cond b Outside (Square row col s)) ≡ true
+out_then : (row col : ℕ) (s : Side) (b : Bool) → is_outside (cond b None (into row col s)) ≡ true
     → b ≡ true
 out_then row col s true h = refl
 out_then row col s false h = absurd (true≢false (sym h))

@@ -1,12 +1,12 @@
 -- The same by the edges' numbers: where a crossed edge leads, and where it comes from. Assumes nothing.
+use Rattle.std.specs.Prelude.{Some, None}
 use mathlib.Core.Path.{◌≡◌, refl, sym, ap, ◌∙◌, subst}
 use mathlib.Core.Bool.{Bool, true, false, not, ◌&&◌, not-not, true≢false}
 use Prim.Native.Nat.{ℕ, ◌+◌, ◌≤◌, ◌<◌}
 use native.Mathlib.{Nat.le_of_eq, Omega.arith}
 use Rattle.network.specs.declared.Edge.{Edge}
 use Rattle.network.specs.declared.Edge.TheVariants.{Horizontal, Vertical}
-use Rattle.contour_rules.specs.declared.Ahead.{Ahead}
-use Rattle.contour_rules.specs.declared.Ahead.TheVariants.{Square, Outside}
+use Rattle.contour_rules.specs.Crossings.{Ahead}
 use Rattle.network.specs.{Edges.number_of, Edges.WithinEdge, Crossed.unlike}
 use Rattle.contour_rules.specs.{Picture.Picture, Squares.turn, Squares.corner, Squares.side_edge, Squares.exit_of}
 use Rattle.contour_rules.specs.Crossings.{crossed, first_in, ahead_of, behind_of, Next, To, Out, through}
@@ -78,14 +78,14 @@ next_le g k n l = go (next_of g (edge_of g n)) refl
 outside_out : (g : Picture) → 2 ≤ g.nx → (n : ℕ) → n < edges_in g → (a : Ahead)
     → ahead_of g (edge_of g n) ≡ a
     → (is_outside a ≡ true → edges_in g ≤ next_at g n) × (is_outside a ≡ false → next_at g n < edges_in g)
-outside_out g k n l Outside h = (
+outside_out g k n l None h = (
   λ _. le_of_eq (sym (ap (λ (a : Ahead). next_number g.nx g.ny (through g a)) h)),
   λ q. absurd (true≢false q),
 )
-outside_out g k n l (Square row col s) h = (
+outside_out g k n l (Some a) h = (
   λ q. absurd (true≢false (sym q)),
   λ _.
-      let t = side_edge row col (exit_of g row col s) in
+      let t = side_edge a.row a.col (exit_of g a.row a.col a.side) in
       let e : next_of g (edge_of g n) ≡ To t = ap (through g) h in
       subst (λ (i : ℕ). i < edges_in g) (sym (ap (next_number g.nx g.ny) e))
       (number_lt g.nx g.ny k t (next_within g (edge_of g n) t (edge_within g.nx g.ny k n l) e)),
@@ -114,18 +114,18 @@ neighbours_at g k n l b =
     go : (a : Ahead) → ahead_of g (edge_of g n) ≡ a → Entered g (edge_of g n) a
         → next_number g.nx g.ny (through g a) < edges_in g
         → Neighbours g n (next_number g.nx g.ny (through g a))
-    go (Square row col s) h i b = record {
-      row = row;
-      col = col;
-      side = s;
-      side' = exit_of g row col s;
+    go (Some a) h i b = record {
+      row = a.row;
+      col = a.col;
+      side = a.side;
+      side' = exit_of g a.row a.col a.side;
       within = i.within;
       first = sym (number_at_rule g.nx g.ny k n l) ∙ ap (number_of g.nx g.ny) i.edge;
       second = refl;
-      differ = leaves_elsewhere (corner g row col (turn (turn s))) (corner g row col (turn (turn (turn s))))
-          (g.cut row col) s;
+      differ = leaves_elsewhere (corner g a.row a.col (turn (turn a.side)))
+          (corner g a.row a.col (turn (turn (turn a.side)))) (g.cut a.row a.col) a.side;
     }
-    go Outside h i b = absurd (omega arith)
+    go None h i b = absurd (omega arith)
 
 -- a line comes in and goes out over the border only
 pub enters_border : (g : Picture) → 2 ≤ g.nx → (n : ℕ) → n < edges_in g → enters_at g n ≡ true

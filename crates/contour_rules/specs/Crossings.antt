@@ -1,5 +1,6 @@
 -- Which edges a contour crosses, where a crossing heads, and the edge that it leads to: RULES, "Network and contours".
 -- Assumes nothing.
+use Rattle.std.specs.Prelude.{Option, Some, None}
 use Rattle.std.specs.Prelude.{Bool, true, false, not, ◌&&◌, ◌||◌, cond, ℕ, ◌+◌, ◌-◌, ltb, eqb}
 use Rattle.network.specs.declared.Edge.{Edge}
 use Rattle.network.specs.declared.Edge.TheVariants.{Horizontal, Vertical}
@@ -7,8 +8,7 @@ use Rattle.network.specs.Edges.{edges, number_of, edge_at}
 use Rattle.network.specs.Crossed.{crossed_by}
 use Rattle.contour_rules.specs.declared.Side.{Side}
 use Rattle.contour_rules.specs.declared.Side.TheVariants.{South, East, North, West}
-use Rattle.contour_rules.specs.declared.Ahead.{Ahead}
-use Rattle.contour_rules.specs.declared.Ahead.TheVariants.{Square, Outside}
+use Rattle.contour_rules.specs.declared.Square.{Square}
 use Rattle.contour_rules.specs.Picture.{Picture}
 use Rattle.contour_rules.specs.Squares.{side_edge, exit_of}
 
@@ -16,18 +16,26 @@ use Rattle.contour_rules.specs.Squares.{side_edge, exit_of}
 abbrev pub crossed : Picture → Edge → Bool
 crossed g e = crossed_by g.inside e
 
+-- what a crossing heads into: a square by its row and column and the side by which it is entered, or none outside the
+-- network
+abbrev pub Ahead : Type 0
+Ahead = Option Square
+
+abbrev pub into : ℕ → ℕ → Side → Ahead
+into row col s = Some (record { row = row; col = col; side = s })
+
 -- what lies north, south, west and east of an edge: the square with the side by which it is entered
 abbrev pub north_of : ℕ → ℕ → ℕ → Ahead
-north_of ny row col = cond (ltb (row + 1) ny) (Square row col South) Outside
+north_of ny row col = cond (ltb (row + 1) ny) (into row col South) None
 
 abbrev pub south_of : ℕ → ℕ → Ahead
-south_of row col = cond (eqb row 0) Outside (Square (row - 1) col North)
+south_of row col = cond (eqb row 0) None (into (row - 1) col North)
 
 abbrev pub west_of : ℕ → ℕ → Ahead
-west_of row col = cond (eqb col 0) Outside (Square row (col - 1) East)
+west_of row col = cond (eqb col 0) None (into row (col - 1) East)
 
 abbrev pub east_of : ℕ → ℕ → ℕ → Ahead
-east_of nx row col = cond (ltb (col + 1) nx) (Square row col West) Outside
+east_of nx row col = cond (ltb (col + 1) nx) (into row col West) None
 
 -- what lies beyond a square's side
 abbrev pub beyond : (nx ny row col : ℕ) (s : Side) → Ahead
@@ -60,15 +68,15 @@ pub data Next : Type 0 where
   Out : Next
 
 abbrev pub through : Picture → Ahead → Next
-through g (Square row col s) = To (side_edge row col (exit_of g row col s))
-through g Outside = Out
+through g (Some a) = To (side_edge a.row a.col (exit_of g a.row a.col a.side))
+through g None = Out
 
 abbrev pub next_of : Picture → Edge → Next
 next_of g e = through g (ahead_of g e)
 
 abbrev pub is_outside : Ahead → Bool
-is_outside Outside = true
-is_outside (Square row col s) = false
+is_outside None = true
+is_outside (Some a) = false
 
 -- an edge of the border: a horizontal one of the south or north row, a vertical one of the west or east column
 abbrev pub on_border : ℕ → ℕ → Edge → Bool

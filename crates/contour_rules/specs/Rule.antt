@@ -1,5 +1,6 @@
 -- How a contour goes from edge to edge: RULES, "Network and contours", said of the levels themselves.
 -- Assumes nothing.
+use Rattle.std.specs.Prelude.{None}
 use Rattle.std.specs.Prelude.{◌≡◌, true, ◌⊎◌, ◌↔◌, List, ℕ, ◌+◌, ◌-◌, ◌*◌, ◌≤◌, ◌<◌}
 use Rattle.network.specs.declared.Edge.{Edge}
 use Rattle.network.specs.declared.Edge.TheVariants.{Horizontal, Vertical}
@@ -7,7 +8,7 @@ use Rattle.network.specs.Edges.{edges, number_of, WithinEdge}
 use Rattle.network.specs.Numbering.{point_level, In, Out, OneIn}
 use Rattle.contour_rules.specs.declared.Side.{Side}
 use Rattle.contour_rules.specs.declared.Side.TheVariants.{South, East, North, West}
-use Rattle.contour_rules.specs.declared.Ahead.TheVariants.{Square, Outside}
+use Rattle.contour_rules.specs.Crossings.{into}
 use Rattle.contour_rules.specs.Picture.{Picture, picture}
 use Rattle.contour_rules.specs.Squares.{side_edge}
 use Rattle.contour_rules.specs.Crossings.{crossed, ahead_of, edges_in, crossed_at, enters_at, next_at}
@@ -51,15 +52,15 @@ module _ (levels : List ℕ) (nx ny v : ℕ) where
   -- Each crossing heads across its edge with the in end on its left, into the square there, or out.
   pub record Heads (row col : ℕ) : Type 0 where
     -- west end in: north; west end out: south
-    pub north : In levels nx v row col → row + 1 < ny → ahead_of lines (Horizontal row col) ≡ Square row col South
-    pub north_out : In levels nx v row col → row + 1 ≡ ny → ahead_of lines (Horizontal row col) ≡ Outside
-    pub south : Out levels nx v (row + 1) col → ahead_of lines (Horizontal (row + 1) col) ≡ Square row col North
-    pub south_out : Out levels nx v 0 col → ahead_of lines (Horizontal 0 col) ≡ Outside
+    pub north : In levels nx v row col → row + 1 < ny → ahead_of lines (Horizontal row col) ≡ into row col South
+    pub north_out : In levels nx v row col → row + 1 ≡ ny → ahead_of lines (Horizontal row col) ≡ None
+    pub south : Out levels nx v (row + 1) col → ahead_of lines (Horizontal (row + 1) col) ≡ into row col North
+    pub south_out : Out levels nx v 0 col → ahead_of lines (Horizontal 0 col) ≡ None
     -- south end in: west; south end out: east
-    pub west : In levels nx v row (col + 1) → ahead_of lines (Vertical row (col + 1)) ≡ Square row col East
-    pub west_out : In levels nx v row 0 → ahead_of lines (Vertical row 0) ≡ Outside
-    pub east : Out levels nx v row col → col + 1 < nx → ahead_of lines (Vertical row col) ≡ Square row col West
-    pub east_out : Out levels nx v row col → col + 1 ≡ nx → ahead_of lines (Vertical row col) ≡ Outside
+    pub west : In levels nx v row (col + 1) → ahead_of lines (Vertical row (col + 1)) ≡ into row col East
+    pub west_out : In levels nx v row 0 → ahead_of lines (Vertical row 0) ≡ None
+    pub east : Out levels nx v row col → col + 1 < nx → ahead_of lines (Vertical row col) ≡ into row col West
+    pub east_out : Out levels nx v row col → col + 1 ≡ nx → ahead_of lines (Vertical row col) ≡ None
 
   -- A contour enters over a crossed edge of the border that heads inwards.
   pub record EntersExactly (row col : ℕ) : Type 0 where
@@ -86,7 +87,7 @@ module _ (levels : List ℕ) (nx ny v : ℕ) where
   pub record Entering (row col : ℕ) (s : Side) : Type 0 where
     pub within : (row + 1 < ny) × (col + 1 < nx)
     pub crossing : IsCrossed (side_edge row col s)
-    pub heads : ahead_of lines (side_edge row col s) ≡ Square row col s
+    pub heads : ahead_of lines (side_edge row col s) ≡ into row col s
 
   pub record FollowsRule : Type 0 where
     pub sides : (row col : ℕ) → SquareSides row col
@@ -102,5 +103,5 @@ module _ (levels : List ℕ) (nx ny v : ℕ) where
     pub four : (row col : ℕ) (s : Side) → Entering row col s → ((t : Side) → IsCrossed (side_edge row col t))
         → CutsOff row col s
     -- one that heads out of the network leads to no edge
-    pub none : (e : Edge) → WithinEdge nx ny e → ahead_of lines e ≡ Outside
+    pub none : (e : Edge) → WithinEdge nx ny e → ahead_of lines e ≡ None
         → next_at lines (number_of nx ny e) ≡ edges nx ny

@@ -11,9 +11,10 @@ pub enum Side {
     West,
 }
 
-// What a crossing heads into: the square of that row and column, by that side, or out of the network.
+// A square that a crossing heads into, by its row and column, and the side by which it is entered.
 #[derive(Clone, Copy)]
-pub enum Ahead {
-    Square(usize, usize, Side),
-    Outside,
+pub struct Square {
+    pub row: usize,
+    pub col: usize,
+    pub side: Side,
 }

@@ -1,4 +1,5 @@
 -- The rule's step, and a way in or out over the border, is where the edge leads. Assumes nothing.
+use Rattle.std.specs.Prelude.{Option, Some, None}
 use mathlib.Core.Path.{◌≡◌, refl, sym, ap, ◌∙◌, subst}
 use mathlib.Core.{Bool.Bool, Bool.true, Bool.false, Bool.cond, List.List}
 use mathlib.Core.Logic.{◌⊎◌, inl, inr, ⊎_elim}
@@ -8,9 +9,10 @@ use borrow.Author.Tests.{le-leb, lt-leb, le-ltb, eq-eqb}
 use Rattle.network.specs.declared.Edge.{Edge}
 use Rattle.network.specs.{Edges.number_of, Edges.WithinEdge}
 use Rattle.network.proofs.Numbers.{number_lt, at_number}
-use Rattle.contour_rules.specs.declared.{Side.Side, Ahead.Ahead}
+use Rattle.contour_rules.specs.declared.Side.{Side}
+use Rattle.contour_rules.specs.Crossings.{Ahead}
 use Rattle.contour_rules.specs.declared.Side.TheVariants.{South, East, North, West}
-use Rattle.contour_rules.specs.declared.Ahead.TheVariants.{Square, Outside}
+use Rattle.contour_rules.specs.Crossings.{into}
 use Rattle.contour_rules.specs.{Picture.Picture, Picture.cut_of, Squares.turn, Squares.side_edge, Squares.corner}
 use Rattle.contour_rules.specs.Squares.{exit_of}
 use Rattle.contour_rules.specs.Crossings.{ahead_of, beyond, through, next_of, next_number, edges_in, enters_at}
@@ -66,7 +68,7 @@ module _ (levels : List ℕ) (nx ny v : ℕ) (wide : 2 ≤ nx) where
     outs : (k s.side' ≡ false) × (k (turn s.side') ≡ true)
     outs = out_corners levels nx ny v wide row col s.side' s.leaves
 
-    heads : ahead_of g (side_edge row col s.side) ≡ Square row col s.side
+    heads : ahead_of g (side_edge row col s.side) ≡ into row col s.side
     heads = heads_in g row col s.side s.within ins.0 ins.1
 
     entering : Entering levels nx ny v row col s.side
@@ -179,7 +181,7 @@ module _ (levels : List ℕ) (nx ny v : ℕ) (wide : 2 ≤ nx) where
       low = subst (λ (i : ℕ). i < edges_in g) (sym e)
           (number_lt nx ny wide (side_edge c.row c.col c.side) inside)
 
-      past : (row col : ℕ) (s : Side) → OnBorder nx ny row col s → beyond nx ny row col s ≡ Outside
+      past : (row col : ℕ) (s : Side) → OnBorder nx ny row col s → beyond nx ny row col s ≡ None
       past row col South b = rw (eq-eqb row 0 b)
       past row col East b = rw (le-ltb (col + 1 + 1) nx (omega arith))
       past row col North b = rw (le-ltb (row + 1 + 1) ny (omega arith))

@@ -1,4 +1,5 @@
 -- The sides and corners of a square by the levels. Assumes nothing.
+use Rattle.std.specs.Prelude.{Option, Some, None}
 use mathlib.Core.Path.{◌≡◌, refl, sym, ap, ◌∙◌}
 use mathlib.Core.{Bool.Bool, Bool.true, Bool.false, Bool.cond, List.List}
 use mathlib.Core.Logic.{◌⊎◌, inl, inr, ⊎_elim}
@@ -12,7 +13,7 @@ use Rattle.network.specs.{Edges.number_of, Edges.edge_at, Crossed.unlike}
 use Rattle.network.proofs.{Numbers.at_number}
 use Rattle.contour_rules.specs.declared.{Side.Side}
 use Rattle.contour_rules.specs.declared.Side.TheVariants.{South, East, North, West}
-use Rattle.contour_rules.specs.declared.Ahead.TheVariants.{Square}
+use Rattle.contour_rules.specs.Crossings.{into}
 use Rattle.contour_rules.specs.Picture.{Picture}
 use Rattle.contour_rules.specs.Squares.{WithinSquare, turn, side_edge, corner}
 use Rattle.contour_rules.specs.Crossings.{crossed, behind_of}
@@ -115,7 +116,7 @@ module _ (levels : List ℕ) (nx ny v : ℕ) (wide : 2 ≤ nx) where
 
     -- a side that heads out of the square comes from it
     pub behind_in : WithinSquare nx ny row col → (s : Side) → corner g row col s ≡ false
-        → corner g row col (turn s) ≡ true → behind_of g (side_edge row col s) ≡ Square row col s
+        → corner g row col (turn s) ≡ true → behind_of g (side_edge row col s) ≡ into row col s
     behind_in w South l r = simp (l, lt-ltb _ _ w.0)
     behind_in w East l r = simp (l, ne_eqb (col + 1) 0 (λ h. omega arith), add-sub_cancel)
     behind_in w North l r = simp (r, ne_eqb (row + 1) 0 (λ h. omega arith), add-sub_cancel)

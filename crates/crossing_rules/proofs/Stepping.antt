@@ -1,4 +1,5 @@
 -- What a crossed edge leads to is the rule's step, said of the levels. Assumes nothing.
+use Rattle.std.specs.Prelude.{Option, Some, None}
 use mathlib.Core.Path.{◌≡◌, refl, sym, ap, ◌∙◌, subst}
 use mathlib.Core.{Bool.Bool, Bool.true, Bool.false, Bool.◌||◌, List.List}
 use mathlib.Core.Logic.{inl, inr, ⊎_elim}
@@ -10,9 +11,10 @@ use Rattle.network.specs.declared.Edge.{Edge}
 use Rattle.network.specs.declared.Edge.TheVariants.{Horizontal, Vertical}
 use Rattle.network.specs.{Edges.number_of, Edges.WithinEdge}
 use Rattle.network.proofs.{Refusals.both, Numbers.number_lt, Numbers.edge_within, Numbers.number_at_rule}
-use Rattle.contour_rules.specs.declared.{Side.Side, Ahead.Ahead}
+use Rattle.contour_rules.specs.declared.Side.{Side}
+use Rattle.contour_rules.specs.Crossings.{Ahead}
 use Rattle.contour_rules.specs.declared.Side.TheVariants.{South, East, North, West}
-use Rattle.contour_rules.specs.declared.Ahead.TheVariants.{Square, Outside}
+use Rattle.contour_rules.specs.Crossings.{into}
 use Rattle.contour_rules.specs.Picture.{Picture}
 use Rattle.contour_rules.specs.Squares.{WithinSquare, turn, side_edge, corner, exit_of}
 use Rattle.contour_rules.specs.Crossings.{crossed, ahead_of, behind_of, through, is_outside, on_border, edges_in}
@@ -89,7 +91,7 @@ module _ (levels : List ℕ) (nx ny v : ℕ) (wide : 2 ≤ nx) where
   -- ---- from edge to edge
 
   module _ (n : ℕ) (low : n < edges_in g) (x : crossed_at g n ≡ true) where
-    module _ (row col : ℕ) (s : Side) (h : ahead_of g (edge_of g n) ≡ Square row col s) where
+    module _ (row col : ℕ) (s : Side) (h : ahead_of g (edge_of g n) ≡ into row col s) where
       entry : Entry g (edge_of g n) row col s
       entry = subst (Entered g (edge_of g n)) h (entered g (edge_of g n) (edge_within nx ny wide n low))
 
@@ -117,7 +119,7 @@ module _ (levels : List ℕ) (nx ny v : ℕ) (wide : 2 ≤ nx) where
       entering = record {
         within = entry.within;
         crossing = subst (λ (e : Edge). crossed g e ≡ true) entry.edge x;
-        heads = subst (λ (e : Edge). ahead_of g e ≡ Square row col s) entry.edge h;
+        heads = subst (λ (e : Edge). ahead_of g e ≡ into row col s) entry.edge h;
       }
 
       cuts_off : ((t : Side) → Unlike (corner g row col) t) → CutOff levels nx ny v row col s s'
@@ -166,8 +168,8 @@ module _ (levels : List ℕ) (nx ny v : ℕ) (wide : 2 ≤ nx) where
             (side_within nx ny i.row i.col i.side' i.within))
 
         go : (a : Ahead) → ahead_of g (edge_of g n) ≡ a → Step levels nx ny v n m
-        go (Square row col s) h = subst (Step levels nx ny v n) f.leads (through_square row col s h)
-        go Outside h =
+        go (Some a) h = subst (Step levels nx ny v n) f.leads (through_square a.row a.col a.side h)
+        go None h =
             let e : next_at g n ≡ edges_in g = ap (λ (a : Ahead). next_number nx ny (through g a)) h in
             absurd (omega (arith, below, f.leads, e))
 
