@@ -5,7 +5,6 @@ ghost use Rattle.contours_steps.specs.InnerIntake.{ArgumentTaken};
 
 use channel::words::{argument, argument_count};
 use contours_steps::words::{Given, take_word};
-use refusal::both;
 
 // Reads the program's arguments once: the levels that they spell, in their order, and how many words there are.
 pub(crate) fn gather(rt: &HostRuntime, asked: &mut [u32]) -> Given
@@ -13,11 +12,8 @@ pub(crate) fn gather(rt: &HostRuntime, asked: &mut [u32]) -> Given
 {
     let count = argument_count(rt);
     let mut fit = true;
-    let mut i = 0;
-    while i < count {
-        let good = word_at(rt, asked, i);
-        fit = both(fit, good);
-        i += 1;
+    for place in 0..count {
+        fit &= word_at(rt, asked, place);
     }
     Given { count, fit }
 }

@@ -8,7 +8,8 @@ mod input;
 mod print;
 mod say;
 
-ghost use Rattle.std.specs.Prelude.{◌≡◌, length, ◌≢◌};
+ghost use Rattle.std.specs.Prelude.{◌≡◌, length};
+ghost use Rattle.refusal.specs.Refusal.{number_of};
 ghost use Rattle.channel.specs.System.Origin.{input};
 ghost use Rattle.channel.specs.Input.{Fills};
 ghost use Rattle.channel.specs.Run.{Run};
@@ -22,6 +23,7 @@ use contours_steps::inner::intake::{line_begun, overlong_line};
 use contours_steps::words::{Given, MAX_CONTOUR_LEVELS, words_refusal};
 use network::Frame;
 use network::limits::MAX_SIDE;
+use refusal::Refusal;
 use said_contours::of_network;
 
 // The descriptor of standard error.
@@ -120,23 +122,22 @@ fn judged(rt: &HostRuntime, text: &[u8], asked: &[u32], given: Given, sent: &mut
 {
     let mut header = [0u32; HEADER_NUMBERS];
     let mut levels = [0u32; MAX_POINTS];
-    let why = grid::read::read_network(text, &mut header, &mut levels);
-    if why != 0 {
+    if let Err(why) = grid::read::read_network(text, &mut header, &mut levels) {
         return refuse_network(text, why, asked, given, sent);
     }
     with_words(rt, text, &header, &levels, asked, given, sent)
 }
 
 // The network is refused.
-fn refuse_network(text: &[u8], why: u32, asked: &[u32], given: Given, sent: &mut usize) -> bool
+fn refuse_network(text: &[u8], why: Refusal, asked: &[u32], given: Given, sent: &mut usize) -> bool
     requires read_whole { ReadWhole text.now }
     requires gathered { Gathered given asked.now }
-    requires why_value { (why ≡ text_refusal text.now) × (why ≢ 0) }
+    requires why_value { number_of why ≡ text_refusal text.now }
     requires sent_value { sent.old ≡ 0 }
     ensures { Run MayWrite result sent.new }
 {
     let line = refused_line(text, why);
-    let went = print::refusal(text, asked, given, why, line, sent);
+    let went = print::refusal(text, asked, given, why.number(), line, sent);
     if went {
         of_network::refused(b"network", why, line, text);
     }
@@ -144,13 +145,13 @@ fn refuse_network(text: &[u8], why: u32, asked: &[u32], given: Given, sent: &mut
 }
 
 // The first line at fault where the text is off its layout; the other refusals are of the whole.
-fn refused_line(text: &[u8], why: u32) -> u64
-    ensures { result ≡ refused_at text.now why }
+fn refused_line(text: &[u8], why: Refusal) -> u64
+    ensures { result ≡ refused_at text.now (number_of why) }
 {
-    if why == 17 {
-        return grid::read::fault_line(text) as u64;
+    match why {
+        Refusal::NetworkOffLayout => grid::read::fault_line(text) as u64,
+        _ => 0,
     }
-    0
 }
 
 // The words, for a network that is not refused.
@@ -171,11 +172,10 @@ fn with_words(
     requires sent_value { sent.old ≡ 0 }
     ensures { Run MayWrite result sent.new }
 {
-    let why = words_refusal(given);
-    if why == 0 {
+    let Err(why) = words_refusal(given) else {
         return draw(text, header, levels, asked, given, sent);
-    }
-    let went = print::refusal(text, asked, given, why, 0, sent);
+    };
+    let went = print::refusal(text, asked, given, why.number(), 0, sent);
     if went {
         say::words_off(rt, why, given.count);
     }

@@ -54,17 +54,13 @@ fn lines(levels: &[u32], frame: Frame, asked: &[u32], sent: &mut usize) -> bool
     requires sent_value { sent.old ≡ 0 }
     ensures { Sends 0 (sheet_of levels.now frame asked.now) result sent.new }
 {
-    let begun = written(levels, frame, asked, sent, b"level;wkt\r\n");
-    if !begun {
+    if !written(levels, frame, asked, sent, b"level;wkt\r\n") {
         return false;
     }
-    let mut i = 0;
-    while i < asked.len() {
-        let went = one_level(levels, frame, asked, i, sent);
-        if !went {
+    for i in 0..asked.len() {
+        if !one_level(levels, frame, asked, i, sent) {
             return false;
         }
-        i += 1;
     }
     true
 }
@@ -79,15 +75,9 @@ fn one_level(levels: &[u32], frame: Frame, asked: &[u32], i: usize, sent: &mut u
         (level_line levels.now frame (slice_index asked.now i)) result sent.new }
 {
     let v = asked[i];
-    let begun = start(levels, frame, asked, i, sent);
-    if !begun {
-        return false;
-    }
-    let drawn = contours(levels, frame, asked, v, sent);
-    if !drawn {
-        return false;
-    }
-    written(levels, frame, asked, sent, b"\r\n")
+    start(levels, frame, asked, i, sent)
+        && contours(levels, frame, asked, v, sent)
+        && written(levels, frame, asked, sent, b"\r\n")
 }
 
 // The level and its semicolon.
@@ -188,8 +178,7 @@ fn parts(
     while at.line <= counts.len() {
         let part = print_part(levels, frame, v, edges, counts, closed, at, &mut room);
         let n = part.size;
-        let went = written(levels, frame, asked, sent, &room[..n]);
-        if !went {
+        if !written(levels, frame, asked, sent, &room[..n]) {
             return false;
         }
         at = part.next;

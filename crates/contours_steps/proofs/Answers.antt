@@ -1,15 +1,13 @@
 -- What may be written, by how the reading went, and the run that it ends. Assumes nothing.
 use Rattle.std.specs.Prelude.{ℕ}
-use mathlib.Core.{Path.◌≡◌, Path.refl, Path.sym, Path.ap, Path.subst, Path.◌∙◌, Bool.Bool, List.List}
-use native.Mathlib.Omega.{arith}
+use mathlib.Core.{Path.◌≡◌, Path.refl, Path.sym, Path.ap, Bool.Bool, List.List}
 use borrow.Author.Tests.{eq-eqb, ne_eqb}
-use lib.{ListN.length, ListN.take, Seq.take-length}
 use Rattle.channel.specs.{Due.Sends, Run.Run}
 use Rattle.channel.proofs.Running as running
 use Rattle.network.specs.declared.Frame.{Frame}
 use Rattle.contours_steps.specs.declared.words.Given.{Given}
 use Rattle.contours_steps.specs.Words.{Gathered}
-use Rattle.contours_steps.specs.Sheet.{refused_line, sheet_of, line_begun, max_text, overlong_line, overlong_of}
+use Rattle.contours_steps.specs.Sheet.{refused_line, sheet_of, line_begun, overlong_line, overlong_of}
 use Rattle.contours_steps.specs.{Drawing.Accepted, Drawing.Refused}
 use Rattle.contours_steps.specs.Answer.{ReadWhole, ReadFailed, ReadFull, Answered, MayWrite}
 use Rattle.contours_steps.specs.Answer.TextFor.{whole, fails, full}

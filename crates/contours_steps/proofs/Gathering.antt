@@ -1,17 +1,16 @@
 -- Words, one more. Assumes nothing.
 use Rattle.std.specs.Prelude.{◌≡◌, ℕ, suc, ◌+◌, ◌<◌, ◌≤◌, Bool, true, false, cond, ◌&&◌, List, [], ◌∷◌, ◌++◌}
-use Rattle.std.specs.Prelude.{length, get_or, take, set}
+use Rattle.std.specs.Prelude.{length, get_or, take, set, Some, None}
 use mathlib.Core.Path.{refl, sym, ap, ◌∙◌}
 use mathlib.Core.Bool.{and-true}
 use native.Mathlib.Omega.{arith}
 use lib.ListN.{length-append, length-set, get_or-append}
 use lib.{Seq.take-suc-set, Seq.get_or_at, Dec.ltb}
-use borrow.Author.Tests.{le-leb, lt-leb, ltb-true, ltb-false}
+use borrow.Author.Tests.{ltb-true, ltb-false}
 use Rattle.text.proofs.Digits.{either}
 use Rattle.refusal.proofs.Laws.{and_left}
 use Rattle.grid.specs.Row.{all}
 use Rattle.channel.specs.System.{Arguments, Argument}
-use Rattle.contours_steps.proofs.Levels.{word_range}
 use Rattle.contours_steps.specs.declared.words.Given.{Given}
 use Rattle.contours_steps.specs.Words.{word_level, is_contour, levels_in, words_refusal}
 use Rattle.contours_steps.specs.Words.{given_refusal, max_word, WordTaken, Gathered}
@@ -19,47 +18,29 @@ use Rattle.contours_steps.specs.InnerIntake.{ArgumentTaken}
 
 -- ---- a word's step
 
-module _ (asked : List ℕ) (place : ℕ) (word : List ℕ) (v : ℕ)
-    (is : v ≡ cond (is_contour word) (word_level word) 0) where
-  pub word_none : v ≡ 0 → WordTaken asked place word false asked
-  word_none z =
+module _ (asked : List ℕ) (place : ℕ) (word : List ℕ) where
+  pub word_none : None ≡ cond (is_contour word) (Some (word_level word)) None → WordTaken asked place word false asked
+  word_none is =
       record {
-        fit = either (is_contour word)
-            (λ yes. let e : v ≡ word_level word = rw yes at is in absurd (omega (arith, (word_range word yes).0)))
-            (λ no. sym no);
-        stored = λ t. let n : ◌≡◌ {A = ℕ} 0 1 = cc in absurd (omega arith);
+        fit = either (is_contour word) (λ yes. let e = rw yes at is in cc) (λ no. sym no);
+        stored = λ t. cc;
         long = refl;
       }
 
-  some : (v ≡ 0 → ⊥) → is_contour word ≡ true
-  some ne = either (is_contour word) (λ yes. yes) (λ no. absurd (ne (rw no at is)))
+  module _ (v : ℕ) (is : Some v ≡ cond (is_contour word) (Some (word_level word)) None) where
+    some : (is_contour word ≡ true) × (v ≡ word_level word)
+    some = either (is_contour word)
+        (λ yes. let e = rw yes at is in (yes, cc))
+        (λ no. let e = rw no at is in cc)
 
-  pub word_stored : (v ≡ 0 → ⊥) → WordTaken asked place word true (set asked place v)
-  word_stored ne =
-      let t = some ne in
-      let e : v ≡ word_level word = rw t at is in
-      record { fit = sym t; stored = λ _ _. ap (set asked place) e; long = length-set asked place v }
+    pub word_stored : WordTaken asked place word true (set asked place v)
+    word_stored =
+        record { fit = sym some.0; stored = λ _ _. ap (set asked place) some.1; long = length-set asked place v }
 
-  pub word_passed : (v ≡ 0 → ⊥) → length asked ≤ place → WordTaken asked place word true asked
-  word_passed ne l = record { fit = sym (some ne); stored = λ _ h. absurd (omega arith); long = refl }
+    pub word_passed : length asked ≤ place → WordTaken asked place word true asked
+    word_passed l = record { fit = sym some.0; stored = λ _ h. absurd (omega arith); long = refl }
 
 -- ---- refusals
-
-pub refusal_none : (g : Given) → g.count < 1 → 15 ≡ given_refusal g
-unfolding given_refusal
-refusal_none g h = rw (lt-leb 1 g.count h) refl
-
-pub refusal_unfit : (g : Given) → 1 ≤ g.count → g.fit ≡ false → 15 ≡ given_refusal g
-unfolding given_refusal
-refusal_unfit g h u = rw (le-leb 1 g.count h, u) refl
-
-pub refusal_many : (g : Given) → 1 ≤ g.count → g.fit ≡ true → 15000 < g.count → 14 ≡ given_refusal g
-unfolding given_refusal
-refusal_many g h u m = rw (le-leb 1 g.count h, u, lt-leb g.count 15000 m) refl
-
-pub refusal_fine : (g : Given) → 1 ≤ g.count → g.fit ≡ true → g.count ≤ 15000 → 0 ≡ given_refusal g
-unfolding given_refusal
-refusal_fine g h u m = rw (le-leb 1 g.count h, u, le-leb g.count 15000 m) refl
 
 pub words_given : {g : Given} {asked : List ℕ} (k : Gathered g asked) → words_refusal k.words ≡ given_refusal g
 unfolding words_refusal given_refusal

@@ -4,7 +4,6 @@ use mathlib.Core.{Path.◌≡◌, Path.refl, Path.ap, List.List, List.[], List.�
 use native.Mathlib.{Nat.mul-le-mul, Nat.le_refl, Omega.arith}
 use borrow.Author.Tests.{ltb-true, ltb-false}
 use lib.{Dec.ltb, ListN.length, ListN.get_or, ListN.length-append}
-use Rattle.text.specs.Number.{show_thousandths}
 use Rattle.text.proofs.{Digits.either, Thousandths.thousandths_most}
 use Rattle.network.specs.declared.Frame.{Frame}
 use Rattle.network.specs.Edges.{Checked}

@@ -1,28 +1,23 @@
 // The contour levels among a program's arguments.
 ghost use Rattle.std.specs.Prelude.{◌≡◌, if◌then◌else◌};
+ghost use Rattle.refusal.specs.Refusal.{told};
 ghost use Rattle.contours_steps.specs.Words.{is_contour, word_level, given_refusal, WordTaken};
 
 use network::limits::{LEAST_CONTOUR, MAX_CONTOUR};
+use refusal::Refusal;
 
 // The most levels that there is room for.
 pub const MAX_CONTOUR_LEVELS: usize = 15_000;
 
-// The contour level of a word in thousandths, or 0, which is none, where it is no level or out of range.
-pub fn contour_of(word: &[u8]) -> u32
-    ensures { result ≡ (if is_contour word.now then word_level word.now else 0) }
+// The contour level of a word in thousandths, where it is one and in its range.
+pub fn contour_of(word: &[u8]) -> Option<u32>
+    ensures { result ≡ (if is_contour word.now then Some (word_level word.now) else None) }
 {
-    match text::number::thousandths(word) {
-        Some(v) => {
-            if v < LEAST_CONTOUR {
-                return 0;
-            }
-            if MAX_CONTOUR < v {
-                return 0;
-            }
-            v
-        }
-        None => 0,
+    let v = text::number::thousandths(word)?;
+    if (LEAST_CONTOUR..=MAX_CONTOUR).contains(&v) {
+        return Some(v);
     }
+    None
 }
 
 // The words of a program: how many there are, and whether every one is a contour level.
@@ -36,29 +31,24 @@ pub struct Given {
 pub fn take_word(asked: &mut [u32], place: usize, word: &[u8]) -> bool
     ensures { WordTaken asked.old place word.now result asked.new }
 {
-    let v = contour_of(word);
-    if v == 0 {
+    let Some(v) = contour_of(word) else {
         return false;
-    }
+    };
     if place < asked.len() {
         asked[place] = v;
     }
     true
 }
 
-// The refusal of all words, 15 or 14, or 0.
-pub fn words_refusal(given: Given) -> u32
-    ensures { result ≡ given_refusal given }
+// Refuses no words at all or one that is no contour level, and then more than there is room for.
+pub fn words_refusal(given: Given) -> Result<(), Refusal>
+    ensures { told result ≡ given_refusal given }
 {
-    if given.count < 1 {
-        return 15;
-    }
-    let fit = given.fit;
-    if !fit {
-        return 15;
+    if given.count < 1 || !given.fit {
+        return Err(Refusal::WrongLevelAsked);
     }
     if MAX_CONTOUR_LEVELS < given.count {
-        return 14;
+        return Err(Refusal::TooLittleRoom);
     }
-    0
+    Ok(())
 }

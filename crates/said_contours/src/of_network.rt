@@ -2,6 +2,7 @@
 use crate::header::{NO_DATA_LINE, is_named, line_off};
 use crate::rows::{Network, is_off};
 use crate::shape::{cell, size_off, values_off};
+use refusal::Refusal;
 use said::note::{self, Note};
 use said::part::{column, line};
 use said::{field, odd};
@@ -66,11 +67,11 @@ fn read<'a>(file: &'a [u8], text: &'a [u8]) -> Network<'a> {
 }
 
 // A network is refused: 17 at a line, 12 or 13.
-pub fn refused(file: &[u8], refusal: u32, number: u64, text: &[u8]) {
+pub fn refused(file: &[u8], why: Refusal, number: u64, text: &[u8]) {
     let network = read(file, text);
-    match refusal {
-        17 => layout(number, network),
-        12 => size_off(network),
+    match why {
+        Refusal::NetworkOffLayout => layout(number, network),
+        Refusal::WrongNetwork => size_off(network),
         _ => values_off(network),
     }
 }
@@ -83,7 +84,7 @@ pub fn unread(file: &[u8], number: u64) {
 // The network is longer than any that is not refused: 17 at a line, or 12.
 pub fn overlong(file: &[u8], number: u64, text: &[u8]) {
     if number != 0 {
-        refused(file, 17, number, text);
+        refused(file, Refusal::NetworkOffLayout, number, text);
         return;
     }
     let mut note = Note::of(file);

@@ -27,7 +27,9 @@ overlong-requires c =
     }
 
 pub slice_bounds-judged-end : goal.slice_bounds-judged-end
-slice_bounds-judged-end c = let came = (rw c.in-Complete.is at c.requires.fills).filling in sym (length-take-le _ _ came.0)
+slice_bounds-judged-end c =
+    let came = (rw c.in-Complete.is at c.requires.fills).filling in sym (length-take-le _ _ came.0)
 
 pub slice_bounds-failed-end : goal.slice_bounds-failed-end
-slice_bounds-failed-end c = let came = (rw c.in-FailedAfter.is at c.requires.fills).filling in sym (length-take-le _ _ came.0)
+slice_bounds-failed-end c =
+    let came = (rw c.in-FailedAfter.is at c.requires.fills).filling in sym (length-take-le _ _ came.0)

@@ -1,7 +1,6 @@
 -- `contours::judged`: a network that is not refused is stored. Assumes nothing.
 use Rattle.std.specs.Prelude.{◌≡◌, ℕ, replicate}
-use mathlib.Core.Path.{refl, sym, ◌∙◌}
-use native.Mathlib.Omega.{arith}
+use mathlib.Core.Path.{refl, sym}
 use lib.ListN.{length-replicate}
 use Rattle.contours_steps.specs.Sheet.{text_refusal}
 use Rattle.contours_steps.proofs.Drawings.{stored}
@@ -13,16 +12,14 @@ refuse_network-requires c =
       read_whole = c.requires.read_whole;
       gathered = c.requires.gathered;
       why_value =
-          (c.read_network-why.ensures.0, c.if-why-ne0.true);
+          c.in-Err.ensures.0;
       sent_value = c.requires.sent_value;
     }
 
 pub with_words-requires : goal.with_words-requires
 with_words-requires c =
-    let r = c.read_network-why in
-    let e = r.ensures in
-    let none : r.result ≡ 0 = omega arith in
-    let z : text_refusal c.args.text.now ≡ 0 = sym e.0 ∙ none in
+    let e = c.in_default.ensures in
+    let z : text_refusal c.args.text.now ≡ 0 = sym e.0 in
     let kept = stored (replicate 65536 0) z refl (length-replicate {A = ℕ} 65536 0) e.1 e.2 in
     record {
       read_whole = c.requires.read_whole;

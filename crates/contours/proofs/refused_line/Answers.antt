@@ -1,12 +1,14 @@
 -- `contours::refused_line` meets its contract. Assumes nothing.
-use mathlib.Core.Path.{refl}
-use borrow.Author.{Tests.eq-eqb, Tests.ne_eqb}
+use borrow.Author.{Tests.ne_eqb}
+use Rattle.refusal.specs.Refusal.{number_of}
+use Rattle.refusal.specs.declared.Refusal.TheVariants.{NetworkOffLayout}
+use Rattle.refusal.proofs.Laws.{same_number}
 use Rattle.contours.proofs.refused_line.Goals as goal
 
-pub returns-then-why-eq17 : goal.returns-then-why-eq17
-returns-then-why-eq17 c =
-    let a = c.args in
-    rw (eq-eqb a.why 17 c.if-why-eq17.true) c.fault_line.ensures
+pub returns-in-NetworkOffLayout : goal.returns-in-NetworkOffLayout
+returns-in-NetworkOffLayout c = rw c.in-NetworkOffLayout.is c.fault_line.ensures
 
-pub returns : goal.returns
-returns c = rw (ne_eqb c.args.why 17 c.if-why-eq17.false) refl
+pub returns-in_default : goal.returns-in_default
+returns-in_default c =
+    let why = c.args.why in
+    rw (ne_eqb (number_of why) 17 (λ e. c.in_default.not-NetworkOffLayout (same_number why NetworkOffLayout e)))

@@ -22,10 +22,7 @@ pub fn overlong_line(text: &[u8]) -> usize
     ensures { result ≡ overlong_line text.now }
 {
     let line = grid::read::fault_line(text);
-    if line <= 5 {
-        return line;
-    }
-    if line < line_begun(text) {
+    if line <= 5 || line < line_begun(text) {
         return line;
     }
     0

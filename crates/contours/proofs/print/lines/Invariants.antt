@@ -1,5 +1,5 @@
 -- `contours::print::lines` meets its contract: the lines of the levels from i on are due. Assumes nothing.
-use Rattle.std.specs.Prelude.{◌-◌, ◌≤◌, length, drop}
+use Rattle.std.specs.Prelude.{drop}
 use Rattle.channel.specs.Due.{Due}
 use Rattle.contours_steps.specs.Sheet.{level_lines, sheet_of}
 use Rattle.channel.proofs.Dues.{Rest}
@@ -7,9 +7,5 @@ use Rattle.contours.proofs.print.lines.Given as goal
 
 abbrev pub invariant-loop-i : goal.invariant-loop-i
 invariant-loop-i l =
-    (l.i ≤ length l.asked) × (Due (sheet_of l.levels l.frame l.asked) l.sent
-    (level_lines l.levels l.frame (drop l.i l.asked)))
+    Due (sheet_of l.levels l.frame l.asked) l.sent (level_lines l.levels l.frame (drop l.i l.asked))
     × Rest 0 (sheet_of l.levels l.frame l.asked) l.sent (level_lines l.levels l.frame (drop l.i l.asked))
-
-abbrev pub decreases-loop-i : goal.decreases-loop-i
-decreases-loop-i l = length l.asked - l.i

@@ -32,8 +32,8 @@ slice_bounds-written-end c =
     let e = c.print_part-part.ensures in
     sym (length-take-le _ _ (omega (arith, e.fits, e.long)))
 
-pub written-went-requires : goal.written-went-requires
-written-went-requires c =
+pub written-requires : goal.written-requires
+written-requires c =
     let a = c.args in
     let p = c.print_part-part in
     let bytes = take p.result.size p.new.room in
@@ -41,9 +41,9 @@ written-went-requires c =
     left_of a.levels.now a.frame a.v a.edges.now a.counts.now a.closed.now p.result.next in
     record { drawable = c.requires.drawable; due = due_front bytes left (rw p.ensures.joined at c.loop-at.invariant.2) }
 
-pub returns-then-not-went : goal.returns-then-not-went
-returns-then-not-went c =
-    sends_lost _ (c.written-went.ensures.lost (c.if-not-went.true))
+pub returns-then-not-written : goal.returns-then-not-written
+returns-then-not-written c =
+    sends_lost _ (c.written.ensures.lost (c.if-not-written.true))
 
 pub loop-at-smaller : goal.loop-at-smaller
 loop-at-smaller c =
@@ -71,7 +71,7 @@ loop-at-smaller c =
 
 pub loop-at-preserved : goal.loop-at-preserved
 loop-at-preserved c =
-    let all = c.if-not-went.false in
+    let all = c.if-not-written.false in
     let a = c.args in
     let p = c.print_part-part in
     let e = p.ensures in
@@ -82,8 +82,8 @@ loop-at-preserved c =
     p.result.next in (
       e.reached,
       omega (arith, e.long, l.invariant.1),
-      rw (c.written-went.ensures.count all) (due_rest bytes left (rw e.joined at l.invariant.2)),
-      rest_next_lem bytes left (rw e.joined at l.invariant.3) all c.written-went.ensures,
+      rw (c.written.ensures.count all) (due_rest bytes left (rw e.joined at l.invariant.2)),
+      rest_next_lem bytes left (rw e.joined at l.invariant.3) all c.written.ensures,
     )
 
 pub returns : goal.returns
