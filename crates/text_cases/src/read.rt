@@ -46,7 +46,7 @@ pub(crate) fn row(line: &[u8], text: &[u8], levels: &mut [u32]) {
     show(line, refusal::told(read_row(text, number(line, 1), levels)));
 }
 
-// The points of a register's header, or of that of limits.csv, which begins with the days; 0 where it is off its layout.
+// The points of a register's header, or of that of limits.csv, which begins with the days; 0 where it is off.
 pub(crate) fn header(kind: u8, line: &[u8], text: &[u8]) {
     let points = if kind == b'd' {
         limits_points(text)
