@@ -2,7 +2,8 @@
 use Rattle.std.specs.Prelude.{ℕ, ◌+◌, cond, Option, None, Some, slice_index}
 use mathlib.Core.{Path.◌≡◌, List.List}
 use Rattle.sorting.specs.Sorted.{key_of, sorted}
-use Rattle.coupling_rules.specs.{Flights.Flights, Flights.many, Rule.couple, Rule.places, Rule.takes_none, Rule.window_of}
+use Rattle.coupling_rules.specs.{Flights.Flights, Flights.many}
+use Rattle.coupling_rules.specs.Rule.{couple, places, takes_none, window_of}
 use Rattle.coupling_rules.specs.InnerPacked.{Packed, Packs, ranked, class_in, moment_in, packed_gap, gaps_in}
 use Rattle.coupling.specs.declared.columns.{Packed.Packed as PackedColumns, Rank.Rank}
 use Rattle.coupling.specs.declared.gap.Wanted.{Wanted}

@@ -3,7 +3,8 @@ ghost use Rattle.std.specs.Prelude.{◌≡◌, ◌==◌, length, nat_le};
 ghost use Rattle.std.specs.List.{list_all};
 ghost use Rattle.refusal.specs.Refusal.{told};
 ghost use Rattle.room.specs.Room.{then_room};
-ghost use Rattle.coupling_rules.specs.Refusals.{all_exist, shape_fits, values_fit, flights_fit, movements_fit, couple_refusal};
+ghost use Rattle.coupling_rules.specs.Refusals.{all_exist, shape_fits, values_fit, flights_fit, movements_fit};
+ghost use Rattle.coupling_rules.specs.Refusals.{couple_refusal};
 ghost use Rattle.coupling.specs.Columns.{flights_of, movements_of};
 
 use crate::columns::{Flights, Movements};

@@ -7,8 +7,13 @@ use Rattle.date.proofs.date_exists.Goals.{then-contains, else-contains}
 
 pub returns-then-contains-2 : goal.returns-then-contains-2
 unfolding date_exists
-returns-then-contains-2 c = elim c.if-contains.branch [ then-contains w ↦ grind (arith, nat_tests) | else-contains w ↦ cc ]
+returns-then-contains-2 c =
+    elim c.if-contains.branch [ then-contains w ↦ grind (arith, nat_tests) | else-contains w ↦ cc ]
 
 pub returns-else-contains-2 : goal.returns-else-contains-2
 unfolding date_exists
-returns-else-contains-2 c = elim c.if-contains.branch [ then-contains w ↦ grind (arith, nat_tests) | else-contains w ↦ grind (arith, nat_tests) ]
+returns-else-contains-2 c =
+    elim c.if-contains.branch [
+      | then-contains w ↦ grind (arith, nat_tests)
+      | else-contains w ↦ grind (arith, nat_tests)
+    ]

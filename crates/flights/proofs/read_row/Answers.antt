@@ -60,7 +60,8 @@ returns-then-s-end c =
     let m = more (goal.at.returns-then-s-end c).In-Some in
     let last = at_last l.invariant.1 c.field_end-end.result c.field_end-end.ensures c.if-s-end.true in
     let n : count_of 44 s + 1 ≡ l.k + 1 = omega arith in
-    subst (λ (f : Flight). IsFlight f c.counted.result) (sym (row_counted s c.args.count (l.k + 1) n m.0)) (rw m.1 at c.counted.ensures)
+    subst (λ (f : Flight). IsFlight f c.counted.result) (sym (row_counted s c.args.count (l.k + 1) n m.0))
+    (rw m.1 at c.counted.ensures)
 
 -- a field follows
 next : (c : Else-s-end) →

@@ -1,5 +1,5 @@
--- `couple::feed::read_movements` meets its contract: the source is standard input's, and no row is held before the first
--- line. Assumes nothing.
+-- `couple::feed::read_movements` meets its contract: the source is standard input's, and no row is held before the
+-- first line. Assumes nothing.
 use Rattle.channel.specs.System.{standard_input}
 use Rattle.text.specs.Index.{listing}
 use Rattle.couple.proofs.feed.read_movements.Goals as goal

@@ -4,7 +4,9 @@ use Rattle.std.proofs.Common.{arith}
 use Rattle.std.proofs.lemmas.Bool.Decides.{nat_tests}
 use Rattle.coupling_rules.specs.InnerPacked.{ranked, gap_between}
 use Rattle.coupling.proofs.gap.gap_between.Goals as goal
-use Rattle.coupling.proofs.gap.gap_between.Goals.{else-track-w-via-then-track-w+then-track-w-2+else-seconds-window, else-track-w-via-then-track-w+else-track-w-2, else-track-w-via-else-track-w}
+use Rattle.coupling.proofs.gap.gap_between.Goals.{else-track-w-via-then-track-w+then-track-w-2+else-seconds-window}
+use Rattle.coupling.proofs.gap.gap_between.Goals.{else-track-w-via-then-track-w+else-track-w-2}
+use Rattle.coupling.proofs.gap.gap_between.Goals.{else-track-w-via-else-track-w}
 
 pub returns-in_err-window : goal.returns-in_err-window
 unfolding gap_between

@@ -1,4 +1,5 @@
--- `coupling::inner::couple_columns` meets its contract: the packed columns give the rule's own answers. Assumes nothing.
+-- `coupling::inner::couple_columns` meets its contract: the packed columns give the rule's own answers. Assumes
+-- nothing.
 use mathlib.Core.Path.{sym, subst, ◌∙◌}
 use Rattle.coupling_rules.proofs.{Refusing.flights_shape, Refusing.flights_values, Refusing.movements_flights}
 use Rattle.coupling_rules.proofs.{Packing.Narrow, Packing.packed_tracks}

@@ -6,7 +6,8 @@ use Rattle.coupling.proofs.pack.pack.Goals as goal
 
 pub loop-i-init : goal.loop-i-init
 loop-i-init c =
-    (flights_shape (flights_of c.args.flights) c.requires.flights_value, (filled_none _ _, (filled_none _ _, filled_none _ _)))
+    let shape = flights_shape (flights_of c.args.flights) c.requires.flights_value in
+    (shape, (filled_none _ _, (filled_none _ _, filled_none _ _)))
 
 pub loop-i-preserved : goal.loop-i-preserved
 loop-i-preserved c =

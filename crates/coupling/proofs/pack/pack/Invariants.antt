@@ -12,5 +12,6 @@ invariant-loop-i l =
     let f = l.flights in
     Shape (flights_of f)
     × (Filled (λ (k : ℕ). high_of (get_or f.airports.now k 0) (get_or f.types.now k 0)) l.i l.highs
-    × (Filled (λ (k : ℕ). low_of (get_or f.runways.now k 0) (get_or f.classes.now k 0) (get_or f.kinds.now k 0)) l.i l.lows
+    × (Filled (λ (k : ℕ). low_of (get_or f.runways.now k 0) (get_or f.classes.now k 0) (get_or f.kinds.now k 0)) l.i
+    l.lows
     × Filled (λ (k : ℕ). moment (get_or f.dates.now k 0) (get_or f.times.now k 0)) l.i l.moments))

@@ -45,8 +45,8 @@ loop-i-init c =
     let o = c.requires.ordered in
     let few : length a.order.now ≤ length a.stack.now = c.requires.order_in_bounds in
     let e : drop (length a.stack.now) a.stack.now ≡ [] = drop-length a.stack.now in
-    let first : Mid (rank_in t) (moment_in t) (rank_in (packed_of a.movements.packed)) (gaps_of t a.movements) a.turns.now
-    a.order.now
+    let first : Mid (rank_in t) (moment_in t) (rank_in (packed_of a.movements.packed)) (gaps_of t a.movements)
+    a.turns.now a.order.now
     (couple (gaps_of t a.movements) (moment_in t) a.turns.now (places (length a.order.now)) a.answers.now) 0 0
     (length a.stack.now) a.stack.now a.answers.now =
     record {
@@ -79,8 +79,8 @@ put-requires c =
       track_bound =
           answer_fits (rank_in t) (moment_in t) (rank_in m) g a.turns.now a.order.now
           (couple g (moment_in t) a.turns.now (places (length a.order.now)) a.answers.now)
-          l.i-index l.at l.top l.stack l.answers h l.invariant.1.1.1.1.1 (from_one p.result.track) p.result.at p.result.top
-          p.new.stack (turned (goal.at.put-requires c).After-turn-left);
+          l.i-index l.at l.top l.stack l.answers h l.invariant.1.1.1.1.1 (from_one p.result.track) p.result.at
+          p.result.top p.new.stack (turned (goal.at.put-requires c).After-turn-left);
     }
 
 pub loop-i-preserved : goal.loop-i-preserved

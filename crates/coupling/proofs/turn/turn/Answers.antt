@@ -29,7 +29,8 @@ all_gaps : (c : After-nearer) →
 all_gaps c =
     let w = c.args.w in
     let own : w.rank.moment < 18446744073709551616 = omega arith in
-    gaps (class_in (tracks c)) (moment_in (tracks c)) (class_of w.rank) w.rank.moment (from_one w.window) c.args.tracks.moment own
+    gaps (class_in (tracks c)) (moment_in (tracks c)) (class_of w.rank) w.rank.moment (from_one w.window)
+    c.args.tracks.moment own
 
 choice : (c : After-nearer) → Chosen (Turns c) c.pull-r.new.stack c.args.order.now (top c) c.pull-r.result
     (side_of c.nearer.result)
@@ -76,7 +77,8 @@ returns-in-Some-Passed c =
 
 pub bounds-order-r : goal.bounds-order-r
 bounds-order-r c =
-    (coming (goal.at.bounds-order-r c).After-nearer (ap side_of (c.in-Some-Coming.is ∙ ap Some c.in-Some-Coming.field-0-is))).0
+    let e = ap side_of (c.in-Some-Coming.is ∙ ap Some c.in-Some-Coming.field-0-is) in
+    (coming (goal.at.bounds-order-r c).After-nearer e).0
 
 pub returns-in-Some-Coming : goal.returns-in-Some-Coming
 returns-in-Some-Coming c =

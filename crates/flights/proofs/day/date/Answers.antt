@@ -9,7 +9,8 @@ use Rattle.flights.specs.Date.{digits_at, dated, date_of}
 use Rattle.flights.proofs.Dates.{part_text_lem}
 use Rattle.flights.proofs.day.date.Goals as goal
 use Rattle.flights.proofs.day.date.Goals.{Else-s-ne45-2, In_ok-day}
-use Rattle.flights.proofs.day.date.Goals.{then-s-ne10-via-then-s-ne10, then-s-ne10-via-else-s-ne10+then-s-ne45, then-s-ne10-via-else-s-ne10+else-s-ne45+then-s-ne45-2}
+use Rattle.flights.proofs.day.date.Goals.{then-s-ne10-via-then-s-ne10, then-s-ne10-via-else-s-ne10+then-s-ne45}
+use Rattle.flights.proofs.day.date.Goals.{then-s-ne10-via-else-s-ne10+else-s-ne45+then-s-ne45-2}
 
 pub returns-then-s-ne10 : goal.returns-then-s-ne10
 unfolding date_of

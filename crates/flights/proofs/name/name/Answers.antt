@@ -24,7 +24,8 @@ loop-c-init c = (grind (arith, nat_tests), omega arith, omega arith)
 pub returns-then-not-in_name : goal.returns-then-not-in_name
 returns-then-not-in_name c =
     sym (c.loop-c.invariant.0
-    ∙ code_stop c.args.s.now c.loop-c.value c.loop-c.c-index (omega arith) (settled c.in_name.ensures c.if-not-in_name.true))
+    ∙ code_stop c.args.s.now c.loop-c.value c.loop-c.c-index (omega arith)
+    (settled c.in_name.ensures c.if-not-in_name.true))
 
 -- in the loop the value has at most three bytes, and the next byte is one
 small : (c : Else-not-in_name) → let l = c.loop-c in
@@ -41,7 +42,9 @@ loop-c-preserved c =
     let l = c.loop-c in
     let e = c.from.ensures in
     let s = small (goal.at.loop-c-preserved c).Else-not-in_name in (
-      rw e (l.invariant.0 ∙ code_step c.args.s.now l.value l.c-index (omega arith) (settled c.in_name.ensures c.if-not-in_name.false)),
+      rw e (l.invariant.0
+          ∙ code_step c.args.s.now l.value l.c-index (omega arith)
+          (settled c.in_name.ensures c.if-not-in_name.false)),
       omega arith,
       rw e (code_grows l.value l.c-index _ l.invariant.2 s.1),
     )
