@@ -16,7 +16,7 @@ fn first_in(network: Network, v: u32, e: Edge) -> bool
     ensures { result ≡ first_in (pictured network.entry v) e }
 {
     match e {
-        Edge::Horizontal(row, col) | Edge::Vertical(row, col) => { network.inside(v, row, col) }
+        Edge::Horizontal(row, col) | Edge::Vertical(row, col) => network.inside(v, row, col),
     }
 }
 

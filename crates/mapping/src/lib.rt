@@ -39,6 +39,7 @@ pub enum Located {
 }
 
 // A map point by number and coordinates: 0 none, 1 on a horizontal edge, 2 on a vertical edge.
+// Kept: a number for the kind; the C interface writes these three.
 #[derive(Clone, Copy)]
 pub struct Shown {
     pub which: u32,

@@ -10,8 +10,9 @@ use Rattle.contour.proofs.list_straight.Goals.{Start}
 pub put_sizes-requires : goal.put_sizes-requires
 put_sizes-requires c =
     let l = c.list_network-got.ensures in
-    let k = few (pictured c.args.network c.args.v) c.args.network.sized.sides.wide in
-    let m = edges_le c.args.network.nx c.args.network.ny c.args.network.sized.sides.narrow c.args.network.sized.sides.low in
+    let d = c.args.network.sized.sides in
+    let k = few (pictured c.args.network c.args.v) d.wide in
+    let m = edges_le c.args.network.nx c.args.network.ny d.narrow d.low in
     (c.requires.1, (omega (arith, l.edge_places, k.0), omega (arith, l.contours, k.1)))
 
 pub returns : goal.returns

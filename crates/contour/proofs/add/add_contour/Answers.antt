@@ -17,7 +17,8 @@ overflow_cast-counts c =
     let e = end_fits (pictured c.args.network c.args.v) c.args.closes
     (first (goal.at.overflow_cast-counts c).Start) _ _ _ _ c.requires.1.1 c.requires.0
     c.trace-end.ensures in
-    omega (arith, e.0, e.1, edges_le c.args.network.nx c.args.network.ny c.args.network.sized.sides.narrow c.args.network.sized.sides.low)
+    let d = c.args.network.sized.sides in
+    omega (arith, e.0, e.1, edges_le c.args.network.nx c.args.network.ny d.narrow d.low)
 
 pub bounds-counts-made : goal.bounds-counts-made
 bounds-counts-made c =

@@ -3,7 +3,8 @@ use Rattle.std.specs.Prelude.{◌≡◌, ◌+◌, ◌<◌}
 use mathlib.Core.Path.{sym, ap, ◌∙◌}
 use native.Mathlib.Omega.{arith}
 use lib.ListN.{length-set}
-use Rattle.contour_rules.specs.{Picture.Picture, Crossings.crossed, Crossings.crossed_at, Crossings.edges_in, Contours.bit}
+use Rattle.contour_rules.specs.{Picture.Picture, Crossings.crossed, Crossings.crossed_at, Crossings.edges_in}
+use Rattle.contour_rules.specs.Contours.{bit}
 use Rattle.network.proofs.Numbers.{edges_le}
 use Rattle.contour.specs.InnerFill.{edge_in}
 use Rattle.contour.specs.InnerDesk.{pictured}

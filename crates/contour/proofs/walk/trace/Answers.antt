@@ -34,7 +34,8 @@ room-here c = fits _ _ _ _ _ _ _ _ _ _ c.loop-here.invariant (waits-here c)
 
 pub overflow_cast-edges : goal.overflow_cast-edges
 overflow_cast-edges c =
-    omega (arith, below c, edges_le c.args.network.nx c.args.network.ny c.args.network.sized.sides.narrow c.args.network.sized.sides.low)
+    let d = c.args.network.sized.sides in
+    omega (arith, below c, edges_le c.args.network.nx c.args.network.ny d.narrow d.low)
 
 pub step-here-requires : goal.step-here-requires
 step-here-requires c =
