@@ -14,7 +14,9 @@ use Rattle.grid.proofs.ReadLaws.{roomy_both, refused_outcome, read_outcome}
 use Rattle.grid.proofs.read.read_network.Goals as goal
 use Rattle.grid.proofs.read.read_network.Goals.{In_ok-shape_refusal}
 use Rattle.grid.proofs.read.read_network.Goals.{then-header-lt-HEADER_SIZE-via-then-header-lt-HEADER_SIZE}
-use Rattle.grid.proofs.read.read_network.Goals.{then-header-lt-HEADER_SIZE-via-else-header-lt-HEADER_SIZE+then-levels-rows}
+use Rattle.grid.proofs.read.read_network.Goals.{
+  then-header-lt-HEADER_SIZE-via-else-header-lt-HEADER_SIZE+then-levels-rows,
+}
 
 -- past the test of its shape
 none : (c : In_ok-shape_refusal) → let f = c.in_ok-file.file in shape_refusal f.frame f.fits f.sound ≡ 0
