@@ -16,6 +16,7 @@ pub returns-else-all_within-2 : goal.returns-else-all_within-2
 unfolding values_fit
 returns-else-all_within-2 c =
     elim c.if-all_exist.branch [
-      | then-all_exist v ↦ elim c.if-all_within.branch [ then-all_within w ↦ grind arith | else-all_within w ↦ grind arith ]
+      | then-all_exist v ↦
+          elim c.if-all_within.branch [ then-all_within w ↦ grind arith | else-all_within w ↦ grind arith ]
       | else-all_exist v ↦ grind arith
     ]
