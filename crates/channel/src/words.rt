@@ -10,11 +10,8 @@ pub fn argument_count(rt: &HostRuntime) -> usize
 {
     let mut none = [0u8; 1];
     for i in 1..usize::MAX {
-        match rt.arg(i, &mut none) {
-            Err(FillError::NotPresent) => {
-                return i - 1;
-            }
-            _ => {}
+        if let Err(FillError::NotPresent) = rt.arg(i, &mut none) {
+            return i - 1;
         }
     }
     usize::MAX
