@@ -1,6 +1,7 @@
 -- Inner steps: no promise uses them. What the functions of the crate require of and ensure to one another.
 -- Assumes nothing.
-use Rattle.std.specs.Prelude.{◌≡◌, ℕ, ◌+◌, ◌*◌, ◌/◌, ◌%◌, ◌<◌, ◌≤◌, Bool, cond, ◌&&◌, List, [], ◌==◌, nat_lt, slice_index_or}
+use Rattle.std.specs.Prelude.{◌≡◌, ℕ, ◌+◌, ◌*◌, ◌/◌, ◌%◌, ◌<◌, ◌≤◌, Bool, cond, ◌&&◌, List, [], ◌==◌, nat_lt}
+use Rattle.std.specs.Prelude.{slice_index_or}
 use Rattle.level.specs.Tables.{IsTableA, ArePowers}
 use Rattle.level.specs.Limits.{max_movements, max_energy, max_total}
 use Rattle.level.specs.Energy.{mean_of}

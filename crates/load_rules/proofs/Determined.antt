@@ -17,7 +17,8 @@ use Rattle.book_rules.specs.Columns.{Book, sound}
 use Rattle.load_rules.specs.declared.Load.{Load}
 use Rattle.load_rules.specs.Told.{LoadTold, Judged, judged_told}
 use Rattle.load_rules.specs.{Shares.Share, Shares.book_shares, Tally.tally}
-use Rattle.load_rules.specs.Load.{days_fit, none_computed, load_refusal, answer, refused_load, load_of, book_load, load_told}
+use Rattle.load_rules.specs.Load.{days_fit, none_computed, load_refusal, answer, refused_load, load_of, book_load}
+use Rattle.load_rules.specs.Load.{load_told}
 use Rattle.load_rules.specs.Verdict.{limit_fits, verdict_refusal, refusal_number, over_number, judged, judged_of}
 use Rattle.load_rules.specs.Verdict.{book_verdict, Judging}
 

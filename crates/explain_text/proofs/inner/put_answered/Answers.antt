@@ -29,8 +29,8 @@ returns-in-Ok c =
     let numbers = answer_only c.account_at.ensures c.requires.days_value
     (omega (arith, account_long c.args.points c.args.point (book (goal.at.returns-in-Ok c).Start) c.args.days)) in
     within_is c.put_point.ensures
-    (ap ended (book_lines c.args.points c.args.point (book (goal.at.returns-in-Ok c).Start) c.args.days c.requires.days_value
-    _ numbers))
+    (ap ended (book_lines c.args.points c.args.point (book (goal.at.returns-in-Ok c).Start) c.args.days
+    c.requires.days_value _ numbers))
 
 pub returns-in-Err : goal.returns-in-Err
 returns-in-Err c =

@@ -9,7 +9,8 @@ use Rattle.room.proofs.Answers.{refuse}
 use Rattle.book_rules.specs.Columns.{Book, book_lent}
 use Rattle.load_rules.specs.{Shares.book_shares, Load.refused_load, Load.book_load, Told.LoadTold}
 use Rattle.load_rules.specs.Account.{account_of}
-use Rattle.load.proofs.{RowLaws.rows_bounded, RowLaws.rows_grouped, SumsLaws.asked_days, SumsLaws.asked_fits, SumsLaws.asked_shares}
+use Rattle.load.proofs.{RowLaws.rows_bounded, RowLaws.rows_grouped}
+use Rattle.load.proofs.SumsLaws.{asked_days, asked_fits, asked_shares}
 use Rattle.load.proofs.SumsLaws.{asked_load}
 use Rattle.load.specs.InnerSteps.{book_asked, shares_asked}
 use Rattle.load.proofs.AccountLaws.{account_shares}

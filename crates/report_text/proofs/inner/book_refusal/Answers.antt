@@ -25,7 +25,8 @@ returns-in_err-load_at c =
     let a = c.args in
     let why = c.in_err-load_at.field-0.0 in
     let p = err_from_is_err_and c.from_residual.result c.from_residual.ensures.1 in
-    let q : number_of why ≡ (book_load a.points c.loop-point.point (book (goal.at.returns-in_err-load_at c).Start) a.days).refused =
+    let b = book (goal.at.returns-in_err-load_at c).Start in
+    let q : number_of why ≡ (book_load a.points c.loop-point.point b a.days).refused =
     ap refused c.in_err-load_at.ensures in
     rw (p.1, p.2)
     (q ∙ sym (one_refused a.points a.days (book (goal.at.returns-in_err-load_at c).Start) c.loop-point.point a.points

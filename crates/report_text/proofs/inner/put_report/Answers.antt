@@ -20,7 +20,8 @@ returns-in-Err c =
     let q = c.number.ensures ∙ c.in-Err.ensures in
     record {
       wrote = text_refused (accepted_limits c.args.limits) (book (goal.at.returns-in-Err c).Start) _ q
-          (λ z. let some = numbered c.in-Err.why in omega (arith, c.number.ensures, z)) c.put_refused-size.ensures.wrote;
+          (λ z. let some = numbered c.in-Err.why in omega (arith, c.number.ensures, z))
+          c.put_refused-size.ensures.wrote;
       refused = c.in-Err.ensures;
     }
 
@@ -29,6 +30,7 @@ unfolding book_text
 returns-in-Ok c =
     let q = c.in-Ok.ensures in
     record {
-      wrote = text_points (accepted_limits c.args.limits) (book (goal.at.returns-in-Ok c).Start) q refl c.put_points-size.ensures;
+      wrote = text_points (accepted_limits c.args.limits) (book (goal.at.returns-in-Ok c).Start) q refl
+          c.put_points-size.ensures;
       refused = c.book_refusal-outcome.ensures;
     }
