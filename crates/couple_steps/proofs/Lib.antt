@@ -12,3 +12,4 @@ pub mod Ready
 pub mod Putting
 pub mod Order
 pub mod Only
+pub mod Longest

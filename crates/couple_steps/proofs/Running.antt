@@ -15,7 +15,7 @@ use Rattle.couple_steps.specs.Right.{track_heading, movement_heading}
 use Rattle.couple_steps.specs.{Written.MayWrite, Told.FailedTold, Told.TextTold}
 use Rattle.couple_steps.specs.Written.MayWrite.{tracks, both}
 use Rattle.couple_steps.specs.Told.TextTold.{ended, begun, broken, refused, unread}
-use Rattle.couple_steps.specs.InnerLongest.{longest_table}
+use Rattle.couple_steps.proofs.Longest.{longest_table}
 use Rattle.couple_steps.proofs.Rights.{accepted_right, first_fault, track_headed, movement_headed}
 use Rattle.couple_steps.proofs.Says.{text_tracks, text_movements}
 

@@ -6,4 +6,3 @@ pub mod Written
 pub mod Told
 pub mod InnerTable
 pub mod InnerSheet
-pub mod InnerLongest

@@ -7,7 +7,7 @@ ghost use Rattle.coupling_rules.specs.Limits.{max_flights};
 ghost use Rattle.stream.specs.InnerTaken.{LineTaken, next_line};
 ghost use Rattle.couple_steps.specs.Table.{table_step, Rows, longest_text};
 ghost use Rattle.couple_steps.specs.InnerTable.{rows_in, held_in, Roomy};
-ghost use Rattle.couple_steps.specs.InnerLongest.{longest_table, not_too_long};
+ghost use Rattle.std.proofs.Common.{rules};
 
 use coupling::limits::MAX_FLIGHTS;
 use flights::{MOVEMENT_COLUMNS, TRACK_COLUMNS, Values, header_refusal, read_flight};
@@ -72,11 +72,11 @@ impl Lines for Tracks {
 
     ghost LONGEST = { 51 };
 
-    const LONGEST: usize = LONGEST_LINE;
+    fn longest(&self) -> usize {
+        LONGEST_LINE
+    }
 
-    ghost long_is_off = { λ t. longest_table 8 };
-
-    ghost short_enough = { not_too_long };
+    ghost short_enough = { Prim.search rules };
 
     fn take_line(&mut self, line: &[u8], number: u64) -> Result<(), Refusal> {
         take_line(&mut self.cells, TRACK_COLUMNS, line, number)
@@ -100,11 +100,11 @@ impl Lines for Movements {
 
     ghost LONGEST = { 51 };
 
-    const LONGEST: usize = LONGEST_LINE;
+    fn longest(&self) -> usize {
+        LONGEST_LINE
+    }
 
-    ghost long_is_off = { λ t. longest_table 9 };
-
-    ghost short_enough = { not_too_long };
+    ghost short_enough = { Prim.search rules };
 
     fn take_line(&mut self, line: &[u8], number: u64) -> Result<(), Refusal> {
         take_line(&mut self.cells, MOVEMENT_COLUMNS, line, number)

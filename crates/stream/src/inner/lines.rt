@@ -20,10 +20,11 @@ pub trait Lines {
 
     ghost Ready: { Self → Type 0 };
 
-    // How many bytes the longest line on its layout has before its CRLF.
     ghost LONGEST: { ℕ };
 
-    const LONGEST: usize;
+    // How many bytes the longest line on its layout has before its CRLF.
+    fn longest(&self) -> usize
+        ensures { result ≡ LONGEST };
 
     // Takes line `number`, the header first and then rows, or refuses it.
     fn take_line(&mut self, line: &[u8], number: u64) -> Result<(), Refusal>
@@ -33,8 +34,6 @@ pub trait Lines {
             (told result) (held self.new (next_line number (told result))) }
         ensures kept { Ready self.new }
         ensures same { step self.new ≡ step self.old };
-
-    ghost long_is_off: { (x : Self) → Longest (step x) LONGEST };
 
     ghost short_enough: { LONGEST < 2 ^ 32 };
 }
@@ -111,6 +110,7 @@ pub fn take_last<T: Lines>(table: &mut T, bytes: &[u8], line: u64) -> Feed
 // Takes a piece of a text: the first `len` bytes of the buffer, those that waited and those that came.
 pub fn take_piece<T: Lines>(table: &mut T, bytes: &mut [u8], len: usize, line: u64) -> Piece
     requires ready { T.Ready table.old }
+    requires long_is_off { Longest (T.step table.old) T.LONGEST }
     requires len_in_bounds { len ≤ length bytes.old }
     requires countable { (1 ≤ line) × (line + len < 2 ^ 64) }
     ensures taken { PieceTaken (T.step table.old) T.LONGEST (reading_at 0 line (T.held table.old line))
@@ -130,7 +130,7 @@ pub fn take_piece<T: Lines>(table: &mut T, bytes: &mut [u8], len: usize, line: u
     if feed.refusal.is_err() {
         return stopped;
     }
-    if T::LONGEST + 2 < left {
+    if table.longest() + 2 < left {
         return Piece {
             refusal: Err(Refusal::OffLayout),
             ..stopped

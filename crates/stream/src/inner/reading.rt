@@ -2,7 +2,7 @@
 ghost use Rattle.std.specs.Prelude.{◌≡◌, ◌+◌, ◌<◌, length, take};
 ghost use Rattle.channel.specs.System.{Descriptor};
 ghost use Rattle.channel.specs.Input.{origin_of};
-ghost use Rattle.stream.specs.Reading.{reading_at};
+ghost use Rattle.stream.specs.Reading.{reading_at, Longest};
 ghost use Rattle.stream.specs.Feeding.{Waiting, Turned, Done};
 
 use crate::inner::lines::{Lines, take_last, take_piece};
@@ -26,6 +26,7 @@ fn read_on<T: Lines>(
 ) -> Turn
     requires descriptor { Descriptor source.now (origin_of opened name.now) }
     requires ready { T.Ready table.old }
+    requires long_is_off { Longest (T.step table.old) T.LONGEST }
     requires waiting { Waiting T.LONGEST bytes.old left line taken.old }
     ensures turned { Turned (origin_of opened name.now) (T.step table.old) T.LONGEST
         (reading_at 0 line (T.held table.old line)) (take left bytes.old) taken.old result
@@ -53,6 +54,7 @@ pub fn read_whole<T: Lines>(
     requires descriptor { Descriptor source.now (origin_of opened name.now) }
     requires taken_value { taken.old ≡ 0 }
     requires ready { T.Ready table.old }
+    requires long_is_off { Longest (T.step table.old) T.LONGEST }
     requires room { T.LONGEST + 2 < length bytes.old }
     ensures { Done (origin_of opened name.now) (T.step table.old) T.LONGEST (T.held table.old 1) result
         (T.held table.new result.line) }

@@ -11,7 +11,7 @@ loop-left-init g c =
 pub returns-in_default : goal.returns-in_default
 returns-in_default g c =
     let l = c.loop-left.invariant in
-    come_done l.0 (rw l.2 at c.read_on-turn.ensures.turned) (g.met.T.Lines.long_is_off c.args.table.now)
+    come_done l.0 (rw l.2 at c.read_on-turn.ensures.turned) c.requires.long_is_off
     c.in_default.not-Going
 
 pub loop-left-preserved : goal.loop-left-preserved

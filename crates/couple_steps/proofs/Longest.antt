@@ -1,6 +1,5 @@
--- Inner steps: no promise uses them. No line on its layout is longer than the header of the movements: what stands
--- here proves a law of the table's lines. Assumes nothing.
-use Rattle.std.specs.Prelude.{ℕ, ◌^◌, ◌<◌}
+-- No line on its layout is longer than the header of the movements. Assumes nothing.
+use Rattle.std.specs.Prelude.{ℕ, ◌<◌}
 use mathlib.Core.{Path.◌≡◌, Path.refl, Bool.false, Bool.and-false, List.List}
 use native.Mathlib.Omega.{arith}
 use lib.{ListN.length, Dec.eqb}
@@ -39,6 +38,3 @@ longest_table columns =
       off = λ n rows line h. long_refused columns n line h;
       kept = λ n rows line h. long_after columns n line h rows;
     }
-
-pub not_too_long : longest_text < 2 ^ 32
-not_too_long = omega arith
