@@ -1,6 +1,6 @@
 // The lines of a file into a table. A table is one flat list, column after column, with room for 50,000 numbers in each
 // column.
-ghost use Rattle.std.specs.Prelude.{◌≡◌, ◌+◌, ◌*◌, ◌<◌, ◌≤◌, [], ◌∷◌, ◌++◌, length, slice_index};
+ghost use Rattle.std.specs.Prelude.{◌≡◌, ℕ, ◌+◌, ◌*◌, ◌<◌, ◌≤◌, [], ◌∷◌, ◌++◌, length, slice_index};
 ghost use Rattle.text.specs.Index.{listing};
 ghost use Rattle.refusal.specs.Refusal.{told};
 ghost use Rattle.coupling_rules.specs.Limits.{max_flights};
@@ -70,6 +70,10 @@ impl Lines for Tracks {
 
     ghost Ready = { λ t. length t.cells ≡ 8 * max_flights };
 
+    ghost Memory = { ℕ };
+
+    ghost memory = { λ t. 0 };
+
     ghost LONGEST = { 51 };
 
     fn longest(&self) -> usize {
@@ -97,6 +101,10 @@ impl Lines for Movements {
     ghost held = { λ t n. held_in 9 t.cells n };
 
     ghost Ready = { λ t. length t.cells ≡ 9 * max_flights };
+
+    ghost Memory = { ℕ };
+
+    ghost memory = { λ t. 0 };
 
     ghost LONGEST = { 51 };
 

@@ -1,5 +1,5 @@
 // A register's bytes as they come: its lines, one after another, into the book.
-ghost use Rattle.std.specs.Prelude.{◌≡◌, true};
+ghost use Rattle.std.specs.Prelude.{◌≡◌, ℕ, true};
 ghost use Rattle.std.proofs.Common.{rules};
 ghost use Rattle.book_rules.specs.Columns.{Book, book_lent, sound};
 ghost use Rattle.stream.specs.InnerTaken.{LineTaken};
@@ -65,6 +65,11 @@ impl<'a> Lines for Register<'a> {
     ghost held = { λ r line. book_lent r.ids.now r.groups.now r.marks.now r.counts.now r.levels.now };
 
     ghost Ready = { λ r. sound r.points (book_lent r.ids.now r.groups.now r.marks.now r.counts.now r.levels.now) ≡ true };
+
+    ghost Memory = { ℕ × ℕ × ℕ × ℕ × ℕ };
+
+    ghost memory = { λ r.
+        (r.ids.ghost_name, r.groups.ghost_name, r.marks.ghost_name, r.counts.ghost_name, r.levels.ghost_name) };
 
     ghost LONGEST = { 84 };
 

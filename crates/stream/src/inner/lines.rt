@@ -20,6 +20,11 @@ pub trait Lines {
 
     ghost Ready: { Self → Type 0 };
 
+    // The names of the memory that it was lent: it goes on in the same.
+    ghost Memory: { Type 0 };
+
+    ghost memory: { Self → Memory };
+
     ghost LONGEST: { ℕ };
 
     // How many bytes the longest line on its layout has before its CRLF.
@@ -33,7 +38,8 @@ pub trait Lines {
         ensures taken { LineTaken (step self.old) number (held self.old number) line.now
             (told result) (held self.new (next_line number (told result))) }
         ensures kept { Ready self.new }
-        ensures same { step self.new ≡ step self.old };
+        ensures same { step self.new ≡ step self.old }
+        ensures lent { memory self.new ≡ memory self.old };
 
     ghost short_enough: { LONGEST < 2 ^ 32 };
 }
@@ -46,6 +52,7 @@ pub fn take_lines<T: Lines>(table: &mut T, bytes: &[u8], line: u64) -> Feed
         bytes.now result.at (reading_at (told result.refusal) result.line (T.held table.new result.line)) }
     ensures kept { T.Ready table.new }
     ensures same { T.step table.new ≡ T.step table.old }
+    ensures lent { T.memory table.new ≡ T.memory table.old }
 {
     let mut at = 0;
     let mut number = line;
@@ -79,6 +86,7 @@ pub fn take_last<T: Lines>(table: &mut T, bytes: &[u8], line: u64) -> Feed
         bytes.now (reading_at (told result.refusal) result.line (T.held table.new result.line)) }
     ensures kept { T.Ready table.new }
     ensures same { T.step table.new ≡ T.step table.old }
+    ensures lent { T.memory table.new ≡ T.memory table.old }
 {
     if bytes.is_empty() {
         let refusal = if line == 1 {
@@ -118,6 +126,7 @@ pub fn take_piece<T: Lines>(table: &mut T, bytes: &mut [u8], len: usize, line: u
         (take result.left bytes.new) }
     ensures kept { T.Ready table.new }
     ensures same { T.step table.new ≡ T.step table.old }
+    ensures lent { T.memory table.new ≡ T.memory table.old }
 {
     let feed = take_lines(table, &bytes[..len], line);
     let left = len - feed.at;

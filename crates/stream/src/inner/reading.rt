@@ -33,6 +33,7 @@ fn read_on<T: Lines>(
         (T.held table.new result.line) bytes.new taken.new }
     ensures kept { T.Ready table.new }
     ensures same { T.step table.new ≡ T.step table.old }
+    ensures lent { T.memory table.new ≡ T.memory table.old }
 {
     match read_from(rt, opened, name, source, taken, &mut bytes[left..]) {
         Arrived::Bytes(n) => turned(take_piece(table, bytes, left + n, line)),
@@ -56,8 +57,9 @@ pub fn read_whole<T: Lines>(
     requires ready { T.Ready table.old }
     requires long_is_off { Longest (T.step table.old) T.LONGEST }
     requires room { T.LONGEST + 2 < length bytes.old }
-    ensures { Done (origin_of opened name.now) (T.step table.old) T.LONGEST (T.held table.old 1) result
+    ensures done { Done (origin_of opened name.now) (T.step table.old) T.LONGEST (T.held table.old 1) result
         (T.held table.new result.line) }
+    ensures lent { T.memory table.new ≡ T.memory table.old }
 {
     let mut left = 0;
     let mut line = 1;

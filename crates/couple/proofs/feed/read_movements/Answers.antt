@@ -12,4 +12,4 @@ pub read_whole-requires-clause-long_is_off : goal.read_whole-requires-clause-lon
 read_whole-requires-clause-long_is_off c = longest_table 9
 
 pub returns : goal.returns
-returns c = unfold listing in c.read_whole.ensures
+returns c = unfold listing in c.read_whole.ensures.done

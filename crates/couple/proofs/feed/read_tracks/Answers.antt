@@ -7,4 +7,4 @@ pub read_whole-turn-requires-clause-long_is_off : goal.read_whole-turn-requires-
 read_whole-turn-requires-clause-long_is_off c = longest_table 8
 
 pub returns : goal.returns
-returns c = unfold listing in c.read_whole-turn.ensures
+returns c = unfold listing in c.read_whole-turn.ensures.done

@@ -24,4 +24,5 @@ loop-end-preserved g c =
           c.line_end-end-in-loop-end.ensures,
       l.ensures.kept,
       l.ensures.same ∙ c.loop-end.invariant.2,
+      l.ensures.lent ∙ c.loop-end.invariant.3,
     )

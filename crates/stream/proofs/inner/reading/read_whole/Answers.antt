@@ -6,10 +6,10 @@ use Rattle.stream.proofs.inner.reading.read_whole.Goals as goal
 
 pub loop-left-init : goal.loop-left-init
 loop-left-init g c =
-    (rw c.requires.taken_value (come_none _ c.args.bytes.now c.requires.room), c.requires.ready, refl, refl)
+    (rw c.requires.taken_value (come_none _ c.args.bytes.now c.requires.room), c.requires.ready, refl, refl, refl)
 
-pub returns-in_default : goal.returns-in_default
-returns-in_default g c =
+pub returns-in_default-clause-done : goal.returns-in_default-clause-done
+returns-in_default-clause-done g c =
     let l = c.loop-left.invariant in
     come_done l.0 (rw l.2 at c.read_on-turn.ensures.turned) c.requires.long_is_off
     c.in_default.not-Going
@@ -18,4 +18,4 @@ pub loop-left-preserved : goal.loop-left-preserved
 loop-left-preserved g c =
     let l = c.loop-left.invariant in
     let r = c.read_on-turn in
-    (come_next l.0 (rw l.2 at r.ensures.turned) c.in-Going.is, r.ensures.kept, r.ensures.same ∙ l.2, search rules)
+    (come_next l.0 (rw l.2 at r.ensures.turned) c.in-Going.is, r.ensures.kept, r.ensures.same ∙ l.2, r.ensures.lent ∙ l.3, search rules)

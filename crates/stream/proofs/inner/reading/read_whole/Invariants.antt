@@ -10,6 +10,7 @@ invariant-loop-left g l =
     Come (origin_of l.opened l.name) (g.T.Lines.step l.initial.table) g.T.Lines.LONGEST
     (g.T.Lines.held l.initial.table 1) l.bytes l.left l.line l.taken (g.T.Lines.held l.table l.line)
     × g.T.Lines.Ready l.table × (g.T.Lines.step l.table ≡ g.T.Lines.step l.initial.table)
+    × (g.T.Lines.memory l.table ≡ g.T.Lines.memory l.initial.table)
     × (length l.bytes ≡ length l.initial.bytes)
 
 abbrev pub decreases-loop-left : goal.decreases-loop-left
