@@ -39,6 +39,7 @@ fn fill_from(rt: &HostRuntime, opened: bool, name: &str, source: &Source, text: 
 {
     let mut taken = 0;
     let mut n = 0;
+    // Kept: (d) a read says how many bytes came, so the next place is found in each turn.
     while n < text.len() {
         match read_from(rt, opened, name, source, &mut taken, &mut text[n..]) {
             Arrived::Bytes(k) => {

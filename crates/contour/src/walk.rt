@@ -228,6 +228,7 @@ pub(crate) fn trace(
 {
     let mut here = start;
     let mut at = from;
+    // Kept: (d) where the line goes on is found in each step.
     while still_waits(list, here.edge) {
         let n = here.edge;
         list[n] = 0;

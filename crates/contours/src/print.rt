@@ -175,6 +175,7 @@ fn parts(
 {
     let mut room = io::buffer();
     let mut at = first();
+    // Kept: (d) a turn prints as much as there is room for, and tells where the next begins.
     while at.line <= counts.len() {
         let part = print_part(levels, frame, v, edges, counts, closed, at, &mut room);
         let n = part.size;

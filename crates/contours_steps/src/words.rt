@@ -21,6 +21,7 @@ pub fn contour_of(word: &[u8]) -> Option<u32>
 }
 
 // The words of a program: how many there are, and whether every one is a contour level.
+// Kept: (d) two answers, of which neither says whether the other holds.
 #[derive(Clone, Copy)]
 pub struct Given {
     pub count: usize,

@@ -20,6 +20,7 @@ fn judge_value(s: &[u8], nodata: &[u8]) -> Option<bool>
 }
 
 // How many values a row has, and whether all of them are sound.
+// Kept: (d) two answers, of which neither says whether the other holds.
 #[derive(Clone, Copy)]
 pub struct Row {
     pub values: usize,
@@ -47,6 +48,7 @@ fn judge_row(s: &[u8], nodata: &[u8]) -> Option<Row>
 
 // What a text on its layout is judged to be: its frame, the place of its rows, whether they fit the frame and whether
 // all values are sound.
+// Kept: (d) three answers, of which none says whether another holds.
 #[derive(Clone, Copy)]
 pub struct File {
     pub frame: Frame,
@@ -72,6 +74,7 @@ fn judge_rows(
     let mut count = 0;
     let mut fits = true;
     let mut sound = true;
+    // Kept: (d) where the next row begins is found with the end of this one.
     while at < s.len() {
         let line = line_at(s, at);
         let end = line.end;

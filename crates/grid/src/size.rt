@@ -39,6 +39,7 @@ fn whole_size(n: u32) -> usize
 {
     let mut left = n;
     let mut size = 1;
+    // Kept: (d) it counts no index: the digits of 0 are one, where `ilog10` has no answer.
     while 10 <= left {
         left /= 10;
         size += 1;

@@ -42,6 +42,7 @@ pub(crate) fn store_rows(s: &[u8], from: usize, columns: usize, rows: usize, out
 {
     let mut at = from;
     let mut south = rows;
+    // Kept: (d) where the next row begins is found with the end of this one.
     while at < s.len() {
         let line = line_at(s, at);
         let end = line.end;

@@ -65,6 +65,7 @@ fn run(
 {
     let mut rest = journal;
     let mut made = 0;
+    // Kept: (d) how long a call is is read in it, so the rest is found in each turn.
     while !rest.is_empty() {
         let answer = make_call(ids, groups, marks, counts, levels, points, rest);
         answers[made] = told(answer);

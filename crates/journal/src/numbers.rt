@@ -49,6 +49,7 @@ pub(crate) fn is_laid_out(journal: &[u32]) -> bool
     ensures { result ≡ laid_out journal.now }
 {
     let mut rest = journal;
+    // Kept: (d) how long a call is is read in it, so the rest is found in each turn.
     while !rest.is_empty() {
         let width = width_of(rest);
         if width < 1 || rest.len() < width {
@@ -66,6 +67,7 @@ pub(crate) fn count_calls(journal: &[u32]) -> usize
 {
     let mut rest = journal;
     let mut count = 0;
+    // Kept: (d) how long a call is is read in it, so the rest is found in each turn.
     while !rest.is_empty() {
         rest = &rest[width_of(rest)..];
         count += 1;

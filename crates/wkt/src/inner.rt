@@ -35,6 +35,7 @@ pub fn print_part(
     let mut piece = [0u8; 64];
     let mut at = from;
     let mut size = 0;
+    // Kept: (d) what is printed next, and where, is found in each step.
     while at.line <= counts.len() {
         let step = put_step(levels, frame, v, edges, counts, closed, at, &mut piece);
         let more = step.size;
@@ -62,6 +63,7 @@ pub fn text_size(
     let mut piece = [0u8; 64];
     let mut at = first();
     let mut size = 0;
+    // Kept: (d) what is printed next, and where, is found in each step.
     while at.line <= counts.len() {
         let step = put_step(levels, frame, v, edges, counts, closed, at, &mut piece);
         size += step.size;

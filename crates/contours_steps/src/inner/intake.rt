@@ -9,6 +9,7 @@ pub fn line_begun(text: &[u8]) -> usize
     let mut at = 0;
     let mut line = 1;
     let mut end = text::inner::line_end(text, 0);
+    // Kept: (d) where the next line begins is found with the end of this one.
     while end < text.len() {
         at = end + 2;
         line += 1;

@@ -57,6 +57,7 @@ pub fn take_lines<T: Lines>(table: &mut T, bytes: &[u8], line: u64) -> Feed
     let mut at = 0;
     let mut number = line;
     let mut end = line_end(bytes, 0);
+    // Kept: (d) where the next line begins is found with the end of this one.
     while 2 <= bytes.len() - end {
         let refusal = table.take_line(&bytes[at..end], number);
         if refusal.is_err() {
