@@ -196,7 +196,8 @@ fn put_told(
     limits: Limits,
 ) -> Report
     requires { LimitsFit (accepted_limits limits) × (longest_text ≤ length out.old) }
-    ensures { Told (telling_of kind) (accepted_limits limits) (book_lent ids.now groups.now marks.now counts.now levels.now) out.old
+    ensures { Told (telling_of kind) (accepted_limits limits)
+        (book_lent ids.now groups.now marks.now counts.now levels.now) out.old
         result
         out.new }
 {

@@ -64,7 +64,8 @@ impl<'a> Lines for Register<'a> {
 
     ghost held = { λ r line. book_lent r.ids.now r.groups.now r.marks.now r.counts.now r.levels.now };
 
-    ghost Ready = { λ r. sound r.points (book_lent r.ids.now r.groups.now r.marks.now r.counts.now r.levels.now) ≡ true };
+    ghost Ready = { λ r.
+        sound r.points (book_lent r.ids.now r.groups.now r.marks.now r.counts.now r.levels.now) ≡ true };
 
     ghost Memory = { ℕ × ℕ × ℕ × ℕ × ℕ };
 

@@ -78,7 +78,8 @@ pub fn take_lines<T: Lines>(table: &mut T, bytes: &[u8], line: u64) -> Feed
     }
 }
 
-// The end of a text: the last bytes are a line that no CRLF ends, or there are none. A text without a line has no header.
+// The end of a text: the last bytes are a line that no CRLF ends, or there are none; but a text without a line has no
+// header.
 pub fn take_last<T: Lines>(table: &mut T, bytes: &[u8], line: u64) -> Feed
     requires ready { T.Ready table.old }
     requires unended { Unended bytes.now }
