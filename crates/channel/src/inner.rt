@@ -16,7 +16,7 @@ const STDOUT_FILENO: i32 = 1;
 // Reads behind the `taken` bytes that came before, into the front of the room. Without room it fails: then nothing can
 // come, and that is no end, nor a read that failed. Behind an end or a failure the count is used up, and a further read
 // fails without being made. The source is the file that was opened under the name, or else standard input.
-// Kept: tools/check-channel holds each call that reads to the flag `opened` and the name beside it, by these words.
+// Kept: (a) tools/check-channel holds each call that reads to the flag `opened` and the name beside it, by these words.
 pub fn read_from(
     rt: &HostRuntime,
     opened: bool,

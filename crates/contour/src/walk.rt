@@ -183,7 +183,7 @@ pub struct Stand {
 
 // Through the square ahead to the edge by which the line leaves it. Outside the network stands the number of edges,
 // which is no edge's.
-// Kept: that number; `next_number` of contour_rules, which the theorems on lines speak of, has it too.
+// Kept: (a) that number; `next_number` of contour_rules, which the theorems on lines speak of, has it too.
 fn step(network: Network, v: u32, ahead: Option<Square>) -> Stand
     requires { WithinAhead network.nx network.ny ahead }
     ensures { (result.edge ≡ step_edge (pictured network.entry v) ahead)

@@ -160,9 +160,9 @@ fn answer_read(
     match read.refusal {
         Err(why) => refuse(rt, bytes, read, why, limits, out),
         Ok(()) => {
-            let report = put_told(kind, out, ids, groups, marks, counts, levels, limits);
-            sentences::answer(rt, report.outcome, read.line, ids);
-            report.size
+            let made = put_told(kind, out, ids, groups, marks, counts, levels, limits);
+            sentences::answer(rt, made.outcome, read.line, ids);
+            made.size
         }
     }
 }

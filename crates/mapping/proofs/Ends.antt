@@ -16,14 +16,3 @@ pub ends_small : {nx ny : ℕ} (e : Edge) → Sides nx ny → WithinEdge nx ny e
     → (row_of e < max_side) × (col_of e < max_side)
 ends_small (Horizontal row col) s w = (omega (arith, w.0, s.low), omega (arith, w.1, s.narrow))
 ends_small (Vertical row col) s w = (omega (arith, w.0, s.low), omega (arith, w.1, s.narrow))
-
--- an edge of which there is a crossing is in the network
-pub some_crossed : (levels : List ℕ) (f : Frame) (v n : ℕ) {c : Crossing} → crossing_of levels f v n ≡ Some c
-    → n < edges f.columns f.rows
-some_crossed levels f v n e = go (is_crossed levels f v n) refl e
-  where
-    go : (b : Bool) {c : Crossing} → is_crossed levels f v n ≡ b
-        → cond b (Some (along_edge levels f.columns v (edge_at f.columns f.rows n))) None ≡ Some c
-        → n < edges f.columns f.rows
-    go true q e = ltb-true _ _ (and_left _ _ q)
-    go false q e = cc

@@ -34,7 +34,7 @@ unfolding of_int
 zero_within = fraction_within 0 1 (omega arith, omega arith)
 
 along_within : (levels : List ℕ) (nx v : ℕ) (e : Edge) → crossed_edge levels nx v e ≡ true
-    → Within 0 (fraction_shown (Some (along_edge levels nx v e))) 1
+    → Within 0 (fraction_shown (along_edge levels nx v e)) 1
 along_within levels nx v (Horizontal row col) h = fraction_within _ _ (num_den v _ _ (astride v _ _ h))
 along_within levels nx v (Vertical row col) h = fraction_within _ _ (num_den v _ _ (astride v _ _ h))
 
@@ -61,7 +61,7 @@ module _ (levels : List ℕ) (f : Frame) (v n : ℕ) where
   -- the answered fraction is never under 0 or over 1
   shown_within : Within 0 (fraction_shown (crossing_of levels f v n)) 1
   shown_within =
-      by_cond (λ (c : Option Crossing). Within 0 (fraction_shown c) 1) (is_crossed levels f v n) _ _
+      by_cond (λ (c : Crossing). Within 0 (fraction_shown c) 1) (is_crossed levels f v n) _ _
       (λ h. along_within levels f.columns v (edge_at f.columns f.rows n) (in_network levels f v n h).1)
       (λ _. zero_within)
 
@@ -82,8 +82,8 @@ module _ (levels : List ℕ) (f : Frame) (v n : ℕ) where
     -- a property of the crossing and the map point of edge e, which is crossed
     crossed_at_rule : (P : Asked → Mapped → Type 0) (e : Edge) → edge_at f.columns f.rows n ≡ e
         → is_crossed levels f v n ≡ true
-        → P (Ok (Some (along_edge levels f.columns v e)))
-        (Ok (locate (Some (along_edge levels f.columns v e)) (row_of e) (col_of e) f)) → Both P
+        → P (Ok (along_edge levels f.columns v e))
+        (Ok (locate (along_edge levels f.columns v e) (row_of e) (col_of e) f)) → Both P
     crossed_at_rule P e q h p = rw (h, q) p
 
     none_at_rule : is_crossed levels f v n ≡ false → Both (None levels f v)
@@ -101,8 +101,8 @@ module _ (levels : List ℕ) (f : Frame) (v n : ℕ) where
 
     along_row : (row col : ℕ) → row < f.rows → col + 1 < f.columns
         → crossed_edge levels f.columns v (Horizontal row col) ≡ true
-        → AlongRow levels f v row col (Ok (Some (along_edge levels f.columns v (Horizontal row col))))
-        (Ok (locate (Some (along_edge levels f.columns v (Horizontal row col))) row col f))
+        → AlongRow levels f v row col (Ok (along_edge levels f.columns v (Horizontal row col)))
+        (Ok (locate (along_edge levels f.columns v (Horizontal row col)) row col f))
     along_row row col h l x =
         let w = astride v _ _ x in
         let d = num_den v _ _ w in
@@ -116,8 +116,8 @@ module _ (levels : List ℕ) (f : Frame) (v n : ℕ) where
 
     along_column : (row col : ℕ) → row + 1 < f.rows → col < f.columns
         → crossed_edge levels f.columns v (Vertical row col) ≡ true
-        → AlongColumn levels f v row col (Ok (Some (along_edge levels f.columns v (Vertical row col))))
-        (Ok (locate (Some (along_edge levels f.columns v (Vertical row col))) row col f))
+        → AlongColumn levels f v row col (Ok (along_edge levels f.columns v (Vertical row col)))
+        (Ok (locate (along_edge levels f.columns v (Vertical row col)) row col f))
     along_column row col h l x =
         let w = astride v _ _ x in
         let d = num_den v _ _ w in
@@ -134,8 +134,8 @@ module _ (levels : List ℕ) (f : Frame) (v n : ℕ) where
         → edge_at f.columns f.rows m ≡ e → m < edges f.columns f.rows
         → crossed_at levels f.columns f.rows v m ≡ true
         → (crossed_edge levels f.columns v e ≡ true
-        → P (Ok (Some (along_edge levels f.columns v e)))
-        (Ok (locate (Some (along_edge levels f.columns v e)) (row_of e) (col_of e) f))) → Both P
+        → P (Ok (along_edge levels f.columns v e))
+        (Ok (locate (along_edge levels f.columns v e) (row_of e) (col_of e) f))) → Both P
     crossed_number P e m q i l c p =
         let at : edge_at f.columns f.rows n ≡ e = ap (edge_at f.columns f.rows) q ∙ i in
         let x : crossed_at levels f.columns f.rows v n ≡ true =
@@ -182,7 +182,7 @@ module _ (levels : List ℕ) (f : Frame) (v n : ℕ) where
 
 -- ---- none exactly where the edge isn't in the network or isn't crossed
 
-along_some : (levels : List ℕ) (nx v : ℕ) (e : Edge) → which_of (Some (along_edge levels nx v e)) ≡ 0 → ⊥
+along_some : (levels : List ℕ) (nx v : ℕ) (e : Edge) → which_of (along_edge levels nx v e) ≡ 0 → ⊥
 along_some levels nx v (Horizontal row col) h = omega arith
 along_some levels nx v (Vertical row col) h = omega arith
 

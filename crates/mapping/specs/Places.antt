@@ -10,7 +10,7 @@ use Rattle.network.specs.declared.Frame.{Frame}
 use Rattle.network.specs.Edges.{edge_at}
 use Rattle.network.specs.Refusals.{contour_refusal}
 use Rattle.mapping.specs.declared.Crossing.{Crossing}
-use Rattle.mapping.specs.declared.Crossing.TheVariants.{AlongHorizontal, AlongVertical}
+use Rattle.mapping.specs.declared.Crossing.TheVariants.{Nowhere, AlongHorizontal, AlongVertical}
 use Rattle.mapping.specs.declared.Located.{Located}
 use Rattle.mapping.specs.declared.Located.TheVariants.{OnHorizontal, OnVertical}
 use Rattle.mapping.specs.declared.Shown.{Shown}
@@ -35,11 +35,11 @@ col_of (Horizontal row col) = col
 col_of (Vertical row col) = col
 
 -- the map point of a crossing on the edge whose west or south end is at that row and column
-abbrev pub locate : (c : Option Crossing) (row col : ℕ) (f : Frame) → Option Located
-locate None row col f = None
-locate (Some (AlongHorizontal t)) row col f =
+abbrev pub locate : (c : Crossing) (row col : ℕ) (f : Frame) → Option Located
+locate Nowhere row col f = None
+locate (AlongHorizontal t) row col f =
     Some (OnHorizontal (record { x = moving col t f.spacing f.west; y = still row f.spacing f.south }))
-locate (Some (AlongVertical t)) row col f =
+locate (AlongVertical t) row col f =
     Some (OnVertical (record { x = still col f.spacing f.west; y = moving row t f.spacing f.south }))
 
 -- the map point of the edge of a number: none where its crossing is

@@ -57,7 +57,7 @@ pub record Moves (index : ℕ) (fraction : Float) (spacing origin : ℕ) (x : Fl
 
 -- what the two calls answer
 abbrev pub Asked : Type 0
-Asked = Result (Option Crossing) Refusal
+Asked = Result Crossing Refusal
 
 abbrev pub Mapped : Type 0
 Mapped = Result (Option Located) Refusal

@@ -44,14 +44,14 @@ fn along_edge(network: Network, v: u32, e: Edge) -> Crossing
 }
 
 // The crossing of the edge of a number, none where it is no edge or is not crossed.
-pub(crate) fn crossing_of(levels: &[u32], frame: Frame, v: u32, n: u32) -> Option<Crossing>
+pub(crate) fn crossing_of(levels: &[u32], frame: Frame, v: u32, n: u32) -> Crossing
     requires { Checked levels.now frame }
     ensures { result ≡ crossing_of levels.now frame v n }
 {
     let network = Network::new(levels, frame);
     let at = n as usize;
     if at < network.edge_count() && network.crossed_at(v, at) {
-        return Some(along_edge(network, v, network.edge_at(at)));
+        return along_edge(network, v, network.edge_at(at));
     }
-    None
+    Crossing::Nowhere
 }

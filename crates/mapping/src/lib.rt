@@ -17,9 +17,12 @@ use refusal::Refusal;
 mod edge;
 mod place;
 
-// Where a contour crosses an edge: at a fraction of a horizontal or a vertical edge from its west or south end.
+// Where a contour crosses an edge: nowhere, or at a fraction of a horizontal or a vertical edge from its west or south
+// end.
+// Kept: (a) FORMS has it as an enum of three cases.
 #[derive(Clone, Copy)]
 pub enum Crossing {
+    Nowhere,
     AlongHorizontal(f64),
     AlongVertical(f64),
 }
@@ -39,7 +42,7 @@ pub enum Located {
 }
 
 // A map point by number and coordinates: 0 none, 1 on a horizontal edge, 2 on a vertical edge.
-// Kept: a number for the kind; the C interface writes these three.
+// Kept: (a) a number for the kind; the C interface writes these three.
 #[derive(Clone, Copy)]
 pub struct Shown {
     pub which: u32,
@@ -48,23 +51,23 @@ pub struct Shown {
 }
 
 // The number of a crossing: 0 none, 1 along a horizontal edge, 2 along a vertical edge.
-pub fn which_of(c: Option<Crossing>) -> u32
+pub fn which_of(c: Crossing) -> u32
     ensures { result ≡ which_of c }
 {
     match c {
-        None => 0,
-        Some(Crossing::AlongHorizontal(_)) => 1,
-        Some(Crossing::AlongVertical(_)) => 2,
+        Crossing::Nowhere => 0,
+        Crossing::AlongHorizontal(_) => 1,
+        Crossing::AlongVertical(_) => 2,
     }
 }
 
 // The fraction of a crossing, 0.0 where there is none.
-pub fn fraction_of(c: Option<Crossing>) -> f64
+pub fn fraction_of(c: Crossing) -> f64
     ensures { result ≡ fraction_shown c }
 {
     match c {
-        None => 0.0,
-        Some(Crossing::AlongHorizontal(f) | Crossing::AlongVertical(f)) => f,
+        Crossing::Nowhere => 0.0,
+        Crossing::AlongHorizontal(f) | Crossing::AlongVertical(f) => f,
     }
 }
 
@@ -92,12 +95,7 @@ pub fn shown_of(l: Option<Located>) -> Shown
 }
 
 // The crossing at level v of the edge of a number, if there is one.
-pub fn crossing_at(
-    levels: &[u32],
-    frame: Frame,
-    v: u32,
-    n: u32,
-) -> Result<Option<Crossing>, Refusal>
+pub fn crossing_at(levels: &[u32], frame: Frame, v: u32, n: u32) -> Result<Crossing, Refusal>
     ensures { CrossingAsked levels.now frame v n result }
 {
     network::contour_refusal(levels, frame, v, MAX_NETWORK_LEVEL)?;

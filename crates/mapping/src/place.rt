@@ -24,23 +24,24 @@ fn stay(index: u32, spacing: u32, origin: u32) -> f64
 }
 
 // The map point of a crossing on the edge whose west or south end is at that row and column.
-fn locate_crossing(c: Crossing, row: u32, col: u32, frame: Frame) -> Located
+fn locate_crossing(c: Crossing, row: u32, col: u32, frame: Frame) -> Option<Located>
     requires { ((row < max_side) × (col < max_side))
         × ((frame.spacing ≤ max_spacing) × ((frame.west ≤ max_origin) × (frame.south ≤ max_origin))) }
-    ensures { Some result ≡ locate (Some c) row col frame }
+    ensures { result ≡ locate c row col frame }
 {
     let spacing = frame.spacing;
     let west = frame.west;
     let south = frame.south;
     match c {
-        Crossing::AlongHorizontal(f) => Located::OnHorizontal(MapPoint {
+        Crossing::Nowhere => None,
+        Crossing::AlongHorizontal(f) => Some(Located::OnHorizontal(MapPoint {
             x: move_along(col, f, spacing, west),
             y: stay(row, spacing, south),
-        }),
-        Crossing::AlongVertical(f) => Located::OnVertical(MapPoint {
+        })),
+        Crossing::AlongVertical(f) => Some(Located::OnVertical(MapPoint {
             x: stay(col, spacing, west),
             y: move_along(row, f, spacing, south),
-        }),
+        })),
     }
 }
 
@@ -66,7 +67,12 @@ pub(crate) fn locate_at(levels: &[u32], frame: Frame, v: u32, n: u32) -> Option<
     requires { Checked levels.now frame }
     ensures { result ≡ located_of levels.now frame v n }
 {
-    let c = edge::crossing_of(levels, frame, v, n)?;
-    let e = Network::new(levels, frame).edge_at(n as usize);
-    Some(locate_crossing(c, row_of(e) as u32, col_of(e) as u32, frame))
+    let network = Network::new(levels, frame);
+    let at = n as usize;
+    if at < network.edge_count() {
+        let c = edge::crossing_of(levels, frame, v, n);
+        let e = network.edge_at(at);
+        return locate_crossing(c, row_of(e) as u32, col_of(e) as u32, frame);
+    }
+    None
 }

@@ -1,8 +1,8 @@
 // What calls share when they refuse: RULES, "Refusal numbers". The order of refusals stands in specs/Refuse.antt; a
-// function that refuses returns its number itself.
+// function refuses by name, and `told` gives the number.
 #![tactic(auto)]
 
-ghost use Rattle.std.specs.Prelude.{◌≡◌, ◌&&◌};
+ghost use Rattle.std.specs.Prelude.{◌≡◌};
 ghost use Rattle.refusal.specs.Range.{all_within};
 ghost use Rattle.refusal.specs.Refusal.{number_of, told};
 
@@ -67,13 +67,6 @@ pub fn told<T: Drop>(answer: Result<T, Refusal>) -> u32
         Ok(_) => 0,
         Err(why) => why.number(),
     }
-}
-
-// Whether both hold.
-pub fn both(a: bool, b: bool) -> bool
-    ensures { result ≡ (a && b) }
-{
-    a && b
 }
 
 // Whether no value is over `top`.

@@ -1,13 +1,17 @@
 -- Two outcomes of one call are equal: an answer's number and values are the answer. Assumes nothing.
-use Rattle.std.specs.Prelude.{ℕ}
+use Rattle.std.specs.Prelude.{ℕ, ◌<◌}
+use native.Mathlib.Omega.{arith}
 use mathlib.Core.{Path.◌≡◌, Path.sym, Path.ap, Path.◌∙◌, List.List}
 use Rattle.std.specs.Prelude.{Result, Ok, Err}
 use Rattle.refusal.specs.declared.Refusal.{Refusal}
 use Rattle.refusal.specs.Refusal.{told}
-use Rattle.refusal.proofs.Laws.{same_number}
+use Rattle.refusal.proofs.Laws.{numbered, same_number}
 use Rattle.register.specs.Row.{answer_values, field_list, RowRead}
 use Rattle.register.specs.Write.{written_values, RowWritten}
-use Rattle.register.specs.declared.row.Fields.{Fields}
+use Rattle.register.specs.Row.{Layout, layout_told}
+use Rattle.register.specs.LimitsFile.{LimitsFile, limits_told}
+use Rattle.register.specs.declared.row.{Fields.Fields, Row.Row}
+use Rattle.register.specs.declared.limits_csv.{Limits.Limits, LimitsRefused.LimitsRefused}
 
 six : {a b c d e m a' b' c' d' e' m' : ℕ} → a ≡ a' → b ≡ b' → c ≡ c' → d ≡ d'
     → e ≡ e' → m ≡ m'
@@ -46,3 +50,23 @@ pub write_once : {n : ℕ} {f : Fields} {levels old new new' : List ℕ} {a b : 
     → RowWritten n f levels old a new → RowWritten n f levels old b new' → (a ≡ b) × (new ≡ new')
 write_once {a = a} {b = b} r s =
     (written_same a b (r.number ∙ sym s.number) (r.values ∙ sym s.values), r.bytes ∙ sym s.bytes)
+
+-- a layout, and limits.csv: what they tell is the answer
+pub same_layout : (r s : Result Row Refusal) → layout_told r ≡ layout_told s → r ≡ s
+same_layout (Ok a) (Ok b) e = ap (λ (l : Layout). Ok (record { fields = l.fields; levels = l.levels })) e
+same_layout (Ok a) (Err why) e = absurd (let low = numbered why in omega (arith, ap (λ (l : Layout). l.refusal) e))
+same_layout (Err why) (Ok b) e = absurd (let low = numbered why in omega (arith, ap (λ (l : Layout). l.refusal) e))
+same_layout (Err why) (Err more) e = ap Err (same_number why more (ap (λ (l : Layout). l.refusal) e))
+
+same_fault : {a b : Refusal} {m n : ℕ} → a ≡ b → m ≡ n
+    → ◌≡◌ {A = LimitsRefused} (record { why = a; line = m }) (record { why = b; line = n })
+same_fault p q = rw (p, q)
+
+pub same_limits : (r s : Result Limits LimitsRefused) → limits_told r ≡ limits_told s → r ≡ s
+same_limits (Ok a) (Ok b) e =
+    ap (λ (l : LimitsFile). Ok (record { points = l.points; days = l.days; limits = l.limits })) e
+same_limits (Ok a) (Err r) e = absurd (let low = numbered r.why in omega (arith, ap (λ (l : LimitsFile). l.refusal) e))
+same_limits (Err r) (Ok b) e = absurd (let low = numbered r.why in omega (arith, ap (λ (l : LimitsFile). l.refusal) e))
+same_limits (Err r) (Err s) e =
+    ap Err
+    (same_fault (same_number r.why s.why (ap (λ (l : LimitsFile). l.refusal) e)) (ap (λ (l : LimitsFile). l.line) e))

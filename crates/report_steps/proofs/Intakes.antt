@@ -14,7 +14,7 @@ use Rattle.report_steps.specs.Intake.{Taken}
 use Rattle.report_steps.specs.Intake.Taken.{Entered, PassedOver, Refused}
 use Rattle.refusal.specs.declared.Refusal.{Refusal}
 use Rattle.refusal.specs.Refusal.{number_of, told}
-use Rattle.refusal.proofs.Laws.{numbered}
+use Rattle.refusal.proofs.Laws.{numbered, same_number}
 use Rattle.report_steps.specs.declared.Entry.{Entry}
 use Rattle.report_steps.specs.declared.Entry.TheVariants.{Added, Skipped}
 use Rattle.report_steps.specs.Intake.{taken_number, taken_of, entering, supplying, entered_taken, entered_after}
@@ -127,3 +127,15 @@ row_sound_lem {p} {b} {b'} {r} line s k =
     go true false z = s
     go true true true = entered
     go true true false = after-sound p p (after p b (entering p l)) (supplying p l) entered (λ _. refl)
+
+-- what a row did is its answer
+pub same_taken : (r s : Result Entry Refusal) → taken_of r ≡ taken_of s → r ≡ s
+same_taken (Ok Added) (Ok Added) e = refl
+same_taken (Ok Added) (Ok Skipped) e = cc
+same_taken (Ok Added) (Err why) e = cc
+same_taken (Ok Skipped) (Ok Added) e = cc
+same_taken (Ok Skipped) (Ok Skipped) e = refl
+same_taken (Ok Skipped) (Err why) e = cc
+same_taken (Err why) (Ok Added) e = cc
+same_taken (Err why) (Ok Skipped) e = cc
+same_taken (Err why) (Err more) e = let n : number_of why ≡ number_of more = cc in ap Err (same_number why more n)

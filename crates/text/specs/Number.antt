@@ -63,7 +63,9 @@ joined d (Some units) None = None
 -- units before a point that stands at `point`, decimals after it
 abbrev pub pointed : (d : ℕ) (s : List ℕ) (point : ℕ) → Option ℕ
 pointed d s point =
-    cond (slice_index s point == (byte ".")) (joined d (whole_of (take point s)) (digits_of 0 (drop (point + 1) s))) None
+    cond (slice_index s point == (byte "."))
+    (joined d (whole_of (take point s)) (digits_of 0 (drop (point + 1) s)))
+    None
 
 -- one to three digits with no needless leading zero, a point, d digits
 unfoldable pub decimal_of : (d : ℕ) (s : List ℕ) → Option ℕ

@@ -7,7 +7,6 @@ ghost use Rattle.coupling_rules.specs.Limits.{max_flights};
 ghost use Rattle.stream.specs.InnerTaken.{LineTaken, next_line};
 ghost use Rattle.couple_steps.specs.Table.{table_step, Rows, longest_text};
 ghost use Rattle.couple_steps.specs.InnerTable.{rows_in, held_in, Roomy};
-ghost use Rattle.std.proofs.Common.{rules};
 
 use coupling::limits::MAX_FLIGHTS;
 use flights::{MOVEMENT_COLUMNS, TRACK_COLUMNS, Values, header_refusal, read_flight};
@@ -80,8 +79,6 @@ impl Lines for Tracks {
         LONGEST_LINE
     }
 
-    ghost short_enough = { Prim.search rules };
-
     fn take_line(&mut self, line: &[u8], number: u64) -> Result<(), Refusal> {
         take_line(&mut self.cells, TRACK_COLUMNS, line, number)
     }
@@ -111,8 +108,6 @@ impl Lines for Movements {
     fn longest(&self) -> usize {
         LONGEST_LINE
     }
-
-    ghost short_enough = { Prim.search rules };
 
     fn take_line(&mut self, line: &[u8], number: u64) -> Result<(), Refusal> {
         take_line(&mut self.cells, MOVEMENT_COLUMNS, line, number)

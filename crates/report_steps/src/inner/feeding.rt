@@ -1,6 +1,5 @@
 // A register's bytes as they come: its lines, one after another, into the book.
 ghost use Rattle.std.specs.Prelude.{◌≡◌, ℕ, true};
-ghost use Rattle.std.proofs.Common.{rules};
 ghost use Rattle.book_rules.specs.Columns.{Book, book_lent, sound};
 ghost use Rattle.stream.specs.InnerTaken.{LineTaken};
 ghost use Rattle.refusal.specs.Refusal.{told};
@@ -77,8 +76,6 @@ impl<'a> Lines for Register<'a> {
     fn longest(&self) -> usize {
         LONGEST_ROW
     }
-
-    ghost short_enough = { Prim.search rules };
 
     fn take_line(&mut self, line: &[u8], number: u64) -> Result<(), Refusal> {
         take_line(

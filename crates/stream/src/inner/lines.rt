@@ -40,8 +40,6 @@ pub trait Lines {
         ensures kept { Ready self.new }
         ensures same { step self.new ≡ step self.old }
         ensures lent { memory self.new ≡ memory self.old };
-
-    ghost short_enough: { LONGEST < 2 ^ 32 };
 }
 
 // Takes every line that the bytes end, up to the first that is refused.
@@ -141,7 +139,7 @@ pub fn take_piece<T: Lines>(table: &mut T, bytes: &mut [u8], len: usize, line: u
     if feed.refusal.is_err() {
         return stopped;
     }
-    if table.longest() + 2 < left {
+    if table.longest() < left.saturating_sub(2) {
         return Piece {
             refusal: Err(Refusal::OffLayout),
             ..stopped

@@ -23,4 +23,4 @@ pub returns-in-Ok : goal.returns-in-Ok
 returns-in-Ok c =
     rw c.in-Ok.is
     (sized_report (telling_of c.args.kind) (accepted_limits c.args.limits) (book (goal.at.returns-in-Ok c).Start) c.args.read.line refl
-    c.put_told-report.ensures.wrote)
+    c.put_told-made.ensures.wrote)

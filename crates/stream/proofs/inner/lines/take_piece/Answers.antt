@@ -18,14 +18,14 @@ returns-then-is_err-clause-taken g c =
     piece_refused g.T.Lines.LONGEST _ c.take_lines-feed.ensures.taken
     (err_some c.take_lines-feed.result.refusal (settled c.is_err.ensures.value c.if-is_err.true))
 
-pub returns-then-longest-left-clause-taken : goal.returns-then-longest-left-clause-taken
-returns-then-longest-left-clause-taken g c =
+pub returns-then-longest-saturating_sub-clause-taken : goal.returns-then-longest-saturating_sub-clause-taken
+returns-then-longest-saturating_sub-clause-taken g c =
     let a = c.args in
     let f = c.take_lines-feed in
     let size = left f.result.at a.len a.bytes.now c.requires.len_in_bounds in
     piece_long g.T.Lines.LONGEST _ f.ensures.taken c.requires.long_is_off
     (fine_none f.result.refusal (settled c.is_err.ensures.value c.if-is_err.false))
-    (omega (arith, size, c.longest.ensures, c.if-longest-left.true))
+    (omega (arith, size, c.longest.ensures, c.saturating_sub.ensures, c.if-longest-saturating_sub.true))
 
 pub returns-clause-taken : goal.returns-clause-taken
 returns-clause-taken g c =
@@ -35,5 +35,5 @@ returns-clause-taken g c =
     let within = rw (length-take-le a.len a.bytes.now c.requires.len_in_bounds) at f.ensures.taken.within in
     piece_left g.T.Lines.LONGEST _ f.ensures.taken
     (fine_none f.result.refusal (settled c.is_err.ensures.value c.if-is_err.false))
-    (omega (arith, size, c.longest.ensures, c.if-longest-left.false))
+    (omega (arith, size, c.longest.ensures, c.saturating_sub.ensures, c.if-longest-saturating_sub.false))
     (c.to_front.ensures ∙ sym (waiting a.bytes.now f.result.at a.len within c.requires.len_in_bounds))
