@@ -1,8 +1,9 @@
--- What only the operating system can say: which bytes came and which went. No contract of std's reading and writing says
+-- What only the operating system can say: which bytes came and went. No contract of std's reading and writing says
 -- it. So nothing proves one of these statements but its own `system_..`, which takes what a call answered and says what
 -- that means. No file outside this crate may name a `system_..`: tools/check-channel, run by the gate, refuses it.
 -- Assumes nothing.
-use Rattle.std.specs.Prelude.{◌≡◌, ℕ, ◌+◌, ◌^◌, ◌≤◌, Bool, true, false, List, [], ◌++◌, length, take, ◌≢◌, Result, Ok, Err}
+use Rattle.std.specs.Prelude.{◌≡◌, ℕ, ◌+◌, ◌^◌, ◌≤◌, Bool, true, false, List, [], ◌++◌, length, take, ◌≢◌}
+use Rattle.std.specs.Prelude.{Result, Ok, Err}
 use Rattle.channel.specs.declared.file.Source.{Source}
 use Rattle.channel.specs.declared.file.Source.TheVariants.{Input, Absent}
 

@@ -73,4 +73,5 @@ packed_gap classes moments class moment reach j = gap_between class moment reach
 -- the gap of track j from movement i
 abbrev pub gaps_in : (tracks movements : Packed) (classes circuits : List ℕ) → ℕ → ℕ → ℕ
 gaps_in t m classes circuits i =
-    packed_gap (class_in t) (moment_in t) (class_in m i) (moment_in m i) (reach_of (get_or classes i 0) (get_or circuits i 0))
+    packed_gap (class_in t) (moment_in t) (class_in m i) (moment_in m i)
+    (reach_of (get_or classes i 0) (get_or circuits i 0))

@@ -1,6 +1,7 @@
 -- Which track each movement takes: RULES, "Radar tracks" (source 003, annex A4, coupling steps 1 and 2). Movements and
 -- tracks go by their place from 0. Assumes nothing.
-use Rattle.std.specs.Prelude.{ℕ, zero, suc, ◌+◌, ◌*◌, ◌-◌, Bool, cond, not, ◌&&◌, List, [], ◌∷◌, eqb, ltb, leb, get_or, set, replicate}
+use Rattle.std.specs.Prelude.{ℕ, zero, suc, ◌+◌, ◌*◌, ◌-◌, Bool, cond, not, ◌&&◌, List, [], ◌∷◌}
+use Rattle.std.specs.Prelude.{eqb, ltb, leb, get_or, set, replicate}
 use Rattle.movement.specs.Limits.{seconds_a_day}
 use Rattle.date.specs.Calendar.{day_number}
 use Rattle.sorting.specs.Sorted.{sorted}

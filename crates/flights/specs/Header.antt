@@ -14,7 +14,8 @@ movement_header = bytes "id,date,time,class,kind,runway,airport,type,circuit"
 -- the header of so many columns
 unfoldable pub is_header : ℕ → List ℕ → Bool
 is_header columns s =
-    cond (columns == track_columns) (same_text s track_header) (columns == movement_columns && same_text s movement_header)
+    cond (columns == track_columns) (same_text s track_header)
+    (columns == movement_columns && same_text s movement_header)
 
 abbrev pub header_refusal : ℕ → List ℕ → ℕ
 header_refusal columns s = refuse 16 (is_header columns s) 0

@@ -1,6 +1,7 @@
 -- How a row of tracks.csv or of the movements is spelled, column by column and letter by letter: RULES, "Radar tracks".
 -- Assumes nothing.
-use Rattle.std.specs.Prelude.{◌≡◌, ℕ, ◌+◌, ◌*◌, ◌/◌, ◌%◌, ◌<◌, ◌≤◌, ◌⊎◌, List, [], ◌∷◌, ◌++◌, length, slice_index, slice_index_or}
+use Rattle.std.specs.Prelude.{◌≡◌, ℕ, ◌+◌, ◌*◌, ◌/◌, ◌%◌, ◌<◌, ◌≤◌, ◌⊎◌, List, [], ◌∷◌, ◌++◌, length}
+use Rattle.std.specs.Prelude.{slice_index, slice_index_or}
 use Rattle.text.specs.Line.{bare_line}
 use Rattle.text.specs.Field.{count_of, field_of}
 use Rattle.text.specs.Number.{show_whole, show_digits}
