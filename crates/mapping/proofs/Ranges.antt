@@ -109,6 +109,8 @@ module _ (levels : List ℕ) (f : Frame) (v n : ℕ) where
         let s = ends_small (Horizontal row col) k.sized.sides (h, l) in
         record {
           which = (refl, refl);
+          crossing = refl;
+          located = refl;
           fraction = divided v _ _ w;
           x_moves = moves col _ _ f.spacing f.west s.1 d.0 d.1 k.near k.west;
           y_exact = exact row f.south s.0 k.south;
@@ -124,6 +126,8 @@ module _ (levels : List ℕ) (f : Frame) (v n : ℕ) where
         let s = ends_small (Vertical row col) k.sized.sides (h, l) in
         record {
           which = (refl, refl);
+          crossing = refl;
+          located = refl;
           fraction = divided v _ _ w;
           x_exact = exact col f.west s.1 k.west;
           y_moves = moves row _ _ f.spacing f.south s.0 d.0 d.1 k.near k.south;

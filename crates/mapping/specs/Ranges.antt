@@ -1,6 +1,6 @@
 -- What is answered for the edge of a number: RULES, "Network and contours", with its formulas written out.
 -- Assumes nothing.
-use Rattle.std.specs.Prelude.{◌≡◌, ℕ, ◌+◌, ◌-◌, ◌*◌, ◌<◌, ◌≤◌, false, T, List, Float, Option, Result}
+use Rattle.std.specs.Prelude.{◌≡◌, ℕ, ◌+◌, ◌-◌, ◌*◌, ◌<◌, ◌≤◌, false, T, List, Float, Option, Some, Result, Ok}
 use Rattle.std.specs.Float.{binary64}
 use Rattle.std.specs.Float.Ieee.{round, le}
 use Rattle.std.specs.Float.Ieee.Exact.{HasValue}
@@ -10,7 +10,9 @@ use Rattle.network.specs.declared.Frame.{Frame}
 use Rattle.network.specs.Numbering.{point_level, Parts, OneIn}
 use Rattle.network.specs.Ranges.{ContourRefused}
 use Rattle.mapping.specs.declared.Crossing.{Crossing}
+use Rattle.mapping.specs.declared.Crossing.TheVariants.{AlongHorizontal, AlongVertical}
 use Rattle.mapping.specs.declared.Located.{Located}
+use Rattle.mapping.specs.declared.Located.TheVariants.{OnHorizontal, OnVertical}
 use Rattle.mapping.specs.Fractions.{whole, asked_which, asked_fraction}
 use Rattle.mapping.specs.Places.{mapped_shown}
 
@@ -69,6 +71,9 @@ module _ (levels : List ℕ) (f : Frame) (v : ℕ) where
   -- along the horizontal edge at a row and column: its number is 1, and x moves
   pub record AlongRow (row col : ℕ) (asked : Asked) (mapped : Mapped) : Type 0 where
     pub which : (asked_which asked ≡ 1) × ((mapped_shown mapped).which ≡ 1)
+    pub crossing : asked ≡ Ok (AlongHorizontal (asked_fraction asked))
+    pub located : mapped ≡
+        Ok (Some (OnHorizontal (record { x = (mapped_shown mapped).x; y = (mapped_shown mapped).y })))
     pub fraction : Divided v (level row col) (level row (col + 1)) (asked_fraction asked)
     pub x_moves : Moves col (asked_fraction asked) f.spacing f.west (mapped_shown mapped).x
     pub y_exact : Exactly (mapped_shown mapped).y (row * f.spacing + f.south)
@@ -76,6 +81,9 @@ module _ (levels : List ℕ) (f : Frame) (v : ℕ) where
   -- along the vertical edge at a row and column: its number is 2, and y moves
   pub record AlongColumn (row col : ℕ) (asked : Asked) (mapped : Mapped) : Type 0 where
     pub which : (asked_which asked ≡ 2) × ((mapped_shown mapped).which ≡ 2)
+    pub crossing : asked ≡ Ok (AlongVertical (asked_fraction asked))
+    pub located : mapped ≡
+        Ok (Some (OnVertical (record { x = (mapped_shown mapped).x; y = (mapped_shown mapped).y })))
     pub fraction : Divided v (level row col) (level (row + 1) col) (asked_fraction asked)
     pub x_exact : Exactly (mapped_shown mapped).x (col * f.spacing + f.west)
     pub y_moves : Moves row (asked_fraction asked) f.spacing f.south (mapped_shown mapped).y
