@@ -87,6 +87,10 @@ def fields():
     comma = "with a decimal comma, expected a point, as 56.00"
     row("decimal comma", b"1,G,70000,S,07:00:00,100,00", 16, f"l1 is '100,00', {comma}")
     row("second decimal comma", ROW + b",99,50", 16, f"l2 is '99,50', {comma}", HEADER_2, LIMITS_2)
+    few = b"1,G,70000,S,07:00:00"
+    row("25 columns", few + b"," * 20, 16, f"the number of columns is 25, expected 6: {COLUMNS}")
+    row("more columns than are looked through", few + b"," * 21, 16, f" is ',', {comma}")
+    row("a decimal comma past those", few + b"," * 19 + b",100,00", 16, f" is '100,00', {comma}")
     bare = "a level without decimals, expected two, as 56.00"
     row("no decimals", b"1,G,70000,S,07:00:00,100", 16, f"l1 is '100', {bare}")
     level = "expected one to three digits, a point and two decimals, as 56.00"
@@ -151,6 +155,9 @@ def limits():
     limits_off("limits' columns", b"days,p1\r\n365", "16,2", columns, "365")
     comma = "p1 is '56,65', with a decimal comma, expected a point, as 56.00"
     limits_off("limits' decimal comma", b"days,p1\r\n365,56,65", "16,2", comma, "365,56,65")
+    past = " is ',', with a decimal comma, expected a point, as 56.00"
+    many = b"365" + b"," * 25
+    limits_off("limits' columns past those looked through", b"days,p1\r\n" + many, "16,2", past, many.decode())
     bare = "p1 is '56', a level without decimals, expected two, as 56.00"
     limits_off("limit without decimals", b"days,p1\r\n365,56", "16,2", bare, "365,56")
     days = "days is '1.5', expected a whole number of one to seven digits"

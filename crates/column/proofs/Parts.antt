@@ -67,15 +67,6 @@ put_past front rest vs n l =
     (sym (drop-drop (length vs) n (front ++ rest)) ∙ ap (drop (length vs)) (drop_at front rest n l))
     ∙ append_assoc front vs (drop (length vs) rest)
 
--- the front of a tail, copied up by w within it
-pub raised : (count w : ℕ) (t : List ℕ) {k : ℕ} → k ≡ count → paste t w (drop 0 t) k
-    ≡ take w t ++ (take count t ++ drop (count + w) t)
-raised count w t {k} c =
-    let d : w + count ≡ count + w = omega arith in
-    ap (paste t w t) c
-    ∙ append_assoc (take w t) (take count t) (drop (w + count) t)
-    ∙ ap (λ i. take w t ++ (take count t ++ drop i t)) d
-
 -- the part from a on
 tail_mid : (a : ℕ) (xs : List ℕ) → mid_of a (length xs - a) xs ≡ drop a xs
 tail_mid a xs = take_all (length xs - a) (drop a xs) (le_of_eq (length-drop a xs))

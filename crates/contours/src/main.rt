@@ -139,7 +139,7 @@ fn refuse_network(text: &[u8], why: Refusal, asked: &[u32], given: Given, sent: 
     let line = refused_line(text, why);
     let went = print::refusal(text, asked, given, why.number(), line, sent);
     if went {
-        of_network::refused(b"network", why, line, text);
+        of_network::refused(b"network", why.number(), line, text);
     }
     went
 }

@@ -44,7 +44,14 @@ fn told(file: &[u8], columns: usize, bytes: &[u8], read: Turn, why: Refusal) {
     } else {
         let ended = read.state == State::Ended;
         said_couple::refused_in(
-            file, bytes, read.at, read.left, ended, read.line, why, columns,
+            file,
+            bytes,
+            read.at,
+            read.left,
+            ended,
+            read.line,
+            why.number(),
+            columns,
         );
     }
 }

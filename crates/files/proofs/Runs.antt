@@ -10,18 +10,16 @@ use Rattle.explain_text.specs.Text.{explain_text}
 use Rattle.channel.specs.{Run.Run, Told.RunTold}
 use Rattle.report_rules.specs.{Report.MayWrite, Told.TextTold}
 use Rattle.report_rules.proofs.Running.{run_told}
-use Rattle.files.specs.declared.inner.Kind.{Kind}
-use Rattle.files.specs.declared.inner.Kind.TheVariants.{Report, Explain}
-use Rattle.files.specs.Kinds.{telling_of}
+use Rattle.files.specs.Kinds.{kind_of, telling_of}
 use Rattle.files.proofs.inner.run.Reads.{Post}
 
-module _ (lifetimes : Lfts 2) (rt : Bor LibcRuntime) (kind : Kind) (before after : MutBor ℕ) (r : Bool)
+module _ (lifetimes : Lfts 2) (rt : Bor LibcRuntime) (kind : ℕ) (before after : MutBor ℕ) (r : Bool)
     (ends : Post lifetimes (rt, (kind, (before, tt))) r (rt, (kind, (after, tt)))) where
-  run_of : (k : Kind) → kind ≡ k → Run (MayWrite (telling_of k)) r after.now
-  run_of k e = subst (λ (x : Kind). Run (MayWrite (telling_of x)) r after.now) e ends
+  run_of : (k : ℕ) → kind ≡ k → Run (MayWrite (telling_of (kind_of k))) r after.now
+  run_of k e = subst (λ (x : ℕ). Run (MayWrite (telling_of (kind_of x))) r after.now) e ends
 
-  pub report_run : kind ≡ Report → RunTold (TextTold book_text) r after.now
-  report_run e = run_told book_text r after.now (run_of Report e)
+  pub report_run : kind ≡ 0 → RunTold (TextTold book_text) r after.now
+  report_run e = run_told book_text r after.now (run_of 0 e)
 
-  pub explain_run : kind ≡ Explain → RunTold (TextTold explain_text) r after.now
-  explain_run e = run_told explain_text r after.now (run_of Explain e)
+  pub explain_run : kind ≡ 1 → RunTold (TextTold explain_text) r after.now
+  explain_run e = run_told explain_text r after.now (run_of 1 e)

@@ -15,7 +15,7 @@ ghost use Rattle.channel.specs.Run.{Run};
 ghost use Rattle.report_rules.specs.Report.{book_rows, limits_room, Opened, Written, MayWrite};
 ghost use Rattle.stream.specs.Feeding.{turned_to};
 ghost use Rattle.files.specs.InnerSteps.{Sized, AnsweredIn, WrittenIn, Told};
-ghost use Rattle.files.specs.Kinds.{telling_of};
+ghost use Rattle.files.specs.Kinds.{kind_of, telling_of};
 
 use crate::{feed, sentences};
 use channel::whole::{Filled, read_file};
@@ -32,6 +32,24 @@ use text::inner::put_refused;
 pub enum Kind {
     Report,
     Explain,
+}
+
+// Their numbers, by which `run` is asked for one; any other number asks for the report.
+pub const REPORT: u32 = 0;
+
+pub const EXPLAIN: u32 = 1;
+
+impl Kind {
+    // The kind of a number.
+    fn numbered(number: u32) -> Kind
+        ensures { result ≡ kind_of number }
+    {
+        if number == EXPLAIN {
+            Kind::Explain
+        } else {
+            Kind::Report
+        }
+    }
 }
 
 // The rows of the report's own book, and the levels of that many rows at eight points.
@@ -217,13 +235,14 @@ fn write(kind: Kind, limits: &[u8], sent: &mut usize, text: &[u8]) -> bool
 }
 
 // All of a program: its files are read, its text is written, and it answers whether all of it was taken.
-pub fn run(rt: &HostRuntime, kind: Kind, sent: &mut usize) -> bool
+pub fn run(rt: &HostRuntime, kind: u32, sent: &mut usize) -> bool
     requires { sent.old ≡ 0 }
-    ensures { Run (MayWrite (telling_of kind)) result sent.new }
+    ensures { Run (MayWrite (telling_of (kind_of kind))) result sent.new }
 {
+    let made = Kind::numbered(kind);
     let mut text = io::buffer();
     let n = limits_text(rt, &mut text);
     let mut out = io::large_buffer();
-    let size = answer(rt, kind, &text[..n], &mut out);
-    write(kind, &text[..n], sent, &out[..size])
+    let size = answer(rt, made, &text[..n], &mut out);
+    write(made, &text[..n], sent, &out[..size])
 }

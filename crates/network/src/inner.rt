@@ -60,7 +60,7 @@ impl<'a> Network<'a> {
     pub fn edge_count(self) -> usize
         ensures { result ≡ edges self.entry.nx self.entry.ny }
     {
-        self.ny * (self.nx - 1) + (self.ny - 1) * self.nx
+        edge_count(self.nx, self.ny)
     }
 
     // The edge of a number.
@@ -76,10 +76,7 @@ impl<'a> Network<'a> {
         requires { WithinEdge self.nx self.ny e }
         ensures { result ≡ number_of self.entry.nx self.entry.ny e }
     {
-        match e {
-            Edge::Horizontal(row, col) => row * (self.nx - 1) + col,
-            Edge::Vertical(row, col) => self.ny * (self.nx - 1) + row * self.nx + col,
-        }
+        number_of(self.nx, self.ny, e)
     }
 
     // Whether the edge of that number is crossed.
@@ -100,6 +97,14 @@ pub fn level(levels: &[u32], nx: usize, ny: usize, row: usize, col: usize) -> u3
     levels[at]
 }
 
+// How many edges nx columns and ny rows of points have.
+pub fn edge_count(nx: usize, ny: usize) -> usize
+    requires { Sides nx ny }
+    ensures { result ≡ edges nx ny }
+{
+    ny * (nx - 1) + (ny - 1) * nx
+}
+
 // The edge of a number.
 pub fn edge_at(nx: usize, ny: usize, n: usize) -> Edge
     requires { Sides nx ny }
@@ -111,6 +116,17 @@ pub fn edge_at(nx: usize, ny: usize, n: usize) -> Edge
     }
     let k = n - horizontals;
     Edge::Vertical(k / nx, k % nx)
+}
+
+// The number of an edge.
+pub fn number_of(nx: usize, ny: usize, e: Edge) -> usize
+    requires { Sides nx ny × WithinEdge nx ny e }
+    ensures { result ≡ number_of nx ny e }
+{
+    match e {
+        Edge::Horizontal(row, col) => row * (nx - 1) + col,
+        Edge::Vertical(row, col) => ny * (nx - 1) + row * nx + col,
+    }
 }
 
 // How far apart two levels are.

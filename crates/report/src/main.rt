@@ -2,14 +2,14 @@
 // standard output.
 #![tactic(auto)]
 
-use files::inner::{Kind, run};
+use files::inner::{REPORT, run};
 
 // The descriptor of standard error.
 const STDERR_FILENO: i32 = 2;
 
 fn main(rt: HostRuntime) {
     let mut sent = 0;
-    let all = run(&rt, Kind::Report, &mut sent);
+    let all = run(&rt, REPORT, &mut sent);
     if !all {
         io::write_all(STDERR_FILENO, b"the output could not be written\n");
     }

@@ -3,6 +3,7 @@
 use mathlib.Core.{Path.◌≡◌, Path.refl, Path.sym, Path.ap, Path.subst, Path.◌∙◌, Bool.Bool, Bool.true}
 use mathlib.Core.List.{List, [], ◌∷◌}
 use Prim.Native.Nat.{ℕ, ◌+◌, ◌≤◌}
+use Rattle.std.specs.Prelude.{Ok}
 use native.Mathlib.Omega.{arith}
 use lib.{ListN.take, ListN.replicate, Dec.eqb, Dec.ltb}
 use borrow.Author.Tests.{eq-eqb, ne_eqb, eqb-true, eqb-false, le-ltb}
@@ -16,8 +17,10 @@ use Rattle.book_rules.proofs.History.{Told, refusal_told, told}
 use Rattle.register.specs.Row.{Layout}
 use Rattle.register.specs.Row.{layout_of}
 use Rattle.report_steps.specs.Intake.Taken.{Entered, PassedOver, Refused}
-use Rattle.report_steps.specs.Intake.{taken_number, entering, supplying, entered_taken}
+use Rattle.report_steps.specs.declared.Entry.TheVariants.{Skipped}
+use Rattle.report_steps.specs.Intake.{taken_number, taken_of, entering, supplying, entered_taken}
 use Rattle.report_steps.specs.{Intake.layout_taken, Intake.row_taken, Booking.layout_calls, Booking.row_calls}
+use Rattle.report_steps.proofs.Intakes.{same_taken}
 use Rattle.report_rules.specs.Flights.{flight_of, flights_in, how_many, Light, PassedExactly}
 use Rattle.report_rules.proofs.Listed.{many_added, many_held, one_accepted, one_refused}
 use Rattle.report_rules.proofs.Listed.{none_left, many_one, many_none}
@@ -234,4 +237,10 @@ light_passed p b line ok k =
     rw (eq-eqb (layout_of p line).refusal 0 k.read, two) refl
 
 pub passed_exactly : (p : ℕ) (b : Book) (row : List ℕ) → PassedExactly p b row
-passed_exactly p b row = record { when = row_passed p b row; only = light_passed p b row }
+passed_exactly p b row =
+    record {
+      when = row_passed p b row;
+      only = light_passed p b row;
+      skipped = λ r told e. row_passed p b row (sym told ∙ ap taken_of e);
+      skips = λ ok k r told. same_taken r (Ok Skipped) (told ∙ light_passed p b row ok k);
+    }

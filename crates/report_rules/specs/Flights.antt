@@ -1,7 +1,7 @@
 -- No flight drops out: what a register that is accepted leaves standing, and what its report says of it: RULES, "Files
 -- and the report program". Assumes nothing.
 use Rattle.std.specs.Prelude.{ℕ, suc, ◌+◌, ◌-◌, ◌≤◌, ◌<◌, ◌≡◌, Bool, true, cond, not, List, [], ◌∷◌, length, get_or}
-use Rattle.std.specs.Prelude.{take, drop, replicate, eqb, ltb}
+use Rattle.std.specs.Prelude.{take, drop, replicate, eqb, ltb, Result, Ok}
 use Prim.Native.Char.{code}
 use Rattle.level.specs.declared.Level.{Level}
 use Rattle.level.specs.Level.{level_given, level_value}
@@ -19,8 +19,11 @@ use Rattle.register.specs.Row.{Layout}
 use Rattle.register.specs.LimitsFile.{LimitsFile}
 use Rattle.register.specs.LimitsFile.{limits_of}
 use Rattle.register.specs.Row.{layout_of}
+use Rattle.refusal.specs.declared.Refusal.{Refusal}
+use Rattle.report_steps.specs.declared.Entry.{Entry}
+use Rattle.report_steps.specs.declared.Entry.TheVariants.{Skipped}
 use Rattle.report_steps.specs.Intake.Taken.{PassedOver}
-use Rattle.report_steps.specs.Intake.{row_taken}
+use Rattle.report_steps.specs.Intake.{taken_of, row_taken}
 use Rattle.report_steps.specs.Reading.{registered}
 use Rattle.report_steps.specs.Booking.{register_calls}
 use Rattle.report_rules.specs.Report.{book_rows, report_of}
@@ -127,3 +130,7 @@ pub record Light (p : ℕ) (row : List ℕ) : Type 0 where
 pub record PassedExactly (p : ℕ) (b : Book) (row : List ℕ) : Type 0 where
   pub when : row_taken p b row ≡ PassedOver → Light p row
   pub only : sound p b ≡ true → Light p row → row_taken p b row ≡ PassedOver
+  -- and the code answers `Skipped` exactly there, where its answer tells what the row did
+  pub skipped : (r : Result Entry Refusal) → taken_of r ≡ row_taken p b row → r ≡ Ok Skipped → Light p row
+  pub skips : sound p b ≡ true → Light p row → (r : Result Entry Refusal) → taken_of r ≡ row_taken p b row
+      → r ≡ Ok Skipped

@@ -18,7 +18,7 @@ use Rattle.refusal.proofs.Laws.{numbered, same_number}
 use Rattle.report_steps.specs.declared.Entry.{Entry}
 use Rattle.report_steps.specs.declared.Entry.TheVariants.{Added, Skipped}
 use Rattle.report_steps.specs.Intake.{taken_number, taken_of, entering, supplying, entered_taken, entered_after}
-use Rattle.report_steps.specs.Intake.{layout_taken, layout_after, row_taken, row_after}
+use Rattle.report_steps.specs.Intake.{layout_taken, layout_after, row_taken, row_after, RowAnswered}
 use Rattle.report_steps.specs.InnerTaken.{RowTaken, LevelsTaken}
 
 -- fewer of the same
@@ -139,3 +139,12 @@ same_taken (Ok Skipped) (Err why) e = cc
 same_taken (Err why) (Ok Added) e = cc
 same_taken (Err why) (Ok Skipped) e = cc
 same_taken (Err why) (Err more) e = let n : number_of why ≡ number_of more = cc in ap Err (same_number why more n)
+
+-- so the code's cases are told apart
+pub row_answered : {p : ℕ} {b b' : Book} {line : List ℕ} (r : Result Entry Refusal) → RowTaken p b line (taken_of r) b'
+    → RowAnswered p b line r
+row_answered r k =
+    record {
+      skipped = ((λ e. sym k.answer ∙ ap taken_of e), (λ e. same_taken r (Ok Skipped) (k.answer ∙ e)));
+      added = ((λ e. sym k.answer ∙ ap taken_of e), (λ e. same_taken r (Ok Added) (k.answer ∙ e)));
+    }

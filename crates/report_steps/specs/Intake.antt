@@ -1,6 +1,6 @@
 -- A register's row into a book: RULES, "Files and the report program".
 -- Assumes nothing.
-use Rattle.std.specs.Prelude.{ℕ, cond, List, take, replicate, ◌==◌, Result, Ok, Err}
+use Rattle.std.specs.Prelude.{◌≡◌, ◌↔◌, ℕ, cond, List, take, replicate, ◌==◌, Result, Ok, Err}
 use Rattle.book_rules.specs.Columns.{Book}
 use Rattle.book_rules.specs.Calls.{Call, refusal, after}
 use Rattle.register.specs.Row.{Layout}
@@ -69,3 +69,8 @@ row_after p b line =
     cond ((layout_of p line).refusal == 0)
     (layout_after p b (layout_of p line) (refusal p b (entering p (layout_of p line))))
     b
+
+-- what the code answers to a row, by its own cases
+pub record RowAnswered (p : ℕ) (b : Book) (line : List ℕ) (r : Result Entry Refusal) : Type 0 where
+  pub skipped : (r ≡ Ok Skipped) ↔ (row_taken p b line ≡ PassedOver)
+  pub added : (r ≡ Ok Added) ↔ (row_taken p b line ≡ Entered)

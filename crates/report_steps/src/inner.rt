@@ -6,7 +6,7 @@ ghost use Rattle.book_rules.specs.Columns.{book_lent, sound};
 ghost use Rattle.book_rules.specs.Calls.{Call, Called};
 ghost use Rattle.movement.specs.Limits.{max_points};
 ghost use Rattle.refusal.specs.Refusal.{told};
-ghost use Rattle.report_steps.specs.Intake.{taken_of};
+ghost use Rattle.report_steps.specs.Intake.{taken_of, RowAnswered};
 ghost use Rattle.report_steps.specs.InnerTaken.{RowTaken, LevelsTaken};
 
 use crate::Entry;
@@ -25,8 +25,10 @@ pub fn take_row(
     line: &[u8],
 ) -> Result<Entry, Refusal>
     requires { sound points (book_lent ids.old groups.old marks.old counts.old levels.old) ≡ true }
-    ensures { RowTaken points (book_lent ids.old groups.old marks.old counts.old levels.old) line.now (taken_of result)
-        (book_lent ids.new groups.new marks.new counts.new levels.new) }
+    ensures taken { RowTaken points (book_lent ids.old groups.old marks.old counts.old levels.old) line.now
+        (taken_of result) (book_lent ids.new groups.new marks.new counts.new levels.new) }
+    ensures answered { RowAnswered points (book_lent ids.old groups.old marks.old counts.old levels.old) line.now
+        result }
 {
     let row = read_layout(line, points as u32)?;
     let f = row.fields;

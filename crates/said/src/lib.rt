@@ -5,6 +5,7 @@
 
 pub mod clock;
 pub mod field;
+pub mod inner;
 pub mod note;
 pub mod odd;
 pub mod part;

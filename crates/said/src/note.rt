@@ -9,7 +9,7 @@ use text::inner::put_any_number;
 const STDERR_FILENO: i32 = 2;
 
 // Room for any sentence.
-const ROOM: usize = 2048;
+pub const ROOM: usize = 2048;
 
 // The most bytes of a text that are shown, and the most digits that a number has.
 const SHOWN: usize = 100;

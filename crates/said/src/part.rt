@@ -1,11 +1,15 @@
 // The columns and the lines of a text.
-ghost use Rattle.std.specs.Prelude.{◌≤◌, length};
+ghost use Rattle.std.specs.Prelude.{length, ◌≡◌};
 ghost use Rattle.std.specs.Iterator.{at_most};
+ghost use Rattle.std.specs.Option.{IfSome};
+ghost use Rattle.said.specs.Stretch.{IsFront, IsStretch};
 
-use text::inner::line_end;
+use crate::inner::row_end;
 
 // Column number k, counted from 0; an empty one where there is none.
-pub fn column(s: &[u8], k: usize, d: u8) -> &[u8] {
+pub fn column(s: &[u8], k: usize, d: u8) -> &[u8]
+    ensures { IsStretch s.now result.now }
+{
     s.split(|b| *b == d).nth(k).unwrap_or(&[])
 }
 
@@ -16,13 +20,17 @@ pub struct Lines<'a> {
 }
 
 impl<'a> Lines<'a> {
-    pub fn of(text: &'a [u8]) -> Lines<'a> {
+    pub fn of(text: &'a [u8]) -> Lines<'a>
+        ensures { result.rest.now ≡ text.now }
+    {
         Lines { rest: text }
     }
 }
 
 impl<'a> Iterator for Lines<'a> {
     type Item = &'a [u8];
+
+    ghost next_gives = { λ s r t. IfSome r (λ x. IsFront s.rest.now x.now t.rest.now) };
 
     ghost remaining = { λ s. at_most (length s.rest.now) };
 
@@ -31,7 +39,7 @@ impl<'a> Iterator for Lines<'a> {
             return None;
         }
         let rest = self.rest;
-        let end = row_end(rest);
+        let end = row_end(rest, 0);
         self.rest = if rest.len() - end < 2 {
             &[]
         } else {
@@ -41,15 +49,10 @@ impl<'a> Iterator for Lines<'a> {
     }
 }
 
-// The place of the first CRLF, or the text's length.
-fn row_end(s: &[u8]) -> usize
-    ensures { result ≤ length s.now }
-{
-    line_end(s, 0)
-}
-
 // Line number k, counted from 1; an empty one where there is none.
-pub fn line(s: &[u8], k: u64) -> &[u8] {
+pub fn line(s: &[u8], k: u64) -> &[u8]
+    ensures { IsStretch s.now result.now }
+{
     Lines::of(s)
         .nth(k.saturating_sub(1) as usize)
         .unwrap_or(&[])
@@ -66,11 +69,13 @@ pub fn behind(s: &[u8], count: usize) -> &[u8] {
 
 // Of the `left` bytes from `at` on the first line, and whether all of it is there; `ended` says whether the bytes are
 // the last. An empty one where they don't stand in the text.
-pub fn first_line(s: &[u8], at: usize, left: usize, ended: bool) -> (&[u8], bool) {
+pub fn first_line(s: &[u8], at: usize, left: usize, ended: bool) -> (&[u8], bool)
+    ensures { IsStretch s.now result.0.now }
+{
     let Some(part) = s.get(at..).and_then(|rest| rest.get(..left)) else {
         return (&[], ended);
     };
-    let end = row_end(part);
+    let end = row_end(part, 0);
     (&part[..end], ended || end < left)
 }
 

@@ -67,12 +67,14 @@ fn read<'a>(file: &'a [u8], text: &'a [u8]) -> Network<'a> {
 }
 
 // A network is refused: 17 at a line, 12 or 13.
-pub fn refused(file: &[u8], why: Refusal, number: u64, text: &[u8]) {
+pub fn refused(file: &[u8], refusal: u32, number: u64, text: &[u8]) {
     let network = read(file, text);
-    match why {
-        Refusal::NetworkOffLayout => layout(number, network),
-        Refusal::WrongNetwork => size_off(network),
-        _ => values_off(network),
+    if refusal == Refusal::NetworkOffLayout.number() {
+        layout(number, network);
+    } else if refusal == Refusal::WrongNetwork.number() {
+        size_off(network);
+    } else {
+        values_off(network);
     }
 }
 
@@ -84,7 +86,7 @@ pub fn unread(file: &[u8], number: u64) {
 // The network is longer than any that is not refused: 17 at a line, or 12.
 pub fn overlong(file: &[u8], number: u64, text: &[u8]) {
     if number != 0 {
-        refused(file, Refusal::NetworkOffLayout, number, text);
+        refused(file, Refusal::NetworkOffLayout.number(), number, text);
         return;
     }
     let mut note = Note::of(file);

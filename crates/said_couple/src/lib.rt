@@ -5,22 +5,22 @@
 
 use crate::row::{header, reason};
 use flights::TRACK_COLUMNS;
-use refusal::Refusal;
 use said::note::{self, Note};
 use said::part::first_line;
 use said::row::Row;
 
 mod row;
 
-// Line `number` of a file of so many columns is refused. `whole` says whether `line` is all of it.
-pub fn refused(file: &[u8], number: u64, why: Refusal, columns: usize, line: &[u8], whole: bool) {
+// Line `number` of a file of so many columns is refused, with that refusal's number. `whole` says whether `line` is all
+// of it.
+pub fn refused(file: &[u8], number: u64, refusal: u32, columns: usize, line: &[u8], whole: bool) {
     let row = Row {
         header: header(columns),
         line,
     };
     let mut note = Note::at_line(file, number);
-    reason(&mut note, number, why, columns, row, whole);
-    note.end(why.number(), line);
+    reason(&mut note, number, refusal, columns, row, whole);
+    note.end(refusal, line);
 }
 
 // The file is refused at the first line of the `left` bytes from `at` on; `ended` says whether they are its last.
@@ -31,11 +31,11 @@ pub fn refused_in(
     left: usize,
     ended: bool,
     number: u64,
-    why: Refusal,
+    refusal: u32,
     columns: usize,
 ) {
     let (line, whole) = first_line(bytes, at, left, ended);
-    refused(file, number, why, columns, line, whole);
+    refused(file, number, refusal, columns, line, whole);
 }
 
 // A read failed at line `number` of a file of so many columns; the movements are standard input.

@@ -21,13 +21,13 @@ pub(crate) fn header(columns: usize) -> &'static [u8] {
 pub(crate) fn reason(
     note: &mut Note,
     number: u64,
-    why: Refusal,
+    refusal: u32,
     columns: usize,
     row: Row,
     whole: bool,
 ) {
     let is_tracks = columns == TRACK_COLUMNS;
-    if why == Refusal::WrongFlights {
+    if refusal == Refusal::WrongFlights.number() {
         of_values(note, columns, row);
     } else if let Some(what) = odd::of_csv(row.line) {
         note.words(what);

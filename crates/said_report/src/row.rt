@@ -50,13 +50,14 @@ pub(crate) fn fields(note: &mut Note, table: Table, row: Row, end: usize) {
         cut_or_count(note, table, row, end);
         return;
     }
-    let off = (0..MAX_LOOKED).find(|k| !table.fits(row.field(*k), *k));
-    match off {
-        Some(k) if k <= end => {
-            note.words(row.name(k));
-            field_off(note, table, k, row.field(k));
-        }
-        _ => blank(note, table, row),
+    let k = (0..MAX_LOOKED)
+        .find(|k| !table.fits(row.field(*k), *k))
+        .unwrap_or(MAX_LOOKED);
+    if k <= end {
+        note.words(row.name(k));
+        field_off(note, table, k, row.field(k));
+    } else {
+        blank(note, table, row);
     }
 }
 
@@ -72,9 +73,12 @@ fn blank(note: &mut Note, table: Table, row: Row) {
 
 // A wrong number of columns, which a decimal comma makes too.
 fn cut_or_count(note: &mut Note, table: Table, row: Row, end: usize) {
-    let first = (table.levels_from()..MAX_LOOKED).find(|k| is_cut(row, *k));
-    match first {
-        Some(k) if k < row.last() => cut(note, row, k, k + 1),
-        _ => row.count_off(note, end),
+    let k = (table.levels_from()..MAX_LOOKED)
+        .find(|k| is_cut(row, *k))
+        .unwrap_or(MAX_LOOKED);
+    if k < row.last() {
+        cut(note, row, k, k + 1);
+    } else {
+        row.count_off(note, end);
     }
 }

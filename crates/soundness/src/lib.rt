@@ -31,7 +31,11 @@ fn shape_fits(
 fn may_follow(before: u32, after: u32) -> bool
     ensures { result ≡ follows before after }
 {
-    after == 0 || (0 < before && before < after)
+    match (before, after) {
+        (_, 0) => true,
+        (0, _) => false,
+        _ => before < after,
+    }
 }
 
 // Whether identities rise with no gap and unused rows come last.

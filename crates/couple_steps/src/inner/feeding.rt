@@ -1,6 +1,7 @@
 // The lines of a file into a table. A table is one flat list, column after column, with room for 50,000 numbers in each
 // column.
 ghost use Rattle.std.specs.Prelude.{◌≡◌, ℕ, ◌+◌, ◌*◌, ◌<◌, ◌≤◌, [], ◌∷◌, ◌++◌, length, slice_index};
+ghost use Rattle.std.proofs.Common.{zero-le, suc-le-suc};
 ghost use Rattle.text.specs.Index.{listing};
 ghost use Rattle.refusal.specs.Refusal.{told};
 ghost use Rattle.coupling_rules.specs.Limits.{max_flights};
@@ -37,7 +38,7 @@ fn put_row(table: &mut [u32], columns: usize, row: usize, values: Values)
 }
 
 // Takes line `number`, the header first and then rows, or refuses it.
-fn take_line(table: &mut [u32], columns: usize, line: &[u8], number: u64) -> Result<(), Refusal>
+pub fn take_line(table: &mut [u32], columns: usize, line: &[u8], number: u64) -> Result<(), Refusal>
     requires roomy { Roomy columns table.old }
     requires le_number { 1 ≤ number }
     ensures { LineTaken (table_step columns) number (held_in columns table.old number)
@@ -75,6 +76,8 @@ impl Lines for Tracks {
 
     ghost LONGEST = { 51 };
 
+    ghost FIRST = { 1 };
+
     fn longest(&self) -> usize {
         LONGEST_LINE
     }
@@ -82,6 +85,8 @@ impl Lines for Tracks {
     fn take_line(&mut self, line: &[u8], number: u64) -> Result<(), Refusal> {
         take_line(&mut self.cells, TRACK_COLUMNS, line, number)
     }
+
+    ghost begins = { suc-le-suc zero-le };
 }
 
 // The table of the movements.
@@ -105,6 +110,8 @@ impl Lines for Movements {
 
     ghost LONGEST = { 51 };
 
+    ghost FIRST = { 1 };
+
     fn longest(&self) -> usize {
         LONGEST_LINE
     }
@@ -112,4 +119,6 @@ impl Lines for Movements {
     fn take_line(&mut self, line: &[u8], number: u64) -> Result<(), Refusal> {
         take_line(&mut self.cells, MOVEMENT_COLUMNS, line, number)
     }
+
+    ghost begins = { suc-le-suc zero-le };
 }

@@ -1,7 +1,8 @@
 use Rattle.std.specs.Prelude.{◌≤◌, length}
-use mathlib.Core.Path.{refl}
+use mathlib.Core.Path.{refl, sym}
 use native.Mathlib.Omega.{arith}
 use lib.ListN.{length-set}
+use Rattle.std.proofs.lemmas.List.{take_rest}
 use borrow.Author.Rules.{rules}
 use Rattle.book_rules.specs.Columns.{book_lent}
 use Rattle.journal.specs.Journal.{calls_of}
@@ -41,7 +42,10 @@ make_call-answer-requires c =
     record {
       levels_value = c.loop-rest.invariant.0.sound=;
       rest_value =
-          laid_complete _ (some_left _ c.is_empty.ensures c.loop-rest-test.true) c.loop-rest.invariant.0.laid;
+          simp (
+            take_rest,
+            laid_complete _ (some_left _ c.is_empty.ensures c.loop-rest-test.true) c.loop-rest.invariant.0.laid,
+          );
     }
 
 pub bounds-answers-made : goal.bounds-answers-made
@@ -70,8 +74,9 @@ pub loop-rest-preserved : goal.loop-rest-preserved
 loop-rest-preserved c =
     let inv = c.loop-rest.invariant in (
       replay_more inv.0 (step (goal.at.loop-rest-preserved c).After-width_of)
-          (space (goal.at.loop-rest-preserved c).Start) c.make_call-answer.ensures
-          c.told.ensures,
+          (space (goal.at.loop-rest-preserved c).Start)
+          (simp (sym c.told.ensures, take_rest) at c.make_call-answer.ensures)
+          (omega arith),
       (
         search rules,
         (search rules, (search rules, (search rules, (search rules, simp length-set (omega (arith, inv.1)))))),

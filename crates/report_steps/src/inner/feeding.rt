@@ -1,5 +1,6 @@
 // A register's bytes as they come: its lines, one after another, into the book.
 ghost use Rattle.std.specs.Prelude.{◌≡◌, ℕ, true};
+ghost use Rattle.std.proofs.Common.{zero-le};
 ghost use Rattle.book_rules.specs.Columns.{Book, book_lent, sound};
 ghost use Rattle.stream.specs.InnerTaken.{LineTaken};
 ghost use Rattle.refusal.specs.Refusal.{told};
@@ -24,7 +25,7 @@ fn header_refusal(line: &[u8], points: usize) -> Result<(), Refusal>
 }
 
 // Takes line `number`, the header first and then rows, or refuses it.
-fn take_line(
+pub fn take_line(
     ids: &mut [u32],
     groups: &mut [u32],
     marks: &mut [u32],
@@ -73,6 +74,8 @@ impl<'a> Lines for Register<'a> {
 
     ghost LONGEST = { 84 };
 
+    ghost FIRST = { 0 };
+
     fn longest(&self) -> usize {
         LONGEST_ROW
     }
@@ -89,4 +92,6 @@ impl<'a> Lines for Register<'a> {
             number,
         )
     }
+
+    ghost begins = { zero-le };
 }

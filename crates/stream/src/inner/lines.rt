@@ -27,25 +27,32 @@ pub trait Lines {
 
     ghost LONGEST: { ℕ };
 
-    // How many bytes the longest line on its layout has before its CRLF.
+    // The least number that a line may have.
+    ghost FIRST: { ℕ };
+
+    // How many bytes the longest line on its layout has before its CRLF: a longer one is refused.
     fn longest(&self) -> usize
-        ensures { result ≡ LONGEST };
+        ensures value { result ≡ LONGEST }
+        ensures long_is_off { Longest (step self.now) LONGEST };
 
     // Takes line `number`, the header first and then rows, or refuses it.
     fn take_line(&mut self, line: &[u8], number: u64) -> Result<(), Refusal>
         requires ready { Ready self.old }
-        requires first { 1 ≤ number }
+        requires first { FIRST ≤ number }
         ensures taken { LineTaken (step self.old) number (held self.old number) line.now
             (told result) (held self.new (next_line number (told result))) }
         ensures kept { Ready self.new }
         ensures same { step self.new ≡ step self.old }
         ensures lent { memory self.new ≡ memory self.old };
+
+    // A text's first line may have its number, 1.
+    ghost begins: { FIRST ≤ 1 };
 }
 
 // Takes every line that the bytes end, up to the first that is refused.
 pub fn take_lines<T: Lines>(table: &mut T, bytes: &[u8], line: u64) -> Feed
     requires ready { T.Ready table.old }
-    requires countable { (1 ≤ line) × (line + length bytes.now < 2 ^ 64) }
+    requires countable { (T.FIRST ≤ line) × (line + length bytes.now < 2 ^ 64) }
     ensures taken { LinesTaken (T.step table.old) (reading_at 0 line (T.held table.old line))
         bytes.now result.at (reading_at (told result.refusal) result.line (T.held table.new result.line)) }
     ensures kept { T.Ready table.new }
@@ -118,9 +125,8 @@ pub fn take_last<T: Lines>(table: &mut T, bytes: &[u8], line: u64) -> Feed
 // Takes a piece of a text: the first `len` bytes of the buffer, those that waited and those that came.
 pub fn take_piece<T: Lines>(table: &mut T, bytes: &mut [u8], len: usize, line: u64) -> Piece
     requires ready { T.Ready table.old }
-    requires long_is_off { Longest (T.step table.old) T.LONGEST }
     requires len_in_bounds { len ≤ length bytes.old }
-    requires countable { (1 ≤ line) × (line + len < 2 ^ 64) }
+    requires countable { (T.FIRST ≤ line) × (line + len < 2 ^ 64) }
     ensures taken { PieceTaken (T.step table.old) T.LONGEST (reading_at 0 line (T.held table.old line))
         (take len bytes.old) (reading_at (told result.refusal) result.line (T.held table.new result.line))
         (take result.left bytes.new) }

@@ -26,7 +26,6 @@ fn read_on<T: Lines>(
 ) -> Turn
     requires descriptor { Descriptor source.now (origin_of opened name.now) }
     requires ready { T.Ready table.old }
-    requires long_is_off { Longest (T.step table.old) T.LONGEST }
     requires waiting { Waiting T.LONGEST bytes.old left line taken.old }
     ensures turned { Turned (origin_of opened name.now) (T.step table.old) T.LONGEST
         (reading_at 0 line (T.held table.old line)) (take left bytes.old) taken.old result

@@ -1,6 +1,7 @@
 -- `channel::inner::read_from` meets its contract: the one place that says what a read gave. Assumes nothing.
 use Rattle.std.proofs.Common.{◌≡◌, ◌≢◌, Bool, true, false, subst, IsErr, ℕ, Result, ◌≤◌, refl, sym, ap, ◌∙◌, arith, length, take, length-append, Ok}
 use Rattle.std.proofs.Math.Seq.{length-take-le}
+use Rattle.std.proofs.lemmas.List.{length-take}
 use borrow.Author.Tests.{eqb-true, eqb-false}
 use Rattle.channel.specs.System.{system_gave, system_ended, system_failed, system_uncounted}
 use Rattle.std.specs.declared.io.Error.{Error}
@@ -18,7 +19,7 @@ returns-then-is_empty c =
         λ some old came.
             elim c.then-is_empty.branch [
               | then-is_empty-via-then-is_empty w ↦
-                  let none = eqb-true _ _ (sym c.is_empty.ensures ∙ w.if-is_empty.true) in absurd (omega (arith, some, none))
+                  let none = eqb-true _ _ (sym c.is_empty.ensures ∙ w.if-is_empty.true) in absurd (omega (arith, length-take {A = ℕ}, some, none))
               | then-is_empty-via-else-is_empty+then-taken-room w ↦
                   system_uncounted _ room old (omega (arith, came.long, w.if-taken-room.true)) came.first
             ],
@@ -37,7 +38,7 @@ pub returns-in-Ok-eq0 : goal.returns-in-Ok-eq0
 returns-in-Ok-eq0 c =
     let room = c.read_once.new.room in
     let no = eqb-false _ _ (sym c.is_empty.ensures ∙ c.if-is_empty.false) in
-    let some : 1 ≤ length room = omega (arith, no, c.read_once.auto.room) in
+    let some : 1 ≤ length room = omega (arith, length-take {A = ℕ}, no, c.read_once.auto.room) in
     let zero = c.in-Ok-eq0.is ∙ ap Ok c.in-Ok-eq0.field-0-test in
     let here = there c.in-Ok-eq0.is (c.read_once.ensures.absent) in
     record { gave = (refl, λ old came. system_ended _ _ _ room old c.requires here zero some came.first) }

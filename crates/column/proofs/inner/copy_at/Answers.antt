@@ -7,4 +7,4 @@ use Rattle.column.proofs.inner.copy_at.Goals as goal
 pub returns : goal.returns
 returns c =
     put_part c.args.at (length c.args.from.now) c.args.column.now
-    c.copy_from_slice.ensures.after refl
+    c.copy_over.ensures refl

@@ -54,7 +54,9 @@ pub returns : goal.returns
 returns c =
     let d = c.decade_of-first in
     let e : c.loop-n.n ≡ 1000 * d.result + 1000 = omega arith in
-    found _ _ (omega arith) (omega arith) (rw e at c.loop-n.invariant) (next-reaches d.result _ d.ensures.1)
+    let level =
+    found _ _ (omega arith) (omega arith) (rw e at c.loop-n.invariant) (next-reaches d.result _ d.ensures.1) in
+    ap At (omega arith) ∙ level
 
 pub overflow_mul-first : goal.overflow_mul-first
 overflow_mul-first c = omega (arith, fits c)

@@ -31,8 +31,8 @@ unfolding all_computed all_missing
 returns c =
     let counts = c.args.counts.now in
     let last : c.loop-c.c-index ≡ group_count = omega arith in (
-      c.loop-c.invariant.0 ∙ ap (to (λ k. k.computed) counts) last,
-      c.loop-c.invariant.1 ∙ ap (to (λ k. k.missing) counts) last,
+      omega arith ∙ c.loop-c.invariant.0 ∙ ap (to (λ k. k.computed) counts) last,
+      omega arith ∙ c.loop-c.invariant.1 ∙ ap (to (λ k. k.missing) counts) last,
     )
 
 pub loop-c-init : goal.loop-c-init

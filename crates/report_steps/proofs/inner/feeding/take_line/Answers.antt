@@ -16,9 +16,10 @@ pub returns-in_err-take_row : goal.returns-in_err-take_row
 returns-in_err-take_row c =
     let p = err_from_is_err_and c.from_residual.result c.from_residual.ensures.1 in
     rw (p.1, p.2)
-    (row_taken_lem c.if-number-eq1.false c.take_row.ensures
+    (row_taken_lem c.if-number-eq1.false c.take_row.ensures.taken
     (ap told (sym c.in_err-take_row.was) ∙ told_taken c.take_row.result))
 
 pub returns : goal.returns
 returns c =
-    row_taken_lem c.if-number-eq1.false c.take_row.ensures (ap told (sym c.in_ok-take_row.was) ∙ told_taken c.take_row.result)
+    row_taken_lem c.if-number-eq1.false c.take_row.ensures.taken
+    (ap told (sym c.in_ok-take_row.was) ∙ told_taken c.take_row.result)
