@@ -10,7 +10,7 @@ ghost use Rattle.couple_steps.specs.InnerTable.{held_in};
 use channel::file::{Source, close_file, open_file};
 use couple_steps::inner::feeding::{Movements, Tracks};
 use stream::Turn;
-use stream::inner::reading::read_whole;
+use stream::inner::filling::fill_whole;
 
 // Reads tracks.csv of the current folder. One that can't be opened can't be read.
 pub(crate) fn read_tracks(rt: &HostRuntime, table: &mut Tracks, bytes: &mut [u8]) -> Turn
@@ -20,7 +20,7 @@ pub(crate) fn read_tracks(rt: &HostRuntime, table: &mut Tracks, bytes: &mut [u8]
 {
     let source = open_file(rt, "tracks.csv");
     let mut taken = 0;
-    let turn = read_whole(rt, true, "tracks.csv", &source, &mut taken, table, bytes);
+    let turn = fill_whole(rt, true, "tracks.csv", &source, &mut taken, table, bytes);
     close_file(source);
     turn
 }
@@ -32,5 +32,5 @@ pub(crate) fn read_movements(rt: &HostRuntime, table: &mut Movements, bytes: &mu
     ensures { Done input (table_step 9) longest_text [] result (held_in 9 table.new.cells result.line) }
 {
     let mut taken = 0;
-    read_whole(rt, false, "", &Source::Input, &mut taken, table, bytes)
+    fill_whole(rt, false, "", &Source::Input, &mut taken, table, bytes)
 }

@@ -9,7 +9,7 @@ ghost use Rattle.report_steps.specs.Reading.{register_step};
 use channel::file::Source;
 use report_steps::inner::feeding::Register;
 use stream::Turn;
-use stream::inner::reading::read_whole;
+use stream::inner::filling::fill_whole;
 
 // Reads the register into the book.
 pub(crate) fn read_register(
@@ -37,7 +37,7 @@ pub(crate) fn read_register(
         points,
     };
     let mut taken = 0;
-    read_whole(
+    fill_whole(
         rt,
         false,
         "",

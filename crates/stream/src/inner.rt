@@ -5,8 +5,10 @@ ghost use Rattle.stream.specs.Feeding.{turn_of, ended_at, failed_at};
 use crate::{Feed, Piece, State, Turn};
 use refusal::Refusal;
 
+pub mod filling;
 pub mod lines;
 pub mod reading;
+pub mod tables;
 
 // A piece was taken: the text is read on, or a line of it is refused.
 pub fn turned(piece: Piece) -> Turn

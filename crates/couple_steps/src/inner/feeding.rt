@@ -12,7 +12,7 @@ ghost use Rattle.couple_steps.specs.InnerTable.{rows_in, held_in, Roomy};
 use coupling::limits::MAX_FLIGHTS;
 use flights::{MOVEMENT_COLUMNS, TRACK_COLUMNS, Values, header_refusal, read_flight};
 use refusal::Refusal;
-use stream::inner::lines::Lines;
+use stream::inner::tables::Table;
 
 // Room for every row: one number for each column.
 pub const TRACK_CELLS: usize = MAX_FLIGHTS * TRACK_COLUMNS;
@@ -61,7 +61,7 @@ pub struct Tracks {
     pub cells: [u32; TRACK_CELLS],
 }
 
-impl Lines for Tracks {
+impl Table for Tracks {
     ghost Held = { Rows };
 
     ghost step = { λ t. table_step 8 };
@@ -95,7 +95,7 @@ pub struct Movements {
     pub cells: [u32; MOVEMENT_CELLS],
 }
 
-impl Lines for Movements {
+impl Table for Movements {
     ghost Held = { Rows };
 
     ghost step = { λ t. table_step 9 };

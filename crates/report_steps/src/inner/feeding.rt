@@ -9,7 +9,7 @@ ghost use Rattle.report_steps.specs.Reading.{points_refusal, header_points, regi
 use crate::inner::take_row;
 use refusal::Refusal;
 use register::header::register_points;
-use stream::inner::lines::Lines;
+use stream::inner::tables::Table;
 
 // The longest row of a register on its layout, before its CRLF.
 pub const LONGEST_ROW: usize = 84;
@@ -57,7 +57,7 @@ pub struct Register<'a> {
     pub points: usize,
 }
 
-impl<'a> Lines for Register<'a> {
+impl<'a> Table for Register<'a> {
     ghost Held = { Book };
 
     ghost step = { λ r. register_step r.points };

@@ -1,10 +1,12 @@
 // What takes the lines of a text, one after another, and how their bytes are taken: every line that they end, the last
-// one, and a piece of a text.
+// one, and a piece of a text. Who calls knows whether long lines are refused; a Table (tables.rt) says so itself.
+// Kept: (a) `Lines` and what takes them ask less of a caller's own type than `Table` does, so both stand.
 ghost use Rattle.std.specs.Prelude.{◌≡◌, ℕ, ◌+◌, ◌^◌, ◌<◌, ◌≤◌, length, take};
 ghost use Rattle.refusal.specs.Refusal.{told};
 ghost use Rattle.stream.specs.Reading.{Step, reading_at, Unended, Longest};
 ghost use Rattle.stream.specs.InnerTaken.{LineTaken, LinesTaken, LastTaken, PieceTaken, next_line};
 
+use crate::inner::tables::Table;
 use crate::inner::to_front;
 use crate::{Feed, Piece};
 use refusal::Refusal;
@@ -27,32 +29,50 @@ pub trait Lines {
 
     ghost LONGEST: { ℕ };
 
-    // The least number that a line may have.
-    ghost FIRST: { ℕ };
-
-    // How many bytes the longest line on its layout has before its CRLF: a longer one is refused.
+    // How many bytes the longest line on its layout has before its CRLF.
     fn longest(&self) -> usize
-        ensures value { result ≡ LONGEST }
-        ensures long_is_off { Longest (step self.now) LONGEST };
+        ensures { result ≡ LONGEST };
 
     // Takes line `number`, the header first and then rows, or refuses it.
     fn take_line(&mut self, line: &[u8], number: u64) -> Result<(), Refusal>
         requires ready { Ready self.old }
-        requires first { FIRST ≤ number }
+        requires first { 1 ≤ number }
         ensures taken { LineTaken (step self.old) number (held self.old number) line.now
             (told result) (held self.new (next_line number (told result))) }
         ensures kept { Ready self.new }
         ensures same { step self.new ≡ step self.old }
         ensures lent { memory self.new ≡ memory self.old };
+}
 
-    // A text's first line may have its number, 1.
-    ghost begins: { FIRST ≤ 1 };
+// Every Table is one.
+impl<T: Table> Lines for T {
+    ghost Held = { T.Table.Held };
+
+    ghost step = { T.Table.step };
+
+    ghost held = { T.Table.held };
+
+    ghost Ready = { T.Table.Ready };
+
+    ghost Memory = { T.Table.Memory };
+
+    ghost memory = { T.Table.memory };
+
+    ghost LONGEST = { T.Table.LONGEST };
+
+    fn longest(&self) -> usize {
+        Table::longest(self)
+    }
+
+    fn take_line(&mut self, line: &[u8], number: u64) -> Result<(), Refusal> {
+        Table::take_line(self, line, number)
+    }
 }
 
 // Takes every line that the bytes end, up to the first that is refused.
 pub fn take_lines<T: Lines>(table: &mut T, bytes: &[u8], line: u64) -> Feed
     requires ready { T.Ready table.old }
-    requires countable { (T.FIRST ≤ line) × (line + length bytes.now < 2 ^ 64) }
+    requires countable { (1 ≤ line) × (line + length bytes.now < 2 ^ 64) }
     ensures taken { LinesTaken (T.step table.old) (reading_at 0 line (T.held table.old line))
         bytes.now result.at (reading_at (told result.refusal) result.line (T.held table.new result.line)) }
     ensures kept { T.Ready table.new }
@@ -125,8 +145,9 @@ pub fn take_last<T: Lines>(table: &mut T, bytes: &[u8], line: u64) -> Feed
 // Takes a piece of a text: the first `len` bytes of the buffer, those that waited and those that came.
 pub fn take_piece<T: Lines>(table: &mut T, bytes: &mut [u8], len: usize, line: u64) -> Piece
     requires ready { T.Ready table.old }
+    requires long_is_off { Longest (T.step table.old) T.LONGEST }
     requires len_in_bounds { len ≤ length bytes.old }
-    requires countable { (T.FIRST ≤ line) × (line + len < 2 ^ 64) }
+    requires countable { (1 ≤ line) × (line + len < 2 ^ 64) }
     ensures taken { PieceTaken (T.step table.old) T.LONGEST (reading_at 0 line (T.held table.old line))
         (take len bytes.old) (reading_at (told result.refusal) result.line (T.held table.new result.line))
         (take result.left bytes.new) }

@@ -1,4 +1,5 @@
 // A text as it comes, through a buffer of fixed size, into what takes its lines.
+// Kept: (a) `read_whole` asks less of a caller's own type than `fill_whole` (filling.rt) does, so both stand.
 ghost use Rattle.std.specs.Prelude.{◌≡◌, ◌+◌, ◌<◌, length, take};
 ghost use Rattle.channel.specs.System.{Descriptor};
 ghost use Rattle.channel.specs.Input.{origin_of};
@@ -26,6 +27,7 @@ fn read_on<T: Lines>(
 ) -> Turn
     requires descriptor { Descriptor source.now (origin_of opened name.now) }
     requires ready { T.Ready table.old }
+    requires long_is_off { Longest (T.step table.old) T.LONGEST }
     requires waiting { Waiting T.LONGEST bytes.old left line taken.old }
     ensures turned { Turned (origin_of opened name.now) (T.step table.old) T.LONGEST
         (reading_at 0 line (T.held table.old line)) (take left bytes.old) taken.old result

@@ -3,8 +3,8 @@ use Rattle.channel.specs.System.{standard_input}
 use Rattle.report_steps.proofs.LongLines.{longest_register}
 use Rattle.files.proofs.feed.read_register.Goals as goal
 
-pub read_whole-requires-clause-descriptor : goal.read_whole-requires-clause-descriptor
-read_whole-requires-clause-descriptor c = standard_input
+pub fill_whole-requires-clause-descriptor : goal.fill_whole-requires-clause-descriptor
+fill_whole-requires-clause-descriptor c = standard_input
 
-pub read_whole-requires-clause-long_is_off : goal.read_whole-requires-clause-long_is_off
-read_whole-requires-clause-long_is_off c = longest_register c.args.points
+pub fill_whole-requires-clause-long_is_off : goal.fill_whole-requires-clause-long_is_off
+fill_whole-requires-clause-long_is_off c = longest_register c.args.points

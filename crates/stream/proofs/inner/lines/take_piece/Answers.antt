@@ -23,9 +23,9 @@ returns-then-longest-saturating_sub-clause-taken g c =
     let a = c.args in
     let f = c.take_lines-feed in
     let size = left f.result.at a.len a.bytes.now c.requires.len_in_bounds in
-    piece_long g.T.Lines.LONGEST _ f.ensures.taken (rw f.ensures.same at c.longest.ensures.long_is_off)
+    piece_long g.T.Lines.LONGEST _ f.ensures.taken c.requires.long_is_off
     (fine_none f.result.refusal (settled c.is_err.ensures.value c.if-is_err.false))
-    (omega (arith, size, c.longest.ensures.value, c.saturating_sub.ensures, c.if-longest-saturating_sub.true))
+    (omega (arith, size, c.longest.ensures, c.saturating_sub.ensures, c.if-longest-saturating_sub.true))
 
 pub returns-clause-taken : goal.returns-clause-taken
 returns-clause-taken g c =
@@ -35,5 +35,5 @@ returns-clause-taken g c =
     let within = rw (length-take-le a.len a.bytes.now c.requires.len_in_bounds) at f.ensures.taken.within in
     piece_left g.T.Lines.LONGEST _ f.ensures.taken
     (fine_none f.result.refusal (settled c.is_err.ensures.value c.if-is_err.false))
-    (omega (arith, size, c.longest.ensures.value, c.saturating_sub.ensures, c.if-longest-saturating_sub.false))
+    (omega (arith, size, c.longest.ensures, c.saturating_sub.ensures, c.if-longest-saturating_sub.false))
     (c.to_front.ensures ∙ sym (waiting a.bytes.now f.result.at a.len within c.requires.len_in_bounds))

@@ -1,0 +1,53 @@
+// Texts of which lines are taken: those that a CRLF ends, the last one, and a piece.
+ghost use Rattle.std.specs.Prelude.{◌≤◌, length};
+
+use crate::short::Short;
+use cases::show::{say, told};
+use refusal::Refusal;
+use stream::inner::lines::{take_last, take_lines, take_piece};
+
+// The number of the next line, the refusal, the length of the last line, and one number more.
+fn show(line: &[u8], number: u64, answer: Result<(), Refusal>, short: &Short, more: usize) {
+    let refusal = refusal::told(answer) as u64;
+    told(
+        line,
+        2,
+        1,
+        &[number, refusal, short.last as u64, more as u64],
+    );
+    say(b"\n");
+}
+
+// The lines that a CRLF ends, and where the bytes behind them begin.
+pub(crate) fn lines(line: &[u8], text: &[u8])
+    requires { length text.now ≤ 64 }
+{
+    let mut short = Short { last: 99 };
+    let feed = take_lines(&mut short, text, 1);
+    show(line, feed.line, feed.refusal, &short, feed.at);
+}
+
+// All lines of a text, and how many bytes of the last one are read.
+pub(crate) fn whole(line: &[u8], text: &[u8])
+    requires { length text.now ≤ 64 }
+{
+    let mut short = Short { last: 99 };
+    let feed = take_lines(&mut short, text, 1);
+    if feed.refusal.is_ok() {
+        let last = take_last(&mut short, &text[feed.at..], feed.line);
+        show(line, last.line, last.refusal, &short, last.at);
+    }
+}
+
+// A piece, how many bytes are left of it, and where no line is refused those bytes, which wait at the front.
+pub(crate) fn piece(line: &[u8], text: &mut [u8], len: usize)
+    requires { (len ≤ length text.old) × (length text.old ≤ 64) }
+{
+    let mut short = Short { last: 99 };
+    let piece = take_piece(&mut short, text, len, 1);
+    show(line, piece.line, piece.refusal, &short, piece.left);
+    if piece.refusal.is_ok() {
+        say(&text[..piece.left.min(text.len())]);
+        say(b"\n");
+    }
+}
