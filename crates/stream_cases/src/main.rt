@@ -11,6 +11,7 @@ use stream::inner::reading::read_whole;
 
 mod script;
 mod short;
+mod table;
 mod taken;
 
 // The descriptor of standard output.

@@ -2,7 +2,7 @@
 ghost use Rattle.std.specs.Prelude.{ℕ};
 ghost use Rattle.stream_cases.specs.Lengths.{lengths};
 
-use crate::taken::{lines, piece, whole};
+use crate::taken::{lines, piece, table, whole};
 use cases::fields::{letter, text};
 use refusal::Refusal;
 use stream::inner::lines::Lines;
@@ -21,6 +21,7 @@ fn case(line: &[u8]) {
     let n = text(line, 1, &mut room);
     match letter(line) {
         b'l' => lines(line, &room[..n]),
+        b't' => table(line, &room[..n]),
         b'w' => whole(line, &room[..n]),
         _ => piece(line, &mut room, n),
     }

@@ -2,19 +2,15 @@
 ghost use Rattle.std.specs.Prelude.{◌≤◌, length};
 
 use crate::short::Short;
+use crate::table::{Lengths, lines_of, longest_of};
 use cases::show::{say, told};
 use refusal::Refusal;
 use stream::inner::lines::{take_last, take_lines, take_piece};
 
 // The number of the next line, the refusal, the length of the last line, and one number more.
-fn show(line: &[u8], number: u64, answer: Result<(), Refusal>, short: &Short, more: usize) {
+fn show(line: &[u8], number: u64, answer: Result<(), Refusal>, last: usize, more: usize) {
     let refusal = refusal::told(answer) as u64;
-    told(
-        line,
-        2,
-        1,
-        &[number, refusal, short.last as u64, more as u64],
-    );
+    told(line, 2, 1, &[number, refusal, last as u64, more as u64]);
     say(b"\n");
 }
 
@@ -24,7 +20,7 @@ pub(crate) fn lines(line: &[u8], text: &[u8])
 {
     let mut short = Short { last: 99 };
     let feed = take_lines(&mut short, text, 1);
-    show(line, feed.line, feed.refusal, &short, feed.at);
+    show(line, feed.line, feed.refusal, short.last, feed.at);
 }
 
 // All lines of a text, and how many bytes of the last one are read.
@@ -35,7 +31,7 @@ pub(crate) fn whole(line: &[u8], text: &[u8])
     let feed = take_lines(&mut short, text, 1);
     if feed.refusal.is_ok() {
         let last = take_last(&mut short, &text[feed.at..], feed.line);
-        show(line, last.line, last.refusal, &short, last.at);
+        show(line, last.line, last.refusal, short.last, last.at);
     }
 }
 
@@ -45,9 +41,19 @@ pub(crate) fn piece(line: &[u8], text: &mut [u8], len: usize)
 {
     let mut short = Short { last: 99 };
     let piece = take_piece(&mut short, text, len, 1);
-    show(line, piece.line, piece.refusal, &short, piece.left);
+    show(line, piece.line, piece.refusal, short.last, piece.left);
     if piece.refusal.is_ok() {
         say(&text[..piece.left.min(text.len())]);
         say(b"\n");
     }
+}
+
+// The lines that a table takes, and the longest that it does.
+pub(crate) fn table(line: &[u8], text: &[u8])
+    requires { length text.now ≤ 64 }
+{
+    let mut lengths = Lengths { last: 99 };
+    let feed = lines_of(&mut lengths, text, 1);
+    let longest = longest_of(&lengths);
+    show(line, feed.line, feed.refusal, lengths.last, longest);
 }
