@@ -1,21 +1,19 @@
 // Lines that a caller's own types take, as the script in the file stdin has them; its lines end in CRLF, and it is read
 // as such lines itself. Each line of output has the case's name, the answers and what they should be; behind a piece
-// stand the bytes that wait. A line of the script has its kind, the text, and last what is shown of the answers.
+// stand the bytes that are left of it. A line of the script has its kind, the text, and last what is shown of the
+// answers. Then come a file of which a line is refused, and one that isn't there.
 #![tactic(auto)]
 
+use crate::files::{end, file};
 use crate::script::Script;
-use cases::show::say;
 use channel::file::Source;
-use stream::State;
 use stream::inner::reading::read_whole;
 
+mod files;
 mod script;
 mod short;
 mod table;
 mod taken;
-
-// The descriptor of standard output.
-const STDOUT_FILENO: i32 = 1;
 
 // Room for a line of the script, its CRLF and a byte more, so that it comes in many pieces.
 const ROOM: usize = 123;
@@ -33,9 +31,7 @@ fn main(rt: HostRuntime) {
         &mut script,
         &mut bytes,
     );
-    if turn.state == State::Ended {
-        say(b"the script is read, and its next line would be number ");
-        io::print_decimal(STDOUT_FILENO, turn.line);
-        say(b"\n");
-    }
+    end(b"the script", turn, b"1 20 0\n");
+    file(&rt, "refused.csv", b"2 2 16\n");
+    file(&rt, "absent.csv", b"3 1 16\n");
 }
